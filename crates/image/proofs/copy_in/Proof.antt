@@ -1,49 +1,45 @@
+-- What is left of the source, stored from here on, gives the whole.
+use borrow.Author.Needs.{needs}
+use Prim.Native.Nat.{_+_, _-_, _≤_}
+use mathlib.Core.Path.{_≡_}
+use lib.ListN.{length, drop, length-set}
+use Rattle.image.specs.Store.{stored}
+use Rattle.image.specs.Laws.Store.{stored-all, stored-turn, stored-done}
 use Rattle.image.proofs.copy_in.Statement.{statement}
 use Rattle.image.proofs.copy_in.Tie as tie
-use Rattle.image.proofs.copy_in.Reads as reads
-use Rattle.image.proofs.copy_in.Lts as lts
 
 abbrev Inv-loop : tie.InvT-loop
-Inv-loop s₀ at src i₀ s i = ?
+Inv-loop s₀ at src i₀ s i = (i ≤ length src) × (length s ≡ length s₀) × (stored s (at + i) (drop i src) ≡ stored s₀ at src)
 
 abbrev μ-loop : tie.MeasureT-loop
-μ-loop s₀ at src i₀ s i = ?
+μ-loop s₀ at src i₀ s i = length src - i
 
--- src/lib.rt:62:5
 loop-holds : tie.Need-loop-holds Inv-loop μ-loop
-loop-holds c = ?
+loop-holds c = search (needs, stored-all)
 
--- src/lib.rt:63:21
 shared-slice-read-s : tie.Need-shared-slice-read-s Inv-loop μ-loop
-shared-slice-read-s c = ?
+shared-slice-read-s c = search needs
 
--- src/lib.rt:63:11
 add-s : tie.Need-add-s Inv-loop μ-loop
-add-s c = ?
+add-s c = search needs
 
--- src/lib.rt:63:9
 slice-write-s : tie.Need-slice-write-s Inv-loop μ-loop
-slice-write-s c = ?
+slice-write-s c = search needs
 
--- src/lib.rt:64:9
 add-i : tie.Need-add-i Inv-loop μ-loop
-add-i c = ?
+add-i c = search needs
 
--- src/lib.rt:62:5
 loop-less : tie.Need-loop-less Inv-loop μ-loop
-loop-less c = ?
+loop-less c = search needs
 
--- src/lib.rt:62:5
 loop-again : tie.Need-loop-again Inv-loop μ-loop
-loop-again c = ?
+loop-again c = search (needs, stored-turn, length-set)
 
--- src/lib.rt:57:1
 same-length : tie.Need-same-length Inv-loop μ-loop
-same-length c = ?
+same-length c = search needs
 
--- src/lib.rt:57:1
 returns : tie.Need-returns Inv-loop μ-loop
-returns c = ?
+returns c = search stored-done
 
 pub copy-in-spec : {M : Type 1} → statement M
 copy-in-spec =

@@ -1,45 +1,42 @@
+-- What is left of the run, stored from here on, gives the whole.
+use borrow.Author.Needs.{needs}
+use Prim.Native.Nat.{_+_, _-_, _≤_}
+use mathlib.Core.Path.{_≡_}
+use lib.ListN.{length, replicate, length-set}
+use Rattle.image.specs.Store.{stored}
+use Rattle.image.specs.Laws.Store.{filled-all, filled-turn, filled-done}
 use Rattle.image.proofs.fill.Statement.{statement}
 use Rattle.image.proofs.fill.Tie as tie
-use Rattle.image.proofs.fill.Reads as reads
-use Rattle.image.proofs.fill.Lts as lts
 
 abbrev Inv-loop : tie.InvT-loop
-Inv-loop s₀ at n v i₀ s i = ?
+Inv-loop s₀ at n v i₀ s i = (i ≤ n) × (length s ≡ length s₀) × (stored s (at + i) (replicate (n - i) v) ≡ stored s₀ at (replicate n v))
 
 abbrev μ-loop : tie.MeasureT-loop
-μ-loop s₀ at n v i₀ s i = ?
+μ-loop s₀ at n v i₀ s i = n - i
 
--- src/lib.rt:74:5
 loop-holds : tie.Need-loop-holds Inv-loop μ-loop
-loop-holds c = ?
+loop-holds c = search (needs, filled-all)
 
--- src/lib.rt:75:11
 add-s : tie.Need-add-s Inv-loop μ-loop
-add-s c = ?
+add-s c = search needs
 
--- src/lib.rt:75:9
 slice-write-s : tie.Need-slice-write-s Inv-loop μ-loop
-slice-write-s c = ?
+slice-write-s c = search needs
 
--- src/lib.rt:76:9
 add-i : tie.Need-add-i Inv-loop μ-loop
-add-i c = ?
+add-i c = search needs
 
--- src/lib.rt:74:5
 loop-less : tie.Need-loop-less Inv-loop μ-loop
-loop-less c = ?
+loop-less c = search needs
 
--- src/lib.rt:74:5
 loop-again : tie.Need-loop-again Inv-loop μ-loop
-loop-again c = ?
+loop-again c = search (needs, filled-turn, length-set)
 
--- src/lib.rt:69:1
 same-length : tie.Need-same-length Inv-loop μ-loop
-same-length c = ?
+same-length c = search needs
 
--- src/lib.rt:69:1
 returns : tie.Need-returns Inv-loop μ-loop
-returns c = ?
+returns c = search filled-done
 
 pub fill-spec : {M : Type 1} → statement M
 fill-spec =

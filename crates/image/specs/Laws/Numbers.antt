@@ -41,14 +41,14 @@ number-same l m a b (suc w) h =
 pub number-small : (l : List ℕ) (at w : ℕ) → Bytes l → number l at w < 256 ^ w
 unfolding number
 number-small l at zero b = omega arith
-number-small l at (suc w) b = let e : 256 ^ suc w ≡ 256 ^ w * 256 = pow-suc in omega (arith, b at, number-small l (at + 1) w b)
+number-small l at (suc w) b = let e : 256 ^ suc w ≡ 256 ^ w * 256 = pow-suc 256 w in omega (arith, b at, number-small l (at + 1) w b)
 
 -- what was stored is read back
 pub number-stored : (l : List ℕ) (at n w : ℕ) → n < 256 ^ w → at + w ≤ length l → number (stored l at (digits n w)) at w ≡ n
 unfolding number digits stored
 number-stored l at n zero h f = omega arith
 number-stored l at n (suc w) h f =
-    let e : 256 ^ suc w ≡ 256 ^ w * 256 = pow-suc in
+    let e : 256 ^ suc w ≡ 256 ^ w * 256 = pow-suc 256 w in
     let m = set l at (n % 256) in
     let first : getD (stored m (at + 1) (digits (n / 256) w)) at 0 ≡ n % 256 = stored-outside m (at + 1) (digits (n / 256) w) at (inl (omega arith)) ∙ getD-set-same l at (n % 256) 0 (omega arith) in
     let rest : number (stored m (at + 1) (digits (n / 256) w)) (at + 1) w ≡ n / 256 = number-stored m (at + 1) (n / 256) w (omega arith) (rw (length-set l at (n % 256)) (omega arith)) in
@@ -58,3 +58,24 @@ number-stored l at n (suc w) h f =
 pub number-apart : (l : List ℕ) (at : ℕ) (s : List ℕ) (b w : ℕ) → Apart at (length s) b w → number (stored l at s) b w ≡ number l b w
 number-apart l at s b w p =
     number-same (stored l at s) l b b w (λ i k. stored-outside l at s (b + i) (elim p [ inl q ↦ inr (omega arith) | inr q ↦ inl (omega arith) ]))
+
+-- ---- in the form of the code's needs
+
+pub put-word : (l : List ℕ) (at n : ℕ) → n < 65536 → set (set l at (n % 256)) (at + 1) (n / 256) ≡ stored l at (digits n 2)
+unfolding digits stored
+put-word l at n h = let e : n / 256 % 256 ≡ n / 256 = omega arith in rw e
+
+pub get-long : (l : List ℕ) (at r a b : ℕ) → a ≡ number l at 2 → b ≡ number l (at + 2) 2 → r ≡ a + 65536 * b → r ≡ number l at 4
+unfolding number
+get-long l at r a b p q e = let d : at + 1 + 1 ≡ at + 2 = omega arith in rw d (omega arith)
+
+pub put-long : (l m k : List ℕ) (at n : ℕ) → n < 4294967296 → m ≡ stored l at (digits (n % 65536) 2) → k ≡ stored m (at + 2) (digits (n / 65536) 2) → k ≡ stored l at (digits n 4)
+unfolding digits stored
+put-long l m k at n h p q =
+    let a : n % 65536 % 256 ≡ n % 256 = omega arith in
+    let f : n / 256 ≡ 256 * (n / 65536) + n % 65536 / 256 = omega arith in
+    let g : n / 256 / 256 ≡ n / 65536 = omega arith in
+    let z : n % 65536 / 256 / 256 ≡ 0 = omega arith in
+    let b : n % 65536 / 256 % 256 ≡ n / 256 % 256 = omega arith in
+    let e : at + 1 + 1 ≡ at + 2 = omega arith in
+    q ∙ rw (p, a, b, ← g, e)

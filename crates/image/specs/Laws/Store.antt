@@ -152,3 +152,20 @@ stored-turn l m at s i h inv =
 pub stored-done : (l m : List ℕ) (at : ℕ) (s : List ℕ) (i : ℕ) → length s ≤ i → stored l (at + i) (drop i s) ≡ m → l ≡ m
 unfolding stored
 stored-done l m at s i h inv = rw (lib.ListN.drop-of-length-le s h) at inv
+
+pub filled-all : (l : List ℕ) (at n v : ℕ) → stored l (at + 0) (replicate (n - 0) v) ≡ stored l at (replicate n v)
+filled-all l at n v =
+    let e : at + 0 ≡ at = omega arith in
+    let d : n - 0 ≡ n = omega arith in
+    rw (e, d)
+
+pub filled-turn : (l m : List ℕ) (at n v i : ℕ) → i < n → stored l (at + i) (replicate (n - i) v) ≡ m → stored (set l (at + i) v) (at + (i + 1)) (replicate (n - (i + 1)) v) ≡ m
+unfolding stored
+filled-turn l m at n v i h inv =
+    let e : at + (i + 1) ≡ at + i + 1 = omega arith in
+    let d : n - i ≡ suc (n - (i + 1)) = omega arith in
+    rw e (rw d at inv)
+
+pub filled-done : (l m : List ℕ) (at n v i : ℕ) → n ≤ i → stored l (at + i) (replicate (n - i) v) ≡ m → l ≡ m
+unfolding stored
+filled-done l m at n v i h inv = let d : n - i ≡ 0 = omega arith in rw d at inv

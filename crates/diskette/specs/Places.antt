@@ -1,0 +1,45 @@
+-- Where the parts of a volume stand: one boot sector, FAT copy 1, copy 2, root, data. A sector is 512 bytes.
+use Prim.Native.Nat.{ℕ, _+_, _-_, _*_, _/_}
+use Rattle.diskette.specs.declared.Kind.{Kind}
+
+-- the first data sector
+abbrev pub firstData : Kind → ℕ
+firstData k = 1 + 2 * k .fat + k .root
+
+-- the bytes of a cluster
+abbrev pub clusterBytes : Kind → ℕ
+clusterBytes k = 512 * k .per
+
+-- how many clusters the data sectors make
+unfoldable pub clusters : Kind → ℕ
+clusters k = (k .sectors - firstData k) / k .per
+
+-- clusters are numbered from 2
+abbrev pub lastCluster : Kind → ℕ
+lastCluster k = clusters k + 1
+
+-- a root sector has 16 entries
+abbrev pub rootEntries : Kind → ℕ
+rootEntries k = 16 * k .root
+
+-- the bytes at which the copies of the table start
+abbrev pub copyOne : ℕ
+copyOne = 512
+
+abbrev pub copyTwo : Kind → ℕ
+copyTwo k = 512 * (1 + k .fat)
+
+-- the byte at which the 32 bytes of a root slot start
+abbrev pub slotAt : Kind → ℕ → ℕ
+slotAt k s = 512 * (1 + 2 * k .fat) + 32 * s
+
+-- Cluster n starts at sector (n - 2) times sectors per cluster plus first data sector.
+abbrev pub sectorOf : Kind → ℕ → ℕ
+sectorOf k n = (n - 2) * k .per + firstData k
+
+abbrev pub clusterAt : Kind → ℕ → ℕ
+clusterAt k n = 512 * sectorOf k n
+
+-- the size divided by the cluster's bytes, rounded up
+unfoldable pub neededFor : ℕ → ℕ → ℕ
+neededFor bytes size = (size + (bytes - 1)) / bytes
