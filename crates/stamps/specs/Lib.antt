@@ -1,0 +1,3 @@
+-- Stamps: the ranges, the words, and back.
+pub mod Stamps
+pub mod Laws
