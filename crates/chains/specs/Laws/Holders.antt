@@ -1,0 +1,48 @@
+-- Who owns a chain owns one list only; what the lists of a sound family are together.
+use Prim.Native.Nat.{ℕ, _≤_}
+use native.Mathlib.Omega.{arith}
+use mathlib.Core.Path.{_≡_, refl, sym, subst}
+use mathlib.Core.List.{List, [], _∷_}
+use borrow.Author.Tests.{eq-eqb}
+use Rattle.chains.specs.Lists.{_∈_, joined, occ}
+use Rattle.chains.specs.Sizes.{Geometry}
+use Rattle.chains.specs.Values.{Link, Used}
+use Rattle.chains.specs.Holders.{Holder, Owns, Sound, nobody}
+use Rattle.chains.specs.Laws.Lists.{dec-mem, hit-same, mem-joined, mem-occ, occ-append, occ-not}
+use Rattle.chains.specs.Laws.Chain.{chain-mem, chain-once, chain-same}
+
+pub owns-same : (G : Geometry) (f : ℕ → ℕ) (h : Holder) (cs ds : List ℕ) → Owns (G .last) f h cs → Owns (G .last) f h ds → cs ≡ ds
+owns-same G f h cs ds o p = chain-same G f (h .start) cs ds (o .chain) (p .chain)
+
+pub nobody-owns : (G : Geometry) (f : ℕ → ℕ) → Owns (G .last) f nobody []
+nobody-owns G f = record { chain = refl; long = eq-eqb 0 0 refl }
+
+pub owns-nobody : (G : Geometry) (f : ℕ → ℕ) (h : Holder) (cs : List ℕ) → h ≡ nobody → Owns (G .last) f h cs → cs ≡ []
+owns-nobody G f h cs e o = owns-same G f nobody cs [] (subst (λ (x : Holder). Owns (G .last) f x cs) e o) (nobody-owns G f)
+
+pub sound-same : (G : Geometry) (f : ℕ → ℕ) (h : ℕ → Holder) (χ ψ : ℕ → List ℕ) → Sound (G .last) f h χ → Sound (G .last) f h ψ → (i : ℕ) → χ i ≡ ψ i
+sound-same G f h χ ψ v w i = owns-same G f (h i) (χ i) (ψ i) (v .owns i) (w .owns i)
+
+module _ (G : Geometry) (f : ℕ → ℕ) (h : ℕ → Holder) (χ : ℕ → List ℕ) (v : Sound (G .last) f h χ) where
+  pub once : (i c : ℕ) → occ c (χ i) ≤ 1
+  once i c = chain-once G f (h i .start) (χ i) (v .owns i .chain) c
+
+  pub in-range : (i c : ℕ) → c ∈ χ i → Link (G .last) c
+  in-range i c m = chain-mem G f (h i .start) (χ i) (v .owns i .chain) c m .0
+
+  pub in-use : (i c : ℕ) → c ∈ χ i → Used (G .last) (f c)
+  in-use i c m = chain-mem G f (h i .start) (χ i) (v .owns i .chain) c m .1
+
+  -- lists of different holders together have no repetition
+  pub joined-once : (is : List ℕ) → ((i : ℕ) → occ i is ≤ 1) → (c : ℕ) → occ c (joined χ is) ≤ 1
+  unfolding joined occ
+  joined-once [] e c = omega arith
+  joined-once (i ∷ is) e c = elim (dec-mem c (χ i)) [
+    | no n ↦ omega (arith, occ-append c (χ i) (joined χ is), occ-not c (χ i) n, joined-once is (λ j. omega (arith, e j)) c)
+    | yes m ↦
+        let z : occ c (joined χ is) ≡ 0 = occ-not c (joined χ is) (λ k.
+        let r = mem-joined χ is c k in
+        let q : i ≡ r .0 = v .apart i (r .0) c m (r .2) in
+        omega (arith, e i, hit-same i i refl, mem-occ i is (subst (λ (x : ℕ). x ∈ is) (sym q) (r .1)))) in
+        omega (arith, occ-append c (χ i) (joined χ is), once i c)
+  ]
