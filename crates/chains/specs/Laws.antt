@@ -16,3 +16,10 @@ pub mod Replace
 pub mod ReplaceCounts
 pub mod Free
 pub mod Growth
+pub mod Changes
+pub mod Steps
+pub mod Splice
+pub mod Content
+pub mod Poured
+pub mod Touched
+pub mod Write

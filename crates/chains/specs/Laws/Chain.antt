@@ -80,10 +80,10 @@ module _ (G : Geometry) (f : ℕ → ℕ) where
 
 -- ---- a table that agrees on the clusters of the chain has it too
 
-after-frame : (G : Geometry) (f g : ℕ → ℕ) (c : ℕ) (cs : List ℕ) → g c ≡ f c → ((a : ℕ) → a ∈ cs → g a ≡ f a) → After (G .last) f c cs → After (G .last) g c cs
-after-frame G f g c [] e h p = rw e p
-after-frame G f g c (x ∷ xs) e h p = (e ∙ p .0, p .1, after-frame G f g x xs (h x (inl refl)) (λ a m. h a (inr m)) (p .2))
+pub after-frame : (G : Geometry) (f g : ℕ → ℕ) (c : ℕ) (cs : List ℕ) → ((a : ℕ) → a ∈ (c ∷ cs) → g a ≡ f a) → After (G .last) f c cs → After (G .last) g c cs
+after-frame G f g c [] h p = rw (h c (inl refl)) p
+after-frame G f g c (x ∷ xs) h p = (h c (inl refl) ∙ p .0, p .1, after-frame G f g x xs (λ a m. h a (inr m)) (p .2))
 
 pub chain-frame : (G : Geometry) (f g : ℕ → ℕ) (c : ℕ) (cs : List ℕ) → ((a : ℕ) → a ∈ cs → g a ≡ f a) → Chain (G .last) f c cs → Chain (G .last) g c cs
 chain-frame G f g c [] h p = p
-chain-frame G f g c (x ∷ xs) h p = (p .0, p .1, after-frame G f g x xs (h x (inl refl)) (λ a m. h a (inr m)) (p .2))
+chain-frame G f g c (x ∷ xs) h p = (p .0, p .1, after-frame G f g x xs h (p .2))

@@ -1,14 +1,18 @@
 -- Who owns a chain owns one list only; what the lists of a sound family are together.
-use Prim.Native.Nat.{ℕ, _≤_}
+use Prim.Native.Nat.{ℕ, _*_, _≤_}
 use native.Mathlib.Omega.{arith}
+use native.Mathlib.Nat.{mul-le-mul-right}
 use mathlib.Core.Path.{_≡_, refl, sym, subst}
+use mathlib.Core.Bool.{true}
 use mathlib.Core.List.{List, [], _∷_}
+use lib.ListN.{length}
 use borrow.Author.Tests.{eq-eqb}
 use Rattle.chains.specs.Lists.{_∈_, joined, occ}
-use Rattle.chains.specs.Sizes.{Geometry}
+use Rattle.chains.specs.Sizes.{Geometry, clustersFor, fits}
 use Rattle.chains.specs.Values.{Link, Used}
-use Rattle.chains.specs.Holders.{Holder, Owns, Sound, nobody}
+use Rattle.chains.specs.Holders.{Holder, Owns, Sound, fileHolder, nobody}
 use Rattle.chains.specs.Laws.Lists.{dec-mem, hit-same, mem-joined, mem-occ, occ-append, occ-not}
+use Rattle.chains.specs.Laws.Sizes.{clusters-hold, fits-least}
 use Rattle.chains.specs.Laws.Chain.{chain-mem, chain-once, chain-same}
 
 pub owns-same : (G : Geometry) (f : ℕ → ℕ) (h : Holder) (cs ds : List ℕ) → Owns (G .last) f h cs → Owns (G .last) f h ds → cs ≡ ds
@@ -22,6 +26,19 @@ owns-nobody G f h cs e o = owns-same G f nobody cs [] (subst (λ (x : Holder). O
 
 pub sound-same : (G : Geometry) (f : ℕ → ℕ) (h : ℕ → Holder) (χ ψ : ℕ → List ℕ) → Sound (G .last) f h χ → Sound (G .last) f h ψ → (i : ℕ) → χ i ≡ ψ i
 sound-same G f h χ ψ v w i = owns-same G f (h i) (χ i) (ψ i) (v .owns i) (w .owns i)
+
+-- ---- a file
+
+pub file-allows : (last cb : ℕ) (f : ℕ → ℕ) (h : Holder) (cs : List ℕ) (st sz : ℕ) → h ≡ fileHolder cb st sz → Owns last f h cs → fits cb sz (length cs) ≡ true
+file-allows last cb f h cs st sz is o = subst (λ (x : Holder). x .allows (length cs) ≡ true) is (o .long)
+
+-- its clusters have room for its bytes
+pub file-fits : (G : Geometry) (f : ℕ → ℕ) (h : Holder) (cs : List ℕ) (st sz : ℕ) → h ≡ fileHolder (G .cb) st sz → Owns (G .last) f h cs → sz ≤ length cs * G .cb
+file-fits G f h cs st sz is o =
+    let a : clustersFor (G .cb) sz * G .cb ≤ length cs * G .cb = mul-le-mul-right (G .cb) (fits-least (G .cb) (G .wide) sz (length cs) (file-allows (G .last) (G .cb) f h cs st sz is o)) in
+    omega (arith, clusters-hold (G .cb) (G .wide) sz)
+
+-- ---- the lists of a sound family
 
 module _ (G : Geometry) (f : ℕ → ℕ) (h : ℕ → Holder) (χ : ℕ → List ℕ) (v : Sound (G .last) f h χ) where
   pub once : (i c : ℕ) → occ c (χ i) ≤ 1
