@@ -42,9 +42,17 @@ inTwo m c = eqb (getD m c 0) 2
 unfoldable pub lost : ℕ → (ℕ → ℕ) → List ℕ → ℕ → Bool
 lost last f m c = (linkb last (f c) || endb (f c)) && eqb (getD m c 0) 0
 
+-- the answer from finding 7 on
+unfoldable pub checkLost : {P A : Type 0} → ℕ → (ℕ → ℕ) → List ℕ → Voice P A → A
+checkLost last f m W = orElse (W .lost) (first (lost last f m) (last - 1) 2) (W .fine)
+
+-- the answer from finding 6 on
+unfoldable pub checkTwo : {P A : Type 0} → ℕ → (ℕ → ℕ) → List ℕ → Voice P A → A
+checkTwo last f m W = orElse (W .inTwo) (first (inTwo m) (last - 1) 2) (checkLost last f m W)
+
 -- the answer from finding 5 on, o being what the search for it found
 unfoldable pub checkChains : {P A : Type 0} → ℕ → (ℕ → ℕ) → List ℕ → Voice P A → Option P → A
-checkChains last f m W o = orElse (W .badChain) o (orElse (W .inTwo) (first (inTwo m) (last - 1) 2) (orElse (W .lost) (first (lost last f m) (last - 1) 2) (W .fine)))
+checkChains last f m W o = orElse (W .badChain) o (checkTwo last f m W)
 
 -- ---- entries in slots: way takes a slot to the number of its holder
 

@@ -42,7 +42,14 @@ pub record Voice (P A : Type 0) : Type 0 where
   pub lost : ℕ → A
   pub fine : A
 
+-- the answer from finding 7 on
+abbrev pub FromLost : {P A : Type 0} → ℕ → (ℕ → ℕ) → (ℕ → Holder) → List (P × ℕ) → Voice P A → A → Type 0
+FromLost last f h es W = OrElse ltb (Lost last f h (holdersOf es)) (W .lost) (λ a. a ≡ W .fine)
+
+-- the answer from finding 6 on
+abbrev pub FromTwo : {P A : Type 0} → ℕ → (ℕ → ℕ) → (ℕ → Holder) → List (P × ℕ) → Voice P A → A → Type 0
+FromTwo last f h es W = OrElse ltb (InTwo last f h (holdersOf es)) (W .inTwo) (FromLost last f h es W)
+
 -- the answer from finding 5 on. (Findings that come before are put in front by the same OrElse.)
 abbrev pub FromChains : {P A : Type 0} → (P → P → Bool) → ℕ → (ℕ → ℕ) → (ℕ → Holder) → List (P × ℕ) → Voice P A → A → Type 0
-FromChains before last f h es W =
-    OrElse before (BadChain last f h es) (W .badChain) (OrElse ltb (InTwo last f h (holdersOf es)) (W .inTwo) (OrElse ltb (Lost last f h (holdersOf es)) (W .lost) (λ a. a ≡ W .fine)))
+FromChains before last f h es W = OrElse before (BadChain last f h es) (W .badChain) (FromTwo last f h es W)

@@ -23,3 +23,8 @@ pub mod Content
 pub mod Poured
 pub mod Touched
 pub mod Write
+pub mod Verdict
+pub mod Marks
+pub mod Check
+pub mod Findings
+pub mod Rows

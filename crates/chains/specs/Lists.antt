@@ -1,7 +1,7 @@
 -- Lists: membership, how often a number stands in one, several lists as one.
 use Prim.Native.Nat.{ℕ, _+_, _≤_}
 use mathlib.Core.Path.{_≡_}
-use mathlib.Core.Logic.{_⊎_}
+use mathlib.Core.Logic.{_≢_, _⊎_}
 use mathlib.Core.List.{List, [], _∷_, _++_}
 use lib.Dec.{eqb}
 use Rattle.chains.specs.Tests.{bit}
@@ -28,6 +28,10 @@ Once cs = (a : ℕ) → occ a cs ≤ 1
 unfoldable pub joined : {A B : Type 0} → (A → List B) → List A → List B
 joined χ [] = []
 joined χ (i ∷ is) = χ i ++ joined χ is
+
+-- c stands in the lists of two different ones of is
+abbrev pub InTwoOf : (ℕ → List ℕ) → List ℕ → ℕ → Type 0
+InTwoOf χ is c = (i j : ℕ) × (i ≢ j) × (i ∈ is) × (j ∈ is) × (c ∈ χ i) × (c ∈ χ j)
 
 -- the first, 0 where there is none: where a chain of these clusters starts
 abbrev pub startOf : List ℕ → ℕ
