@@ -9,8 +9,8 @@ use Rattle.chains.specs.Lists.{joined}
 use Rattle.chains.specs.Values.{asideb, endb, freeb, linkb}
 use Rattle.chains.specs.Walk.{walk}
 use Rattle.chains.specs.Holders.{Holder}
-use Rattle.chains.specs.Verdict.{first, orElse}
 use Rattle.chains.specs.Marks.{marksOf}
+use Rattle.chains.specs.Verdict.{first, orElse}
 use Rattle.chains.specs.Findings.{Voice}
 
 -- the clusters of the holder, if its chain has an end

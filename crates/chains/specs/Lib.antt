@@ -12,11 +12,12 @@ pub mod Holders
 pub mod Replace
 pub mod Free
 pub mod Growth
+pub mod Marks
 pub mod Steps
 pub mod Content
 pub mod Write
+pub mod History
 pub mod Verdict
-pub mod Marks
 pub mod Findings
 pub mod Check
 pub mod Laws

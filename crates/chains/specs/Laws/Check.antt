@@ -14,8 +14,8 @@ use Rattle.chains.specs.Sizes.{Geometry}
 use Rattle.chains.specs.Values.{Link}
 use Rattle.chains.specs.Walk.{walk}
 use Rattle.chains.specs.Holders.{Holder, Owns}
-use Rattle.chains.specs.Verdict.{Found, first}
 use Rattle.chains.specs.Marks.{marksOf}
+use Rattle.chains.specs.Verdict.{Found, first}
 use Rattle.chains.specs.Findings.{BadValue, InChain, InTwo, Lost, holdersOf}
 use Rattle.chains.specs.Check.{badValue, chainMarks, chainOf, inTwo, lost, ownsb}
 use Rattle.chains.specs.Laws.Tests.{clash, says-and, says-eq, says-map, says-not, says-or}
@@ -23,8 +23,8 @@ use Rattle.chains.specs.Laws.Lists.{joined-mem, mem-joined}
 use Rattle.chains.specs.Laws.Values.{says-end, says-link, says-valid}
 use Rattle.chains.specs.Laws.Chain.{chain-mem, chain-once}
 use Rattle.chains.specs.Laws.Walk.{chain-walk, walk-chain}
-use Rattle.chains.specs.Laws.Verdict.{first-found}
 use Rattle.chains.specs.Laws.Marks.{two-in-two, zero-none}
+use Rattle.chains.specs.Laws.Verdict.{first-found}
 
 -- ---- one holder: its clusters, if it has a good chain
 

@@ -10,8 +10,8 @@ use lib.Seq.{getD-set-same, getD-set-other, ext-getD}
 use Rattle.chains.specs.Lists.{Once}
 use Rattle.chains.specs.Content.{Room, byteAt, content}
 use Rattle.chains.specs.Write.{poured, splice}
-use Rattle.chains.specs.Laws.Splice.{splice-after, splice-before, splice-in, splice-length}
 use Rattle.chains.specs.Laws.Content.{byte-inside, byte-once, content-at, content-length}
+use Rattle.chains.specs.Laws.Splice.{splice-after, splice-before, splice-in, splice-length}
 
 pub poured-length : (base cb : ℕ) (img cs : List ℕ) (pos : ℕ) (bs : List ℕ) (n : ℕ) → length (poured base cb img cs pos bs n) ≡ length img
 unfolding poured

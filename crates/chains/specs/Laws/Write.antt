@@ -1,29 +1,31 @@
 -- A write: the table, the holders and the bytes of every file after it.
 use Prim.Native.Nat.{ℕ, _+_, _-_, _*_, _≤_, _<_, max}
 use native.Mathlib.Omega.{arith}
+use native.Mathlib.Nat.{mul-le-mul-right}
 use mathlib.Core.Path.{_≡_, refl, sym, ap, ap₂, _∙_}
 use mathlib.Core.Logic.{_≢_}
-use mathlib.Core.List.{List, [], _∷_, _++_, append-assoc}
+use mathlib.Core.List.{List, [], _∷_, _++_, append-nil, append-assoc}
 use lib.ListN.{length, take, replicate, length-replicate}
 use lib.Seq.{take-append-le}
 use Rattle.chains.specs.Put.{put}
 use Rattle.chains.specs.Lists.{Once, _∈_, startOf}
-use Rattle.chains.specs.Sizes.{Geometry}
+use Rattle.chains.specs.Sizes.{Geometry, clustersFor}
 use Rattle.chains.specs.Values.{Link}
-use Rattle.chains.specs.Holders.{Holder, Sound, fileHolder}
+use Rattle.chains.specs.Holders.{Holder, Owns, Sound, fileHolder}
 use Rattle.chains.specs.Replace.{Replaced}
 use Rattle.chains.specs.Free.{freeClusters}
-use Rattle.chains.specs.Growth.{lacking, longerChain, longerTable}
+use Rattle.chains.specs.Growth.{extended, lacking, longerChain, longerTable}
 use Rattle.chains.specs.Content.{Room, Touches, chainBytes, clusterAt, clusterBytes, content}
-use Rattle.chains.specs.Write.{filledImage, splice, written, writtenImage}
+use Rattle.chains.specs.Write.{accepted, filledImage, roomFor, splice, written, writtenImage}
+use Rattle.chains.specs.Laws.Sizes.{clusters-least}
 use Rattle.chains.specs.Laws.Chain.{chain-mem, chain-once}
 use Rattle.chains.specs.Laws.Holders.{file-fits, in-range}
 use Rattle.chains.specs.Laws.Replace.{replace}
 use Rattle.chains.specs.Laws.Changes.{file-grows, longer-fits}
-use Rattle.chains.specs.Laws.Splice.{splice-end}
 use Rattle.chains.specs.Laws.Content.{chain-bytes-length, content-length}
-use Rattle.chains.specs.Laws.Poured.{content-poured, poured-length}
 use Rattle.chains.specs.Laws.Touched.{others-keep, poured-touches, touched-twice}
+use Rattle.chains.specs.Laws.Splice.{splice-end}
+use Rattle.chains.specs.Laws.Poured.{content-poured, poured-length}
 
 chain-bytes-append : (base cb : ℕ) (img cs ds : List ℕ) → chainBytes base cb img (cs ++ ds) ≡ chainBytes base cb img cs ++ chainBytes base cb img ds
 unfolding chainBytes
@@ -38,7 +40,7 @@ content-more base cb p img cs ds n r l =
 
 module _ (G : Geometry) (base : ℕ) (f : ℕ → ℕ) (h : ℕ → Holder) (χ : ℕ → List ℕ) (v : Sound (G .last) f h χ)
     (img : List ℕ) (whole : (c : ℕ) → Link (G .last) c → clusterAt base (G .cb) c + G .cb ≤ length img) (i st sz : ℕ) (is : h i ≡ fileHolder (G .cb) st sz) (pos : ℕ) (bs : List ℕ)
-    (room : max sz (pos + length bs) ≤ (length (χ i) + length (freeClusters (G .last) f)) * G .cb) where
+    (fit : max sz (pos + length bs) ≤ roomFor (G .last) (G .cb) f (χ i)) where
   abbrev size′ : ℕ
   size′ = max sz (pos + length bs)
 
@@ -48,20 +50,24 @@ module _ (G : Geometry) (base : ℕ) (f : ℕ → ℕ) (h : ℕ → Holder) (χ 
   abbrev image′ : List ℕ
   image′ = writtenImage base (G .cb) img chain′ sz pos bs
 
-  step : Replaced (G .last) f (longerTable (G .last) (G .cb) f (χ i) size′) (fileHolder (G .cb) (startOf chain′) size′) (χ i) chain′
-  step = file-grows G f h χ v i st sz is size′ (omega arith) room
+  room : size′ ≤ (length (χ i) + length (freeClusters (G .last) f)) * G .cb
+  unfolding roomFor
+  room = fit
+
+  pub write-replaces : Replaced (G .last) f (longerTable (G .last) (G .cb) f (χ i) size′) (fileHolder (G .cb) (startOf chain′) size′) (χ i) chain′
+  write-replaces = file-grows G f h χ v i st sz is size′ (omega arith) room
 
   pub write-sound : Sound (G .last) (longerTable (G .last) (G .cb) f (χ i) size′) (put h i (fileHolder (G .cb) (startOf chain′) size′)) (put χ i chain′)
-  write-sound = replace G f (longerTable (G .last) (G .cb) f (χ i) size′) h χ v i (fileHolder (G .cb) (startOf chain′) size′) chain′ step
+  write-sound = replace G f (longerTable (G .last) (G .cb) f (χ i) size′) h χ v i (fileHolder (G .cb) (startOf chain′) size′) chain′ write-replaces
 
   in-new : (c : ℕ) → c ∈ chain′ → Link (G .last) c
-  in-new c m = chain-mem G _ _ chain′ (step .owns .chain) c m .0
+  in-new c m = chain-mem G _ _ chain′ (write-replaces .owns .chain) c m .0
 
   room-of : Room base (G .cb) img chain′
   room-of c m = (in-new c m .0, whole c (in-new c m))
 
   once′ : Once chain′
-  once′ = chain-once G _ _ chain′ (step .owns .chain)
+  once′ = chain-once G _ _ chain′ (write-replaces .owns .chain)
 
   fits′ : size′ ≤ length chain′ * G .cb
   fits′ = longer-fits G f h χ v i st sz is size′ (omega arith) room
@@ -96,12 +102,34 @@ module _ (G : Geometry) (base : ℕ) (f : ℕ → ℕ) (h : ℕ → Holder) (χ 
       content-poured base (G .cb) (G .wide) between chain′ once′ (λ c m. (room-of c m .0, rw filled-length (room-of c m .1))) (sz + gap) pos bs (length bs) size′ refl (omega arith) (omega arith) fits′
       ∙ ap (λ (r : List ℕ). splice r pos bs) (first-step ∙ ap₂ (λ (r : List ℕ) (n : ℕ). r ++ replicate (pos - n) 0) prefix (sym prefix-length ∙ ap length prefix))
 
-  written-touches : Touches (G .last) base (G .cb) img image′ chain′
+  pub write-touches : Touches (G .last) base (G .cb) img image′ chain′
   unfolding writtenImage filledImage
-  written-touches = touched-twice (G .last) base (G .cb) img between image′ chain′
+  write-touches = touched-twice (G .last) base (G .cb) img between image′ chain′
       (poured-touches (G .last) base (G .cb) (G .wide) img chain′ (λ a m. in-new a m .0) sz (replicate gap 0) gap (omega (arith, fits′)))
       (poured-touches (G .last) base (G .cb) (G .wide) between chain′ (λ a m. in-new a m .0) pos bs (length bs) (omega (arith, fits′)))
 
   -- any other holder's bytes, as many as its chain holds
   pub write-others : (t n : ℕ) → t ≢ i → n ≤ length (χ t) * G .cb → content base (G .cb) image′ (χ t) n ≡ content base (G .cb) img (χ t) n
-  write-others t n ne full = others-keep G base f (longerTable (G .last) (G .cb) f (χ i) size′) h χ v i (fileHolder (G .cb) (startOf chain′) size′) chain′ step img image′ whole written-touches t n ne full
+  write-others t n ne full = others-keep G base f (longerTable (G .last) (G .cb) f (χ i) size′) h χ v i (fileHolder (G .cb) (startOf chain′) size′) chain′ write-replaces img image′ whole write-touches t n ne full
+
+-- ---- how much a write takes
+
+-- what is accepted has room, if the file had
+pub accepted-fits : (room sz pos n : ℕ) → sz ≤ room → 0 < accepted room pos n → max sz (pos + accepted room pos n) ≤ room
+unfolding accepted
+accepted-fits room sz pos n h p = omega arith
+
+-- a file has room for its own bytes
+pub room-own : (G : Geometry) (f : ℕ → ℕ) (h : Holder) (cs : List ℕ) (st sz : ℕ) → h ≡ fileHolder (G .cb) st sz → Owns (G .last) f h cs → sz ≤ roomFor (G .last) (G .cb) f cs
+unfolding roomFor
+room-own G f h cs st sz is o = omega (arith, file-fits G f h cs st sz is o, mul-le-mul-right (G .cb) (more (length cs) (length (freeClusters (G .last) f))))
+  where
+    more : (a b : ℕ) → a ≤ a + b
+    more a b = omega arith
+
+-- who lacks no cluster keeps its chain, and the table stays
+pub lacks-none : (last cb : ℕ) (f : ℕ → ℕ) (cs : List ℕ) (n : ℕ) → n ≤ length cs * cb → 0 < cb → (longerChain last cb f cs n ≡ cs) × (longerTable last cb f cs n ≡ f)
+unfolding longerChain longerTable lacking extended
+lacks-none last cb f cs n l p =
+    let z : clustersFor cb n - length cs ≡ 0 = omega (arith, clusters-least cb p n (length cs) l) in
+    (rw z (append-nil cs), rw z refl)
