@@ -25,6 +25,7 @@ pub mod Content
 pub mod Touched
 pub mod Splice
 pub mod Poured
+pub mod Runs
 pub mod Write
 pub mod History
 pub mod Verdict

@@ -96,19 +96,19 @@ turn-laid f c d ds n a = elim (ℕ-discrete a c) [
       ∙ sym (put-other (laid f d ds) c d a k)
 ]
 
-grown-turn : (last : ℕ) (f : ℕ → ℕ) (c n d : ℕ) (ds : List ℕ) → freeClusters last f ≡ d ∷ ds → (a : ℕ) → grown last f c (suc n) a ≡ grown last (put (put f d 0xfff) c d) d n a
+grown-next : (last : ℕ) (f : ℕ → ℕ) (c n d : ℕ) (ds : List ℕ) → freeClusters last f ≡ d ∷ ds → (a : ℕ) → grown last f c (suc n) a ≡ grown last (put (put f d 0xfff) c d) d n a
 unfolding grown
-grown-turn last f c n d ds e a = ap (λ (x : ℕ). grown last (put (put f x 0xfff) c x) x n a) (ap startOf e)
+grown-next last f c n d ds e a = ap (λ (x : ℕ). grown last (put (put f x 0xfff) c x) x n a) (ap startOf e)
 
 grown-laid : (G : Geometry) (n : ℕ) (f : ℕ → ℕ) (c : ℕ) (ds : List ℕ) → f c ≢ 0 → freeClusters (G .last) f ≡ ds → 0 < n → n ≤ length ds → (a : ℕ) → grown (G .last) f c n a ≡ laid f c (take n ds) a
 grown-laid G zero f c ds u e p l a = absurd (omega arith)
 grown-laid G (suc n) f c [] u e p l a = absurd (omega arith)
-grown-laid G (suc zero) f c (d ∷ ds) u e p l a = grown-turn (G .last) f c 0 d ds e a ∙ (unfold grown laid in refl)
+grown-laid G (suc zero) f c (d ∷ ds) u e p l a = grown-next (G .last) f c 0 d ds e a ∙ (unfold grown laid in refl)
 grown-laid G (suc (suc n)) f c (d ∷ ds) u e p l a =
     let all : (x : ℕ) → x ∈ (d ∷ ds) → f x ≡ 0 = λ x m. free-mem G f x (rw e m) .1 in
     let far : c ≢ d = λ q. u (ap f q ∙ all d (inl refl)) in
     let g : put (put f d 0xfff) c d d ≡ 0xfff = put-other (put f d 0xfff) c d d (λ q. far (sym q)) ∙ put-same f d 0xfff d refl in
-    grown-turn (G .last) f c (suc n) d ds e a
+    grown-next (G .last) f c (suc n) d ds e a
     ∙ grown-laid G (suc n) (put (put f d 0xfff) c d) d ds (omega arith) (turn-free G f c d ds u e) (omega arith) (omega arith) a
     ∙ turn-laid f c d (take (suc n) ds) (λ m. u (all c (elim m [ inl q ↦ inl q | inr k ↦ inr (mem-take (suc n) ds c k) ]))) a
 
