@@ -5,15 +5,19 @@ use mathlib.Core.List.{List, [], _∷_}
 use lib.ListN.{length, getD}
 use Rattle.chains.specs.Values.{End, Link}
 
--- cluster c is followed by cs: each names the next, all are in range, and the last one's value is an end
-abbrev pub After : ℕ → (ℕ → ℕ) → ℕ → List ℕ → Type 0
-After last f c [] = End (f c)
-After last f c (d ∷ ds) = (f c ≡ d) × Link last d × After last f d ds
+-- the value v leads to the clusters cs: each is named by the value before it, all are in range, and the last one's value is an end
+abbrev pub Leads : ℕ → (ℕ → ℕ) → ℕ → List ℕ → Type 0
+Leads last f v [] = End v
+Leads last f v (d ∷ ds) = (v ≡ d) × Link last d × Leads last f (f d) ds
 
--- the clusters of whoever starts at c: none, with start 0, or c itself and what follows it
+-- cluster c is followed by cs
+abbrev pub After : ℕ → (ℕ → ℕ) → ℕ → List ℕ → Type 0
+After last f c cs = Leads last f (f c) cs
+
+-- the clusters of whoever starts at c: none, with start 0, or those that c leads to
 abbrev pub Chain : ℕ → (ℕ → ℕ) → ℕ → List ℕ → Type 0
 Chain last f c [] = c ≡ 0
-Chain last f c (d ∷ ds) = (c ≡ d) × Link last d × After last f d ds
+Chain last f c (d ∷ ds) = Leads last f c (d ∷ ds)
 
 -- the same by index: "the clusters from start .., each in range, each but the last naming the next, the last an end value"
 pub record Clusters (last : ℕ) (f : ℕ → ℕ) (start : ℕ) (cs : List ℕ) : Type 0 where

@@ -1,8 +1,8 @@
 -- The same findings as code computes them, with a walk for each holder and marks for its clusters.
-use Prim.Native.Nat.{ℕ, zero, suc, _-_}
+use Prim.Native.Nat.{ℕ, _-_}
 use mathlib.Core.Bool.{Bool, false, _&&_, _||_, not}
 use mathlib.Core.Option.{Option, none, some}
-use mathlib.Core.List.{List, [], _∷_}
+use mathlib.Core.List.{List, []}
 use lib.Dec.{eqb}
 use lib.ListN.{length, getD}
 use Rattle.chains.specs.Lists.{joined}
@@ -53,10 +53,3 @@ checkTwo last f m W = orElse (W .inTwo) (first (inTwo m) (last - 1) 2) (checkLos
 -- the answer from finding 5 on, o being what the search for it found
 unfoldable pub checkChains : {P A : Type 0} → ℕ → (ℕ → ℕ) → List ℕ → Voice P A → Option P → A
 checkChains last f m W o = orElse (W .badChain) o (checkTwo last f m W)
-
--- ---- entries in slots: way takes a slot to the number of its holder
-
--- the n slots from k on
-unfoldable pub rows : (ℕ → ℕ) → ℕ → ℕ → List (ℕ × ℕ)
-rows way k zero = []
-rows way k (suc n) = (k, way k) ∷ rows way (suc k) n

@@ -20,4 +20,5 @@ pub mod History
 pub mod Verdict
 pub mod Findings
 pub mod Check
+pub mod Rows
 pub mod Laws

@@ -28,7 +28,7 @@ module _ (G : Geometry) (f : ℕ → ℕ) (h : ℕ → Holder) (χ : ℕ → Lis
   in-none : (c : ℕ) → ¬ Used (G .last) (f c) → occ c (joined χ is) ≡ 0
   in-none c n = occ-not c (joined χ is) (λ m. let r = mem-joined χ is c m in n (in-use G f h χ v (r .0) c (r .2)))
 
-  -- each clusterBytes is free, or aside, or in one chain
+  -- each cluster is free, or aside, or in one chain
   one-each : (c : ℕ) → Link (G .last) c → bit (freeb (f c)) + (occ c (joined χ is) + bit (asideb (f c))) ≡ 1
   one-each c i = go (v .valid c i)
     where
@@ -38,8 +38,8 @@ module _ (G : Geometry) (f : ℕ → ℕ) (h : ℕ → Holder) (χ : ℕ → Lis
       go (aside a) = omega (arith, free-none (f c) (λ e. omega arith), aside-one (f c) a, in-none c (λ u. elim u [ inl x ↦ omega (arith, G .small) | inr x ↦ omega arith ]))
 
   -- free, held and aside are all clusters; held is the sum of the chains' lengths
-  pub count : freeCount (G .last) f + (sumOver is (λ i. length (χ i)) + asideCount (G .last) f) ≡ G .last - 1
-  count =
+  pub all-clusters : freeCount (G .last) f + (sumOver is (λ i. length (χ i)) + asideCount (G .last) f) ≡ G .last - 1
+  all-clusters =
       let a : ℕ → ℕ = λ i. bit (freeb (f (i + 2))) in
       let t : ℕ → ℕ = λ i. occ (i + 2) (joined χ is) in
       let b : ℕ → ℕ = λ i. bit (asideb (f (i + 2))) in

@@ -1,16 +1,14 @@
 -- Loops along a chain meet its clusters in order.
-use Prim.Native.Nat.{ℕ, zero, suc, _-_, _≤_, _<_}
+use Prim.Native.Nat.{ℕ, zero, suc, _≤_, _<_}
 use native.Mathlib.Omega.{arith}
 use mathlib.Core.Path.{_≡_, refl, ap, _∙_}
 use mathlib.Core.List.{List, [], _∷_}
 use lib.ListN.{length, getD}
-use Rattle.chains.specs.Put.{put}
-use Rattle.chains.specs.Lists.{joined, lastOf, startOf}
+use Rattle.chains.specs.Lists.{joined, lastOf}
 use Rattle.chains.specs.Sizes.{Geometry}
 use Rattle.chains.specs.Chain.{After, Chain}
-use Rattle.chains.specs.Free.{freeClusters}
 use Rattle.chains.specs.Marks.{mark, marks}
-use Rattle.chains.specs.Steps.{cleared, followed, grown, marked}
+use Rattle.chains.specs.Steps.{followed, marked}
 use Rattle.chains.specs.Laws.Marks.{marks-append}
 
 after-followed : (G : Geometry) (f : ℕ → ℕ) (c : ℕ) (cs : List ℕ) → After (G .last) f c cs → (k : ℕ) → k ≤ length cs → followed f k c ≡ getD (c ∷ cs) k 0
@@ -45,22 +43,3 @@ chain-marked G f m c (x ∷ xs) p = ap (marked f m (suc (length xs))) (p .0) ∙
 pub marks-joined : (m : List ℕ) (χ : ℕ → List ℕ) (i : ℕ) (is : List ℕ) → marks m (joined χ (i ∷ is)) ≡ marks (marks m (χ i)) (joined χ is)
 unfolding joined
 marks-joined m χ i is = marks-append m (χ i) (joined χ is)
-
--- ---- one turn, in the arithmetic of a loop that counts down
-
-down : (k : ℕ) → 0 < k → k ≡ suc (k - 1)
-down k h = omega arith
-
-pub followed-turn : (f : ℕ → ℕ) (k c : ℕ) → 0 < k → followed f k c ≡ followed f (k - 1) (f c)
-followed-turn f k c h = ap (λ (n : ℕ). followed f n c) (down k h) ∙ (unfold followed in refl)
-
-pub marked-turn : (f : ℕ → ℕ) (m : List ℕ) (k c : ℕ) → 0 < k → marked f m k c ≡ marked f (mark m c) (k - 1) (f c)
-marked-turn f m k c h = ap (λ (n : ℕ). marked f m n c) (down k h) ∙ (unfold marked in refl)
-
-pub cleared-turn : (f : ℕ → ℕ) (k c : ℕ) → 0 < k → cleared f k c ≡ cleared (put f c 0) (k - 1) (f c)
-cleared-turn f k c h = ap (λ (n : ℕ). cleared f n c) (down k h) ∙ (unfold cleared in refl)
-
-pub grown-turn : (last : ℕ) (f : ℕ → ℕ) (c k d : ℕ) → 0 < k → d ≡ startOf (freeClusters last f) → grown last f c k ≡ grown last (put (put f d 0xfff) c d) d (k - 1)
-grown-turn last f c k d h e =
-    let z : grown last f c (suc (k - 1)) ≡ grown last (put (put f d 0xfff) c d) d (k - 1) = rw e (unfold grown in refl) in
-    ap (grown last f c) (down k h) ∙ z

@@ -90,7 +90,7 @@ free-length G f = from-length f (G .last - 1) 2
 
 -- ---- the lowest free cluster is the head, and taking it leaves the rest
 
--- the lowest free clusterBytes is the head, and taking it leaves the rest
+-- the lowest free cluster is the head, and taking it leaves the rest
 pub from-above : (f g : ℕ → ℕ) (n c : ℕ) → ((a : ℕ) → c ≤ a → g a ≡ f a) → freeFrom g n c ≡ freeFrom f n c
 from-above f g zero c h = free-nil g c ∙ sym (free-nil f c)
 from-above f g (suc n) c h =

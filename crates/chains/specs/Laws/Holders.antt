@@ -7,7 +7,7 @@ use mathlib.Core.Bool.{true}
 use mathlib.Core.List.{List, [], _∷_}
 use lib.ListN.{length}
 use borrow.Author.Tests.{eq-eqb}
-use Rattle.chains.specs.Lists.{_∈_, joined, occ}
+use Rattle.chains.specs.Lists.{Once, _∈_, joined, occ}
 use Rattle.chains.specs.Sizes.{Geometry, clustersFor, fits}
 use Rattle.chains.specs.Values.{Link, Used}
 use Rattle.chains.specs.Holders.{Holder, Owns, Sound, fileHolder, nobody}
@@ -24,8 +24,9 @@ nobody-owns G f = record { chain = refl; long = eq-eqb 0 0 refl }
 pub owns-nobody : (G : Geometry) (f : ℕ → ℕ) (h : Holder) (cs : List ℕ) → h ≡ nobody → Owns (G .last) f h cs → cs ≡ []
 owns-nobody G f h cs e o = owns-same G f nobody cs [] (subst (λ (x : Holder). Owns (G .last) f x cs) e o) (nobody-owns G f)
 
-pub sound-same : (G : Geometry) (f : ℕ → ℕ) (h : ℕ → Holder) (χ ψ : ℕ → List ℕ) → Sound (G .last) f h χ → Sound (G .last) f h ψ → (i : ℕ) → χ i ≡ ψ i
-sound-same G f h χ ψ v w i = owns-same G f (h i) (χ i) (ψ i) (v .owns i) (w .owns i)
+-- one family of lists only
+pub sound-same : (G : Geometry) (f : ℕ → ℕ) (h : ℕ → Holder) (χ ψ : ℕ → List ℕ) → Sound (G .last) f h χ → Sound (G .last) f h ψ → χ ≡ ψ
+sound-same G f h χ ψ v w = λ k i. owns-same G f (h i) (χ i) (ψ i) (v .owns i) (w .owns i) k
 
 -- ---- a file
 
@@ -41,7 +42,7 @@ file-fits G f h cs st sz is o =
 -- ---- the lists of a sound family
 
 module _ (G : Geometry) (f : ℕ → ℕ) (h : ℕ → Holder) (χ : ℕ → List ℕ) (v : Sound (G .last) f h χ) where
-  pub once : (i c : ℕ) → occ c (χ i) ≤ 1
+  pub once : (i : ℕ) → Once (χ i)
   once i c = chain-once G f (h i .start) (χ i) (v .owns i .chain) c
 
   pub in-range : (i c : ℕ) → c ∈ χ i → Link (G .last) c
@@ -51,7 +52,7 @@ module _ (G : Geometry) (f : ℕ → ℕ) (h : ℕ → Holder) (χ : ℕ → Lis
   in-use i c m = chain-mem G f (h i .start) (χ i) (v .owns i .chain) c m .1
 
   -- lists of different holders together have no repetition
-  pub joined-once : (is : List ℕ) → ((i : ℕ) → occ i is ≤ 1) → (c : ℕ) → occ c (joined χ is) ≤ 1
+  pub joined-once : (is : List ℕ) → Once is → Once (joined χ is)
   unfolding joined occ
   joined-once [] e c = omega arith
   joined-once (i ∷ is) e c = elim (dec-mem c (χ i)) [

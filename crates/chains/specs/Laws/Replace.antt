@@ -1,4 +1,4 @@
--- A sound volume with one holder replaced is sound; and the counts after it.
+-- A sound volume with one holder replaced is sound.
 use Prim.Native.Nat.{ℕ}
 use mathlib.Core.Path.{_≡_, refl, sym, _∙_}
 use mathlib.Core.Logic.{_≢_, inl, inr}
@@ -17,7 +17,7 @@ use Rattle.chains.specs.Laws.Chain.{chain-frame, chain-mem}
 use Rattle.chains.specs.Laws.Holders.{in-range, in-use}
 
 module _ (G : Geometry) (f g : ℕ → ℕ) (h : ℕ → Holder) (χ : ℕ → List ℕ) (v : Sound (G .last) f h χ) (i : ℕ) (new : Holder) (ds : List ℕ) (r : Replaced (G .last) f g new (χ i) ds) where
-  -- a chain of another holder has no clusterBytes of the new list
+  -- a chain of another holder has no cluster of the new list
   pub foreign : (t c : ℕ) → t ≢ i → c ∈ χ t → ¬ (c ∈ ds)
   foreign t c n m d = elim (r .taken c d) [
     | inl k ↦ n (v .apart t i c m k)

@@ -11,7 +11,8 @@ use Rattle.chains.specs.Sizes.{Geometry}
 use Rattle.chains.specs.Holders.{Holder, Owns}
 use Rattle.chains.specs.Verdict.{Found, first}
 use Rattle.chains.specs.Findings.{BadChain, holdersOf}
-use Rattle.chains.specs.Check.{ownsb, rows}
+use Rattle.chains.specs.Check.{ownsb}
+use Rattle.chains.specs.Rows.{rows}
 use Rattle.chains.specs.Laws.Tests.{says-map, says-not}
 use Rattle.chains.specs.Laws.Lists.{hit-cases, occ-not}
 use Rattle.chains.specs.Laws.Verdict.{first-found}

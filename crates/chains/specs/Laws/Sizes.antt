@@ -45,7 +45,11 @@ pub fits-empty : (cb : ℕ) → 0 < cb → fits cb 0 0 ≡ true
 unfolding fits
 fits-empty cb p = eq-eqb 0 (clustersFor cb 0) (sym (clusters-zero cb p))
 
--- "exactly": only what is said of the sum of all lengths uses this
+-- "exactly": used only for the document's words and for the sum of all lengths
 pub fits-exact : (cb n k : ℕ) → fits cb n k ≡ true → k ≡ clustersFor cb n
 unfolding fits
 fits-exact cb n k e = eqb-true k (clustersFor cb n) e
+
+pub exact-fits : (cb n k : ℕ) → k ≡ clustersFor cb n → fits cb n k ≡ true
+unfolding fits
+exact-fits cb n k e = eq-eqb k (clustersFor cb n) e

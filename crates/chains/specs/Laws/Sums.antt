@@ -39,7 +39,6 @@ unfolding sum
 sum-one zero = refl
 sum-one (suc n) = omega (arith, sum-one n)
 
--- the count of the table's zeros is the length of that list
 -- the first term apart
 pub sum-first : (n : ℕ) (g : ℕ → ℕ) → sum (suc n) g ≡ g 0 + sum n (λ i. g (i + 1))
 unfolding sum
@@ -86,7 +85,7 @@ occ-clusters G (x ∷ xs) r =
     let e : sumClusters (G .last) (λ c. hit c x + occ c xs) ≡ sumClusters (G .last) (λ c. hit c x) + sumClusters (G .last) (λ c. occ c xs) = sum-add (G .last - 1) (λ i. hit (i + 2) x) (λ i. occ (i + 2) xs) in
     omega (arith, e, hit-clusters G x (r x (inl refl)), occ-clusters G xs (λ a m. r a (inr m)))
 
--- a list without repetition in a range of G .last - 1 numbers
+-- a list of clusters without repetition is no longer than the volume
 pub pigeon : (G : Geometry) (cs : List ℕ) → ((a : ℕ) → a ∈ cs → Link (G .last) a) → Once cs → length cs ≤ G .last - 1
 pigeon G cs r o =
     omega (arith, occ-clusters G cs r, sum-le (G .last - 1) (λ i. occ (i + 2) cs) (λ i. 1) (λ i k. o (i + 2)), sum-one (G .last - 1))

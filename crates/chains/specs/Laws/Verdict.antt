@@ -1,5 +1,5 @@
 -- Only one answer fits a list of findings; and a search that found what there is gives that answer.
-use Prim.Native.Nat.{ℕ, zero, suc, _+_, _-_, _≤_, _<_}
+use Prim.Native.Nat.{ℕ, zero, suc, _+_, _≤_, _<_}
 use native.Mathlib.Omega.{arith}
 use native.Mathlib.Decide.{decLe}
 use mathlib.Core.Path.{_≡_, refl, sym, ap, _∙_}
@@ -76,20 +76,3 @@ first-found B t n c b d = go (first-is t n c)
     go : FirstIs t n c (first t n c) → Found ltb B (first t n c)
     go (here p o i j y h) = found p o (says-true (d p i j) y, λ q l w. out q w (h q (b q w .0) (ltb-true q p l)))
     go (gone o h) = nowhere o (λ q w. out q w (h q (b q w .0) (b q w .1)))
-
--- ---- the turns of such a search: the numbers left are end - c
-
-pub first-hit : (t : ℕ → Bool) (end c : ℕ) (whole : Option ℕ) → c < end → t c ≡ true → first t (end - c) c ≡ whole → some c ≡ whole
-unfolding first
-first-hit t end c whole l e w = let z : end - c ≡ suc (end - suc c) = omega arith in sym (rw (z, e, first) refl) ∙ w
-
-pub first-miss : (t : ℕ → Bool) (end c d : ℕ) (whole : Option ℕ) → c < end → t c ≡ false → d ≡ c + 1 → first t (end - c) c ≡ whole → first t (end - d) d ≡ whole
-unfolding first
-first-miss t end c d whole l e q w =
-    let z : end - c ≡ suc (end - suc c) = omega arith in
-    let y : d ≡ suc c = omega arith in
-    rw y (sym (rw (z, e, first) refl) ∙ w)
-
-pub first-end : (t : ℕ → Bool) (end c : ℕ) (whole : Option ℕ) → end ≤ c → first t (end - c) c ≡ whole → none ≡ whole
-unfolding first
-first-end t end c whole l w = let z : end - c ≡ 0 = omega arith in sym (rw (z, first) refl) ∙ w

@@ -10,13 +10,14 @@ use lib.ListN.{length}
 use borrow.Author.Tests.{eqb-true, eq-eqb, ne-eqb}
 use Rattle.chains.specs.Sizes.{Geometry}
 use Rattle.chains.specs.Values.{Link, endb, linkb}
-use Rattle.chains.specs.Chain.{After, Chain}
+use Rattle.chains.specs.Chain.{After, Chain, Leads}
 use Rattle.chains.specs.Walk.{onto, trail, walk}
 use Rattle.chains.specs.Laws.Tests.{says-true, true-says}
 use Rattle.chains.specs.Laws.Values.{link-no-end, says-end, says-link}
 use Rattle.chains.specs.Laws.Chain.{chain-length}
 
--- the clauses of trail, as laws
+-- ---- the clauses of trail
+
 trail-end : (G : Geometry) (f : ℕ → ℕ) (k v : ℕ) → endb v ≡ true → trail (G .last) f (suc k) v ≡ some []
 unfolding trail
 trail-end G f k v e = rw (e, trail)
@@ -25,29 +26,31 @@ trail-link : (G : Geometry) (f : ℕ → ℕ) (k v : ℕ) → endb v ≡ false �
 unfolding trail
 trail-link G f k v e q = rw (e, q, trail)
 
-after-trail : (G : Geometry) (f : ℕ → ℕ) (c : ℕ) (cs : List ℕ) (k : ℕ) → After (G .last) f c cs → length cs < k → trail (G .last) f k (f c) ≡ some cs
-after-trail G f c cs zero p l = absurd (omega arith)
-after-trail G f c [] (suc k) p l = trail-end G f k (f c) (true-says (says-end (f c)) p)
-after-trail G f c (x ∷ xs) (suc k) p l =
-    rw (p .0) (trail-link G f k x (link-no-end G x (p .1)) (true-says (says-link (G .last) x) (p .1)) ∙ ap (onto x) (after-trail G f x xs k (p .2) (omega arith)))
-
 onto-some : (v : ℕ) (o : Option (List ℕ)) (cs : List ℕ) → onto v o ≡ some cs → (ds : List ℕ) × (o ≡ some ds) × (cs ≡ v ∷ ds)
 onto-some v none cs e = absurd (let z : _≡_ {A = ℕ} 0 1 = cc in omega arith)
 onto-some v (some ds) cs e = (ds, refl, cc)
 
-trail-after : (G : Geometry) (f : ℕ → ℕ) (k c : ℕ) (cs : List ℕ) → trail (G .last) f k (f c) ≡ some cs → After (G .last) f c cs
+-- ---- a trail is what a value leads to
+
+leads-trail : (G : Geometry) (f : ℕ → ℕ) (v : ℕ) (cs : List ℕ) (k : ℕ) → Leads (G .last) f v cs → length cs < k → trail (G .last) f k v ≡ some cs
+leads-trail G f v cs zero p l = absurd (omega arith)
+leads-trail G f v [] (suc k) p l = trail-end G f k v (true-says (says-end v) p)
+leads-trail G f v (x ∷ xs) (suc k) p l =
+    rw (p .0) (trail-link G f k x (link-no-end G x (p .1)) (true-says (says-link (G .last) x) (p .1)) ∙ ap (onto x) (leads-trail G f (f x) xs k (p .2) (omega arith)))
+
+trail-leads : (G : Geometry) (f : ℕ → ℕ) (k v : ℕ) (cs : List ℕ) → trail (G .last) f k v ≡ some cs → Leads (G .last) f v cs
 unfolding trail
-trail-after G f zero c cs e = absurd (let z : _≡_ {A = ℕ} 0 1 = cc in omega arith)
-trail-after G f (suc k) c cs e = go (λ ds q. trail-after G f k (f c) ds q) (endb (f c)) (linkb (G .last) (f c)) refl refl e
+trail-leads G f zero v cs e = absurd (let z : _≡_ {A = ℕ} 0 1 = cc in omega arith)
+trail-leads G f (suc k) v cs e = go (λ ds q. trail-leads G f k (f v) ds q) (endb v) (linkb (G .last) v) refl refl e
   where
-    go : ((ds : List ℕ) → trail (G .last) f k (f (f c)) ≡ some ds → After (G .last) f (f c) ds) → (a b : Bool) → endb (f c) ≡ a → linkb (G .last) (f c) ≡ b
-        → (elim a as (λ _. Option (List ℕ)) [ true ↦ some [] | false ↦ elim b as (λ _. Option (List ℕ)) [ true ↦ onto (f c) (trail (G .last) f k (f (f c))) | false ↦ none ] ]) ≡ some cs
-        → After (G .last) f c cs
-    go ih true b p q e = let z : cs ≡ [] = cc in rw z (says-true (says-end (f c)) p)
-    go ih false true p q e =
-        let r = onto-some (f c) (trail (G .last) f k (f (f c))) cs e in
-        rw (r .2) (refl, says-true (says-link (G .last) (f c)) q, ih (r .0) (r .1))
+    go : ((ds : List ℕ) → trail (G .last) f k (f v) ≡ some ds → After (G .last) f v ds) → (a b : Bool) → endb v ≡ a → linkb (G .last) v ≡ b
+        → (elim a as (λ _. Option (List ℕ)) [ true ↦ some [] | false ↦ elim b as (λ _. Option (List ℕ)) [ true ↦ onto v (trail (G .last) f k (f v)) | false ↦ none ] ]) ≡ some cs
+        → Leads (G .last) f v cs
+    go ih true b p q e = let z : cs ≡ [] = cc in rw z (says-true (says-end v) p)
+    go ih false true p q e = let r = onto-some v (trail (G .last) f k (f v)) cs e in rw (r .2) (refl, says-true (says-link (G .last) v) q, ih (r .0) (r .1))
     go ih false false p q e = absurd (let z : _≡_ {A = ℕ} 0 1 = cc in omega arith)
+
+-- ---- a walk is a chain
 
 walk-zero : (G : Geometry) (f : ℕ → ℕ) (c : ℕ) → c ≡ 0 → walk (G .last) f c ≡ some []
 unfolding walk
@@ -66,11 +69,11 @@ walk-chain G f c cs e = go (eqb c 0) (linkb (G .last) c) refl refl e
     go true b p q e = let z : cs ≡ [] = cc in rw z (eqb-true c 0 p)
     go false true p q e =
         let r = onto-some c (trail (G .last) f (G .last) (f c)) cs e in
-        rw (r .2) (refl, says-true (says-link (G .last) c) q, trail-after G f (G .last) c (r .0) (r .1))
+        rw (r .2) (refl, says-true (says-link (G .last) c) q, trail-leads G f (G .last) (f c) (r .0) (r .1))
     go false false p q e = absurd (let z : _≡_ {A = ℕ} 0 1 = cc in omega arith)
 
 pub chain-walk : (G : Geometry) (f : ℕ → ℕ) (c : ℕ) (cs : List ℕ) → Chain (G .last) f c cs → walk (G .last) f c ≡ some cs
 chain-walk G f c [] p = walk-zero G f c p
 chain-walk G f c (x ∷ xs) p =
     let k : length (x ∷ xs) ≤ G .last - 1 = chain-length G f c (x ∷ xs) p in
-    rw (p .0) (walk-link G f x (p .1) ∙ ap (onto x) (after-trail G f x xs (G .last) (p .2) (omega arith)))
+    rw (p .0) (walk-link G f x (p .1) ∙ ap (onto x) (leads-trail G f (f x) xs (G .last) (p .2) (omega arith)))

@@ -1,4 +1,4 @@
--- Turn by turn the loops come to what was given back and what was laid.
+-- A chain that grows at its end, by the lowest free cluster each time, gets the first of the list of free clusters.
 use Prim.Native.Nat.{ℕ, zero, suc, _-_, _≤_, _<_}
 use native.Mathlib.Omega.{arith}
 use native.Mathlib.Decide.{ℕ-discrete}
@@ -10,41 +10,13 @@ use Rattle.chains.specs.Put.{put}
 use Rattle.chains.specs.Lists.{_∈_, lastOf, startOf}
 use Rattle.chains.specs.Sizes.{Geometry}
 use Rattle.chains.specs.Values.{Link}
-use Rattle.chains.specs.Chain.{After, Chain}
 use Rattle.chains.specs.Free.{freeClusters, freeFrom}
-use Rattle.chains.specs.Growth.{extended, laid, released}
-use Rattle.chains.specs.Steps.{cleared, grown}
+use Rattle.chains.specs.Growth.{extended, laid}
+use Rattle.chains.specs.Steps.{grown}
 use Rattle.chains.specs.Laws.Put.{put-cases, put-other, put-same}
-use Rattle.chains.specs.Laws.Lists.{dec-mem, mem-occ, mem-take}
-use Rattle.chains.specs.Laws.Chain.{after-frame, after-fresh}
+use Rattle.chains.specs.Laws.Lists.{mem-take}
 use Rattle.chains.specs.Laws.Free.{free-mem, free-next, free-nil, free-no, free-yes}
-use Rattle.chains.specs.Laws.Growth.{laid-other, released-in, released-out}
-
--- ---- a chain is freed from its front
-
--- a put of 0 first or last is the same
-released-put : (f : ℕ → ℕ) (c : ℕ) (cs : List ℕ) (a : ℕ) → released (put f c 0) cs a ≡ put (released f cs) c 0 a
-released-put f c cs a = elim (dec-mem a cs) [
-  | yes m ↦ released-in (put f c 0) cs a m ∙ sym (elim (put-cases (released f cs) c 0 a) [ inl h ↦ h .1 | inr h ↦ h .1 ∙ released-in f cs a m ])
-  | no n ↦ released-out (put f c 0) cs a n ∙ elim (ℕ-discrete a c) [
-    | yes e ↦ put-same f c 0 a e ∙ sym (put-same (released f cs) c 0 a e)
-    | no k ↦ put-other f c 0 a k ∙ sym (put-other (released f cs) c 0 a k ∙ released-out f cs a n)
-  ]
-]
-
-after-cleared : (G : Geometry) (f : ℕ → ℕ) (c : ℕ) (cs : List ℕ) → After (G .last) f c cs → (a : ℕ) → cleared f (suc (length cs)) c a ≡ released f (c ∷ cs) a
-unfolding cleared released
-after-cleared G f c [] p a = refl
-after-cleared G f c (d ∷ ds) p a =
-    let fresh : ¬ (c ∈ (d ∷ ds)) = λ m. omega (arith, after-fresh G f c (d ∷ ds) p, mem-occ c (d ∷ ds) m) in
-    let q : After (G .last) (put f c 0) d ds = after-frame G f (put f c 0) d ds (λ x m. put-other f c 0 x (λ e. fresh (rw e at m))) (p .2) in
-    ap (λ (x : ℕ). cleared (put f c 0) (suc (length ds)) x a) (p .0) ∙ after-cleared G (put f c 0) d ds q a ∙ released-put f c (d ∷ ds) a
-
-pub chain-cleared : (G : Geometry) (f : ℕ → ℕ) (c : ℕ) (cs : List ℕ) → Chain (G .last) f c cs → cleared f (length cs) c ≡ released f cs
-chain-cleared G f c [] p = unfold cleared released in refl
-chain-cleared G f c (x ∷ xs) p = ap (cleared f (suc (length xs))) (p .0) ∙ (λ k a. after-cleared G f x xs (p .2) a k)
-
--- ---- a chain grows at its end, by the lowest free cluster each time
+use Rattle.chains.specs.Laws.Growth.{laid-other}
 
 -- the table below does not matter on the chain that is laid
 laid-same : (f g : ℕ → ℕ) (c : ℕ) (ds : List ℕ) (a : ℕ) → (¬ (a ∈ (c ∷ ds)) → g a ≡ f a) → laid g c ds a ≡ laid f c ds a
@@ -85,7 +57,7 @@ turn-free G f c d ds u e =
     free-same (put f d 0xfff) (put (put f d 0xfff) c d) (G .last - 1) 2 (put-used (put f d 0xfff) c d (λ z. u (sym g ∙ z)) (omega arith))
     ∙ free-next G f d 0xfff ds (omega arith) e
 
--- what is laid from the next clusterBytes on, over the table of one turn, is what is laid from this one
+-- what is laid from the next cluster on, over the table of one turn, is what is laid from this one
 turn-laid : (f : ℕ → ℕ) (c d : ℕ) (ds : List ℕ) → ¬ (c ∈ (d ∷ ds)) → (a : ℕ) → laid (put (put f d 0xfff) c d) d ds a ≡ laid f c (d ∷ ds) a
 unfolding laid
 turn-laid f c d ds n a = elim (ℕ-discrete a c) [
