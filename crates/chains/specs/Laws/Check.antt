@@ -1,0 +1,125 @@
+-- What is computed with walks and marks is what the findings say.
+use Prim.Native.Nat.{ℕ, _+_, _-_, _≤_, _<_}
+use native.Mathlib.Omega.{arith}
+use mathlib.Core.Path.{_≡_, refl, ap, subst}
+use mathlib.Core.Logic.{_↔_, inl, inr}
+use mathlib.Core.Bool.{Bool, true, false}
+use mathlib.Core.Option.{Option, none, some}
+use mathlib.Core.List.{List, [], _∷_}
+use lib.Dec.{ltb}
+use lib.ListN.{length, getD}
+use Rattle.chains.specs.Tests.{Says, aye, nay}
+use Rattle.chains.specs.Lists.{InTwoOf, Once, _∈_, joined}
+use Rattle.chains.specs.Sizes.{Geometry}
+use Rattle.chains.specs.Values.{Link}
+use Rattle.chains.specs.Walk.{walk}
+use Rattle.chains.specs.Holders.{Holder, Owns}
+use Rattle.chains.specs.Marks.{marksOf}
+use Rattle.chains.specs.Verdict.{Found, first}
+use Rattle.chains.specs.Findings.{BadValue, InChain, InTwo, Lost, holdersOf}
+use Rattle.chains.specs.Check.{badValue, chainMarks, chainOf, inTwo, lost, ownsb}
+use Rattle.chains.specs.Laws.Tests.{clash, says-and, says-eq, says-map, says-not, says-or}
+use Rattle.chains.specs.Laws.Lists.{joined-mem, mem-joined}
+use Rattle.chains.specs.Laws.Values.{says-end, says-link, says-valid}
+use Rattle.chains.specs.Laws.Chain.{chain-mem, chain-once}
+use Rattle.chains.specs.Laws.Walk.{chain-walk, walk-chain}
+use Rattle.chains.specs.Laws.Marks.{two-in-two, zero-none}
+use Rattle.chains.specs.Laws.Verdict.{first-found}
+
+-- ---- one holder: its clusters, if it has a good chain
+
+says-owns : (G : Geometry) (f : ℕ → ℕ) (h : Holder) → Says (ownsb (G .last) f h) (Owns (G .last) f h (chainOf (G .last) f h))
+unfolding ownsb chainOf
+says-owns G f h = go (walk (G .last) f (h .start)) refl
+  where
+    fit : (cs : List ℕ) → walk (G .last) f (h .start) ≡ some cs → (b : Bool) → h .allows (length cs) ≡ b → Says (h .allows (length cs)) (Owns (G .last) f h cs)
+    fit cs e true q = aye q (record { chain = walk-chain G f (h .start) cs e; long = q })
+    fit cs e false q = nay q (λ o. clash (o .long) q)
+
+    go : (o : Option (List ℕ)) → walk (G .last) f (h .start) ≡ o
+        → Says (elim o as (λ _. Bool) [ none ↦ false | some cs ↦ h .allows (length cs) ]) (Owns (G .last) f h (elim o as (λ _. List ℕ) [ none ↦ [] | some cs ↦ cs ]))
+    go none e = nay refl (λ o. let z : _≡_ {A = ℕ} 0 1 = cc (chain-walk G f (h .start) [] (o .chain)) in omega arith)
+    go (some cs) e = fit cs e (h .allows (length cs)) refl
+
+-- whoever has a good chain has that one
+pub owns-chain-of : (G : Geometry) (f : ℕ → ℕ) (h : Holder) (cs : List ℕ) → Owns (G .last) f h cs → cs ≡ chainOf (G .last) f h
+unfolding chainOf
+owns-chain-of G f h cs o = go (walk (G .last) f (h .start)) (chain-walk G f (h .start) cs (o .chain))
+  where
+    go : (w : Option (List ℕ)) → w ≡ some cs → cs ≡ (elim w as (λ _. List ℕ) [ none ↦ [] | some cs ↦ cs ])
+    go none e = absurd (let z : _≡_ {A = ℕ} 0 1 = cc in omega arith)
+    go (some ds) e = cc
+
+pub owned-chain-of : (G : Geometry) (f : ℕ → ℕ) (h : Holder) (cs : List ℕ) → Owns (G .last) f h cs → Owns (G .last) f h (chainOf (G .last) f h)
+owned-chain-of G f h cs o = subst (λ (ds : List ℕ). Owns (G .last) f h ds) (owns-chain-of G f h cs o) o
+
+pub says-owned : (G : Geometry) (f : ℕ → ℕ) (h : Holder) → Says (ownsb (G .last) f h) ((cs : List ℕ) × Owns (G .last) f h cs)
+says-owned G f h = says-map (λ o. (chainOf (G .last) f h, o)) (λ r. owned-chain-of G f h (r .0) (r .1)) (says-owns G f h)
+
+-- ---- the numbers of the holders
+
+pub in-holders : {P : Type 0} (es : List (P × ℕ)) (p : P) (i : ℕ) → (p, i) ∈ es → i ∈ holdersOf es
+unfolding holdersOf
+in-holders [] p i m = absurd m
+in-holders (e ∷ es) p i (inl q) = inl (ap (λ (x : _ × ℕ). x .1) q)
+in-holders (e ∷ es) p i (inr m) = inr (in-holders es p i m)
+
+pub holders-in : {P : Type 0} (es : List (P × ℕ)) (i : ℕ) → i ∈ holdersOf es → (p : P) × ((p, i) ∈ es)
+unfolding holdersOf
+holders-in [] i m = absurd m
+holders-in (e ∷ es) i (inl q) = (e .0, inl (λ k. (e .0, q k)))
+holders-in (e ∷ es) i (inr m) = let r = holders-in es i m in (r .0, inr (r .1))
+
+-- ---- finding 3
+
+pub found-bad-value : (G : Geometry) (f : ℕ → ℕ) → Found ltb (BadValue (G .last) f) (first (badValue (G .last) f) (G .last - 1) 2)
+unfolding badValue
+found-bad-value G f = first-found (BadValue (G .last) f) (badValue (G .last) f) (G .last - 1) 2 (λ p b. (b .0 .0, omega arith))
+    (λ c k l. says-map (λ n. ((k, omega arith), n)) (λ b. b .1) (says-not (says-valid (G .last) (f c))))
+
+-- ---- where all chains are good, the marks decide findings 6 and 7
+
+module _ (G : Geometry) (f : ℕ → ℕ) (h : ℕ → Holder) (is : List ℕ) (good : (i : ℕ) → i ∈ is → Owns (G .last) f (h i) (chainOf (G .last) f (h i))) where
+  abbrev χ : ℕ → List ℕ
+  χ i = chainOf (G .last) f (h i)
+
+  pub in-chain : (i c : ℕ) → InChain (G .last) f h i c → c ∈ χ i
+  in-chain i c r = subst (λ (ds : List ℕ). c ∈ ds) (owns-chain-of G f (h i) (r .0) (r .1)) (r .2)
+
+  pub chain-in : (i c : ℕ) → i ∈ is → c ∈ χ i → InChain (G .last) f h i c
+  chain-in i c m k = (χ i, good i m, k)
+
+  in-range : (i c : ℕ) → i ∈ is → c ∈ χ i → Link (G .last) c
+  in-range i c m k = chain-mem G f (h i .start) (χ i) (good i m .chain) c k .0
+
+  two-of : (c : ℕ) → InTwo (G .last) f h is c → InTwoOf χ is c
+  two-of c r = (r .0, r .1, r .2, r .3, r .4, in-chain (r .0) c (r .5), in-chain (r .1) c (r .6))
+
+  of-two : (c : ℕ) → InTwoOf χ is c → InTwo (G .last) f h is c
+  of-two c r = (r .0, r .1, r .2, r .3, r .4, chain-in (r .0) c (r .3) (r .5), chain-in (r .1) c (r .4) (r .6))
+
+  none-of : (c : ℕ) → ((i : ℕ) → i ∈ is → ¬ InChain (G .last) f h i c) → ¬ (c ∈ joined χ is)
+  none-of c n m = let r = mem-joined χ is c m in n (r .0) (r .1) (chain-in (r .0) c (r .1) (r .2))
+
+  of-none : (c : ℕ) → ¬ (c ∈ joined χ is) → (i : ℕ) → i ∈ is → ¬ InChain (G .last) f h i c
+  of-none c n i m r = n (joined-mem χ is c i m (in-chain i c r))
+
+  pub says-in-two : Once is → (c : ℕ) → 2 ≤ c → c < 2 + (G .last - 1) → Says (inTwo (chainMarks (G .last) f h is) c) (InTwo (G .last) f h is c)
+  unfolding inTwo chainMarks
+  says-in-two e c k l =
+      let two : (getD (marksOf (G .last) (joined χ is)) c 0 ≡ 2) ↔ InTwoOf χ is c = two-in-two G χ is c (omega arith) e (λ i m. chain-once G f (h i .start) (χ i) (good i m .chain) c) in
+      says-map (λ q. of-two c (two .0 q)) (λ b. two .1 (two-of c b)) (says-eq (getD (marksOf (G .last) (joined χ is)) c 0) 2)
+
+  pub says-lost : (c : ℕ) → 2 ≤ c → c < 2 + (G .last - 1) → Says (lost (G .last) f (chainMarks (G .last) f h is) c) (Lost (G .last) f h is c)
+  unfolding lost chainMarks
+  says-lost c k l =
+      let no : (getD (marksOf (G .last) (joined χ is)) c 0 ≡ 0) ↔ (¬ (c ∈ joined χ is)) = zero-none G (joined χ is) c (omega arith) in
+      says-map (λ r. ((k, omega arith), r .0, of-none c (r .1))) (λ b. (b .1, none-of c (b .2)))
+      (says-and (says-or (says-link (G .last) (f c)) (says-end (f c))) (says-map (no .0) (no .1) (says-eq (getD (marksOf (G .last) (joined χ is)) c 0) 0)))
+
+  pub found-in-two : Once is → Found ltb (InTwo (G .last) f h is) (first (inTwo (chainMarks (G .last) f h is)) (G .last - 1) 2)
+  found-in-two e = first-found (InTwo (G .last) f h is) (inTwo (chainMarks (G .last) f h is)) (G .last - 1) 2
+      (λ c b. let r = in-range (b .0) c (b .3) (in-chain (b .0) c (b .5)) in (r .0, omega arith)) (says-in-two e)
+
+  pub found-lost : Found ltb (Lost (G .last) f h is) (first (lost (G .last) f (chainMarks (G .last) f h is)) (G .last - 1) 2)
+  found-lost = first-found (Lost (G .last) f h is) (lost (G .last) f (chainMarks (G .last) f h is)) (G .last - 1) 2 (λ c b. (b .0 .0, omega arith)) says-lost

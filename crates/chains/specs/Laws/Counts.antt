@@ -1,0 +1,63 @@
+-- Free, held and aside are all clusters.
+use Prim.Native.Nat.{ℕ, _+_, _-_, _<_}
+use native.Mathlib.Omega.{arith}
+use mathlib.Core.Path.{_≡_, refl, sym, _∙_, subst}
+use mathlib.Core.Logic.{inl, inr}
+use mathlib.Core.Bool.{true}
+use mathlib.Core.List.{List, [], _∷_}
+use lib.ListN.{length}
+use borrow.Author.Tests.{eqb-true}
+use Rattle.chains.specs.Tests.{bit}
+use Rattle.chains.specs.Lists.{_∈_, joined, occ}
+use Rattle.chains.specs.Sums.{sum, sumClusters, sumOver}
+use Rattle.chains.specs.Sizes.{Geometry, clustersFor}
+use Rattle.chains.specs.Values.{Link, Used, Valid, aside, asideCount, asideb, free, freeCount, freeb, used}
+use Rattle.chains.specs.Holders.{Holder, Names, Sound, fileHolder, nobody}
+use Rattle.chains.specs.Laws.Lists.{joined-mem, mem-joined, mem-occ, occ-not}
+use Rattle.chains.specs.Laws.Sums.{joined-length, occ-clusters, sum-add, sum-cong, sum-one}
+use Rattle.chains.specs.Laws.Sizes.{clusters-zero, fits-exact}
+use Rattle.chains.specs.Laws.Values.{aside-one, free-no-aside, free-no-use, free-none, free-one, used-no-aside, used-no-free}
+use Rattle.chains.specs.Laws.Holders.{in-range, in-use, joined-once}
+
+module _ (G : Geometry) (f : ℕ → ℕ) (h : ℕ → Holder) (χ : ℕ → List ℕ) (v : Sound (G .last) f h χ) (is : List ℕ) (l : Names χ is) where
+  in-one : (c : ℕ) → Link (G .last) c → Used (G .last) (f c) → occ c (joined χ is) ≡ 1
+  in-one c i u =
+      let r = v .cover c i u in
+      omega (arith, joined-once G f h χ v is (l .each) c, mem-occ c (joined χ is) (joined-mem χ is c (r .0) (l .all (r .0) c (r .1)) (r .1)))
+
+  in-none : (c : ℕ) → ¬ Used (G .last) (f c) → occ c (joined χ is) ≡ 0
+  in-none c n = occ-not c (joined χ is) (λ m. let r = mem-joined χ is c m in n (in-use G f h χ v (r .0) c (r .2)))
+
+  -- each cluster is free, or aside, or in one chain
+  one-each : (c : ℕ) → Link (G .last) c → bit (freeb (f c)) + (occ c (joined χ is) + bit (asideb (f c))) ≡ 1
+  one-each c i = go (v .valid c i)
+    where
+      go : Valid (G .last) (f c) → bit (freeb (f c)) + (occ c (joined χ is) + bit (asideb (f c))) ≡ 1
+      go (free e) = omega (arith, free-one (f c) e, free-no-aside (f c) e, in-none c (free-no-use (G .last) (f c) e))
+      go (used u) = omega (arith, used-no-free (G .last) (f c) u, used-no-aside G (f c) u, in-one c i u)
+      go (aside a) = omega (arith, free-none (f c) (λ e. omega arith), aside-one (f c) a, in-none c (λ u. elim u [ inl x ↦ omega (arith, G .small) | inr x ↦ omega arith ]))
+
+  -- free, held and aside are all clusters; held is the sum of the chains' lengths
+  pub all-clusters : freeCount (G .last) f + (sumOver is (λ i. length (χ i)) + asideCount (G .last) f) ≡ G .last - 1
+  all-clusters =
+      let a : ℕ → ℕ = λ i. bit (freeb (f (i + 2))) in
+      let t : ℕ → ℕ = λ i. occ (i + 2) (joined χ is) in
+      let b : ℕ → ℕ = λ i. bit (asideb (f (i + 2))) in
+      let e : sum (G .last - 1) (λ i. a i + (t i + b i)) ≡ sum (G .last - 1) (λ i. 1) = sum-cong (G .last - 1) _ _ (λ i k. one-each (i + 2) (omega arith)) in
+      let o : sumClusters (G .last) (λ c. occ c (joined χ is)) ≡ length (joined χ is) = occ-clusters G (joined χ is) (λ c m. let r = mem-joined χ is c m in in-range G f h χ v (r .0) c (r .2)) in
+      omega (arith, e, sum-one (G .last - 1), sum-add (G .last - 1) a (λ i. t i + b i), sum-add (G .last - 1) t b, o, joined-length χ is)
+
+-- "Held is the sum over files of size divided by cluster bytes, rounded up": where every length is what the size asks for, the sum of the lengths is that sum
+pub held-sizes : (last cb : ℕ) (f : ℕ → ℕ) (h : ℕ → Holder) (χ : ℕ → List ℕ) → Sound last f h χ → (size : ℕ → ℕ) (is : List ℕ)
+    → ((i k : ℕ) → i ∈ is → h i .allows k ≡ true → k ≡ clustersFor cb (size i)) → sumOver is (λ i. length (χ i)) ≡ sumOver is (λ i. clustersFor cb (size i))
+unfolding sumOver
+held-sizes last cb f h χ v size [] e = refl
+held-sizes last cb f h χ v size (i ∷ is) e =
+    omega (arith, e i (length (χ i)) (inl refl) (v .owns i .long), held-sizes last cb f h χ v size is (λ j k m. e j k (inr m)))
+
+-- it is so for a file, and for nobody with size 0
+pub file-exact : (cb st size : ℕ) (h : Holder) → h ≡ fileHolder cb st size → (k : ℕ) → h .allows k ≡ true → k ≡ clustersFor cb size
+file-exact cb st size h e k a = fits-exact cb size k (subst (λ (x : Holder). x .allows k ≡ true) e a)
+
+pub nobody-exact : (cb : ℕ) → 0 < cb → (h : Holder) → h ≡ nobody → (k : ℕ) → h .allows k ≡ true → k ≡ clustersFor cb 0
+nobody-exact cb p h e k a = eqb-true k 0 (subst (λ (x : Holder). x .allows k ≡ true) e a) ∙ sym (clusters-zero cb p)

@@ -1,0 +1,105 @@
+-- The answer from finding 5 on: only one fits, it is what is computed, and it is fine exactly where table and holders are sound.
+use Prim.Native.Nat.{ℕ}
+use native.Mathlib.Decide.{ℕ-discrete}
+use mathlib.Core.Path.{_≡_, refl, sym, _∙_, subst}
+use mathlib.Core.Logic.{inr}
+use mathlib.Core.Bool.{Bool}
+use mathlib.Core.Option.{Option}
+use mathlib.Core.List.{List, []}
+use lib.Dec.{ltb}
+use Rattle.chains.specs.Lists.{Once, _∈_, joined}
+use Rattle.chains.specs.Sizes.{Geometry}
+use Rattle.chains.specs.Holders.{Holder, Owns, Sound, nobody}
+use Rattle.chains.specs.Verdict.{Found, None, Orders}
+use Rattle.chains.specs.Findings.{BadChain, BadValue, FromChains, FromLost, FromTwo, InChain, InTwo, Lost, Voice, holdersOf}
+use Rattle.chains.specs.Check.{chainMarks, chainOf, checkChains, checkLost, checkTwo, inTwo, lost}
+use Rattle.chains.specs.Laws.Tests.{says-dec}
+use Rattle.chains.specs.Laws.Lists.{dec-mem, joined-mem, mem-joined}
+use Rattle.chains.specs.Laws.Values.{says-valid}
+use Rattle.chains.specs.Laws.Holders.{nobody-owns, owns-nobody, owns-same}
+use Rattle.chains.specs.Laws.Verdict.{numbers, or-else, or-else-same}
+use Rattle.chains.specs.Laws.Check.{found-in-two, found-lost, holders-in, in-chain, owned-chain-of, owns-chain-of, says-owned}
+
+module _ {P A : Type 0} (before : P → P → Bool) (G : Geometry) (f : ℕ → ℕ) (h : ℕ → Holder) (es : List (P × ℕ)) (W : Voice P A) where
+  abbrev is : List ℕ
+  is = holdersOf es
+
+  abbrev χ : ℕ → List ℕ
+  χ i = chainOf (G .last) f (h i)
+
+  pub from-chains-same : Orders before → (a b : A) → FromChains before (G .last) f h es W a → FromChains before (G .last) f h es W b → a ≡ b
+  from-chains-same O = or-else-same before O (BadChain (G .last) f h es) (W .badChain) (FromTwo (G .last) f h es W)
+      (or-else-same ltb numbers (InTwo (G .last) f h is) (W .inTwo) (FromLost (G .last) f h es W)
+      (or-else-same ltb numbers (Lost (G .last) f h is) (W .lost) (λ a. a ≡ W .fine) (λ a b x y. x ∙ sym y)))
+
+  -- none of finding 5: each holder has its chain
+  pub good-all : None (BadChain (G .last) f h es) → (i : ℕ) → i ∈ is → Owns (G .last) f (h i) (χ i)
+  good-all n i m = let r = holders-in es i m in elim (says-dec (says-owned G f (h i))) [
+    | yes o ↦ owned-chain-of G f (h i) (o .0) (o .1)
+    | no k ↦ absurd (n (r .0) (i, r .1, λ cs o. k (cs, o)))
+  ]
+
+  check-two : Once is → None (BadChain (G .last) f h es) → FromTwo (G .last) f h es W (checkTwo (G .last) f (chainMarks (G .last) f h is) W)
+  unfolding checkTwo checkLost
+  check-two e n =
+      or-else ltb (InTwo (G .last) f h is) (W .inTwo) (FromLost (G .last) f h es W) _ (checkLost (G .last) f (chainMarks (G .last) f h is) W) (found-in-two G f h is (good-all n) e) (λ n′.
+      or-else ltb (Lost (G .last) f h is) (W .lost) (λ a. a ≡ W .fine) _ (W .fine) (found-lost G f h is (good-all n)) (λ n″. refl))
+
+  -- m need be the marks only where all chains are good
+  pub check-chains : Once is → (o : Option P) (m : List ℕ) → Found before (BadChain (G .last) f h es) o → (None (BadChain (G .last) f h es) → m ≡ chainMarks (G .last) f h is)
+      → FromChains before (G .last) f h es W (checkChains (G .last) f m W o)
+  unfolding checkChains
+  check-chains e o m d same = or-else before (BadChain (G .last) f h es) (W .badChain) (FromTwo (G .last) f h es W) o (checkTwo (G .last) f m W) d (λ n. rw (same n) (check-two e n))
+
+  -- ---- fine is sound: there is nobody outside the list
+
+  module _ (out : (i : ℕ) → ¬ (i ∈ is) → h i ≡ nobody) where
+    outside : (i : ℕ) → ¬ (i ∈ is) → χ i ≡ []
+    outside i n = rw (out i n) (sym (owns-chain-of G f nobody [] (nobody-owns G f)))
+
+    pub none-sound : None (BadValue (G .last) f) → None (BadChain (G .last) f h es) → None (InTwo (G .last) f h is) → None (Lost (G .last) f h is) → Sound (G .last) f h χ
+    none-sound n3 n5 n6 n7 = record {
+      valid = λ c l. elim (says-dec (says-valid (G .last) (f c))) [ yes x ↦ x | no x ↦ absurd (n3 c (l, x)) ];
+      owns = whole;
+      apart = λ i j c m n. elim (ℕ-discrete i j) [
+        | yes e ↦ e
+        | no ne ↦ absurd (n6 c (i, j, ne, listed i c m, listed j c n, (χ i, whole i, m), (χ j, whole j, n)))
+      ];
+      cover = λ c l u. elim (dec-mem c (joined χ is)) [
+        | yes m ↦ let r = mem-joined χ is c m in (r .0, r .2)
+        | no k ↦ absurd (n7 c (l, u, λ i m r. k (joined-mem χ is c i m (in-chain G f h is (good-all n5) i c r))))
+      ];
+    }
+      where
+        whole : (i : ℕ) → Owns (G .last) f (h i) (χ i)
+        whole i = elim (dec-mem i is) [
+          | yes m ↦ good-all n5 i m
+          | no k ↦ rw (outside i k, out i k) (nobody-owns G f)
+        ]
+
+        listed : (i c : ℕ) → c ∈ χ i → i ∈ is
+        listed i c m = elim (dec-mem i is) [ yes q ↦ q | no k ↦ absurd (rw (outside i k) at m) ]
+
+    -- ---- and sound is fine
+
+    module _ (χ′ : ℕ → List ℕ) (v : Sound (G .last) f h χ′) where
+      of : (i c : ℕ) → InChain (G .last) f h i c → c ∈ χ′ i
+      of i c r = subst (λ (ds : List ℕ). c ∈ ds) (owns-same G f (h i) (r .0) (χ′ i) (r .1) (v .owns i)) (r .2)
+
+      named : (i c : ℕ) → c ∈ χ′ i → i ∈ is
+      named i c m = elim (dec-mem i is) [ yes q ↦ q | no k ↦ absurd (rw (owns-nobody G f (h i) (χ′ i) (out i k) (v .owns i)) at m) ]
+
+      pub no-bad-value : None (BadValue (G .last) f)
+      no-bad-value c b = b .1 (v .valid c (b .0))
+
+      pub no-bad-chain : None (BadChain (G .last) f h es)
+      no-bad-chain p b = b .2 (χ′ (b .0)) (v .owns (b .0))
+
+      pub no-in-two : None (InTwo (G .last) f h is)
+      no-in-two c b = b .2 (v .apart (b .0) (b .1) c (of (b .0) c (b .5)) (of (b .1) c (b .6)))
+
+      pub no-lost : None (Lost (G .last) f h is)
+      no-lost c b = let o = v .cover c (b .0) (b .1) in b .2 (o .0) (named (o .0) c (o .1)) (χ′ (o .0), v .owns (o .0), o .1)
+
+      pub sound-fine : FromChains before (G .last) f h es W (W .fine)
+      sound-fine = inr (no-bad-chain, inr (no-in-two, inr (no-lost, refl)))

@@ -1,0 +1,55 @@
+-- How many clusters a size asks for, and the laws through which the test of a chain's length is used.
+use Prim.Native.Nat.{ℕ, suc, _+_, _-_, _*_, _/_, _≤_, _<_, max}
+use native.Mathlib.Omega.{arith}
+use native.Mathlib.Nat.{div-lt-iff-lt-mul}
+use native.Mathlib.Decide.{ℕ-discrete}
+use mathlib.Core.Path.{_≡_, sym, ap}
+use mathlib.Core.Bool.{true}
+use borrow.Author.Tests.{eqb-true, eq-eqb}
+use Rattle.chains.specs.Sizes.{clustersFor, fits}
+
+pub clusters-least : (cb : ℕ) → 0 < cb → (n k : ℕ) → n ≤ k * cb → clustersFor cb n ≤ k
+unfolding clustersFor
+clusters-least cb p n k h = omega (arith, div-lt-iff-lt-mul {k = cb} {x = n + (cb - 1)} {y = suc k} (p) .1 (omega (arith, p)))
+
+pub clusters-hold : (cb : ℕ) → 0 < cb → (n : ℕ) → n ≤ clustersFor cb n * cb
+unfolding clustersFor
+clusters-hold cb p n = omega (arith, p, div-lt-iff-lt-mul {k = cb} {x = n + (cb - 1)} {y = suc ((n + (cb - 1)) / cb)} (p) .0 (omega arith))
+
+pub clusters-zero : (cb : ℕ) → 0 < cb → clustersFor cb 0 ≡ 0
+clusters-zero cb p = omega (arith, clusters-least cb p 0 0 (omega arith))
+
+pub clusters-grow : (cb : ℕ) → 0 < cb → (m n : ℕ) → m ≤ n → clustersFor cb m ≤ clustersFor cb n
+clusters-grow cb p m n h = clusters-least cb p m (clustersFor cb n) (omega (arith, clusters-hold cb p n))
+
+pub clusters-some : (cb : ℕ) → 0 < cb → (n : ℕ) → 0 < n → 0 < clustersFor cb n
+clusters-some cb p n h = elim (ℕ-discrete (clustersFor cb n) 0) [
+  | yes e ↦ let z : clustersFor cb n * cb ≡ 0 * cb = ap (λ (x : ℕ). x * cb) e in omega (arith, clusters-hold cb p n)
+  | no k ↦ omega arith
+]
+
+-- ---- the test of a chain's length against the size
+
+-- at least what the size needs
+pub fits-least : (cb : ℕ) → 0 < cb → (n k : ℕ) → fits cb n k ≡ true → clustersFor cb n ≤ k
+unfolding fits
+fits-least cb p n k e = omega (arith, eqb-true k (clustersFor cb n) e)
+
+-- it stays true when both grow
+pub fits-grows : (cb : ℕ) → 0 < cb → (n k m : ℕ) → fits cb n k ≡ true → n ≤ m → fits cb m (max k (clustersFor cb m)) ≡ true
+unfolding fits
+fits-grows cb p n k m e l = eq-eqb (max k (clustersFor cb m)) (clustersFor cb m) (omega (arith, eqb-true k (clustersFor cb n) e, clusters-grow cb p n m l))
+
+-- nothing for nothing
+pub fits-empty : (cb : ℕ) → 0 < cb → fits cb 0 0 ≡ true
+unfolding fits
+fits-empty cb p = eq-eqb 0 (clustersFor cb 0) (sym (clusters-zero cb p))
+
+-- "exactly": used only for the document's words and for the sum of all lengths
+pub fits-exact : (cb n k : ℕ) → fits cb n k ≡ true → k ≡ clustersFor cb n
+unfolding fits
+fits-exact cb n k e = eqb-true k (clustersFor cb n) e
+
+pub exact-fits : (cb n k : ℕ) → k ≡ clustersFor cb n → fits cb n k ≡ true
+unfolding fits
+exact-fits cb n k e = eq-eqb k (clustersFor cb n) e

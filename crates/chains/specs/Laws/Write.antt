@@ -1,0 +1,135 @@
+-- A write: the table, the holders and the bytes of every file after it.
+use Prim.Native.Nat.{ℕ, _+_, _-_, _*_, _≤_, _<_, max}
+use native.Mathlib.Omega.{arith}
+use native.Mathlib.Nat.{mul-le-mul-right}
+use mathlib.Core.Path.{_≡_, refl, sym, ap, ap₂, _∙_}
+use mathlib.Core.Logic.{_≢_}
+use mathlib.Core.List.{List, [], _∷_, _++_, append-nil, append-assoc}
+use lib.ListN.{length, take, replicate, length-replicate}
+use lib.Seq.{take-append-le}
+use Rattle.chains.specs.Put.{put}
+use Rattle.chains.specs.Lists.{Once, _∈_, startOf}
+use Rattle.chains.specs.Sizes.{Geometry, clustersFor}
+use Rattle.chains.specs.Values.{Link}
+use Rattle.chains.specs.Holders.{Holder, Owns, Sound, fileHolder}
+use Rattle.chains.specs.Replace.{Replaced}
+use Rattle.chains.specs.Free.{freeClusters}
+use Rattle.chains.specs.Growth.{extended, lacking, longerChain, longerTable}
+use Rattle.chains.specs.Content.{Room, Touches, chainBytes, clusterAt, clusterBytes, content}
+use Rattle.chains.specs.Write.{accepted, filledImage, roomFor, splice, written, writtenImage}
+use Rattle.chains.specs.Laws.Sizes.{clusters-least}
+use Rattle.chains.specs.Laws.Chain.{chain-mem, chain-once}
+use Rattle.chains.specs.Laws.Holders.{file-fits, in-range}
+use Rattle.chains.specs.Laws.Replace.{replace}
+use Rattle.chains.specs.Laws.Changes.{file-grows, longer-fits}
+use Rattle.chains.specs.Laws.Content.{chain-bytes-length, content-length}
+use Rattle.chains.specs.Laws.Touched.{others-keep, poured-touches, touched-twice}
+use Rattle.chains.specs.Laws.Splice.{splice-end}
+use Rattle.chains.specs.Laws.Poured.{content-poured, poured-length}
+
+chain-bytes-append : (base cb : ℕ) (img cs ds : List ℕ) → chainBytes base cb img (cs ++ ds) ≡ chainBytes base cb img cs ++ chainBytes base cb img ds
+unfolding chainBytes
+chain-bytes-append base cb img [] ds = refl
+chain-bytes-append base cb img (c ∷ cs) ds = ap (λ (r : List ℕ). clusterBytes base cb img c ++ r) (chain-bytes-append base cb img cs ds) ∙ sym (append-assoc (clusterBytes base cb img c) _ _)
+
+pub content-more : (base cb : ℕ) → 0 < cb → (img cs ds : List ℕ) (n : ℕ) → Room base cb img cs → n ≤ length cs * cb
+    → content base cb img (cs ++ ds) n ≡ content base cb img cs n
+unfolding content
+content-more base cb p img cs ds n r l =
+    ap (take n) (chain-bytes-append base cb img cs ds) ∙ take-append-le n (chainBytes base cb img cs) (chainBytes base cb img ds) (omega (arith, chain-bytes-length base cb p img cs r))
+
+module _ (G : Geometry) (base : ℕ) (f : ℕ → ℕ) (h : ℕ → Holder) (χ : ℕ → List ℕ) (v : Sound (G .last) f h χ)
+    (img : List ℕ) (whole : (c : ℕ) → Link (G .last) c → clusterAt base (G .cb) c + G .cb ≤ length img) (i st sz : ℕ) (is : h i ≡ fileHolder (G .cb) st sz) (pos : ℕ) (bs : List ℕ)
+    (fit : max sz (pos + length bs) ≤ roomFor (G .last) (G .cb) f (χ i)) where
+  abbrev size′ : ℕ
+  size′ = max sz (pos + length bs)
+
+  abbrev chain′ : List ℕ
+  chain′ = longerChain (G .last) (G .cb) f (χ i) size′
+
+  abbrev image′ : List ℕ
+  image′ = writtenImage base (G .cb) img chain′ sz pos bs
+
+  room : size′ ≤ (length (χ i) + length (freeClusters (G .last) f)) * G .cb
+  unfolding roomFor
+  room = fit
+
+  pub write-replaces : Replaced (G .last) f (longerTable (G .last) (G .cb) f (χ i) size′) (fileHolder (G .cb) (startOf chain′) size′) (χ i) chain′
+  write-replaces = file-grows G f h χ v i st sz is size′ (omega arith) room
+
+  pub write-sound : Sound (G .last) (longerTable (G .last) (G .cb) f (χ i) size′) (put h i (fileHolder (G .cb) (startOf chain′) size′)) (put χ i chain′)
+  write-sound = replace G f (longerTable (G .last) (G .cb) f (χ i) size′) h χ v i (fileHolder (G .cb) (startOf chain′) size′) chain′ write-replaces
+
+  in-new : (c : ℕ) → c ∈ chain′ → Link (G .last) c
+  in-new c m = chain-mem G _ _ chain′ (write-replaces .owns .chain) c m .0
+
+  room-of : Room base (G .cb) img chain′
+  room-of c m = (in-new c m .0, whole c (in-new c m))
+
+  once′ : Once chain′
+  once′ = chain-once G _ _ chain′ (write-replaces .owns .chain)
+
+  fits′ : size′ ≤ length chain′ * G .cb
+  fits′ = longer-fits G f h χ v i st sz is size′ (omega arith) room
+
+  abbrev gap : ℕ
+  gap = pos - sz
+
+  abbrev between : List ℕ
+  between = filledImage base (G .cb) img chain′ sz pos
+
+  filled-length : length between ≡ length img
+  unfolding filledImage
+  filled-length = poured-length base (G .cb) img chain′ sz (replicate gap 0) gap
+
+  prefix : content base (G .cb) img chain′ sz ≡ content base (G .cb) img (χ i) sz
+  unfolding longerChain
+  prefix = content-more base (G .cb) (G .wide) img (χ i) (take (lacking (G .cb) (χ i) size′) (freeClusters (G .last) f)) sz
+      (λ a m. (in-range G f h χ v i a m .0, whole a (in-range G f h χ v i a m))) (file-fits G f (h i) (χ i) st sz is (v .owns i))
+
+  prefix-length : length (content base (G .cb) img chain′ sz) ≡ sz
+  prefix-length = content-length base (G .cb) (G .wide) img chain′ sz room-of (omega (arith, fits′))
+
+  first-step : content base (G .cb) between chain′ (sz + gap) ≡ content base (G .cb) img chain′ sz ++ replicate gap 0
+  unfolding filledImage
+  first-step =
+      content-poured base (G .cb) (G .wide) img chain′ once′ room-of sz sz (replicate gap 0) gap (sz + gap) (sym (length-replicate gap 0)) (omega arith) (omega arith) (omega (arith, fits′))
+      ∙ splice-end (content base (G .cb) img chain′ sz) (replicate gap 0) sz prefix-length
+
+  pub write-bytes : content base (G .cb) image′ chain′ size′ ≡ written (content base (G .cb) img (χ i) sz) pos bs
+  unfolding writtenImage written
+  write-bytes =
+      content-poured base (G .cb) (G .wide) between chain′ once′ (λ c m. (room-of c m .0, rw filled-length (room-of c m .1))) (sz + gap) pos bs (length bs) size′ refl (omega arith) (omega arith) fits′
+      ∙ ap (λ (r : List ℕ). splice r pos bs) (first-step ∙ ap₂ (λ (r : List ℕ) (n : ℕ). r ++ replicate (pos - n) 0) prefix (sym prefix-length ∙ ap length prefix))
+
+  pub write-touches : Touches (G .last) base (G .cb) img image′ chain′
+  unfolding writtenImage filledImage
+  write-touches = touched-twice (G .last) base (G .cb) img between image′ chain′
+      (poured-touches (G .last) base (G .cb) (G .wide) img chain′ (λ a m. in-new a m .0) sz (replicate gap 0) gap (omega (arith, fits′)))
+      (poured-touches (G .last) base (G .cb) (G .wide) between chain′ (λ a m. in-new a m .0) pos bs (length bs) (omega (arith, fits′)))
+
+  -- any other holder's bytes, as many as its chain holds
+  pub write-others : (t n : ℕ) → t ≢ i → n ≤ length (χ t) * G .cb → content base (G .cb) image′ (χ t) n ≡ content base (G .cb) img (χ t) n
+  write-others t n ne full = others-keep G base f (longerTable (G .last) (G .cb) f (χ i) size′) h χ v i (fileHolder (G .cb) (startOf chain′) size′) chain′ write-replaces img image′ whole write-touches t n ne full
+
+-- ---- how much a write takes
+
+-- what is accepted has room, if the file had
+pub accepted-fits : (room sz pos n : ℕ) → sz ≤ room → 0 < accepted room pos n → max sz (pos + accepted room pos n) ≤ room
+unfolding accepted
+accepted-fits room sz pos n h p = omega arith
+
+-- a file has room for its own bytes
+pub room-own : (G : Geometry) (f : ℕ → ℕ) (h : Holder) (cs : List ℕ) (st sz : ℕ) → h ≡ fileHolder (G .cb) st sz → Owns (G .last) f h cs → sz ≤ roomFor (G .last) (G .cb) f cs
+unfolding roomFor
+room-own G f h cs st sz is o = omega (arith, file-fits G f h cs st sz is o, mul-le-mul-right (G .cb) (more (length cs) (length (freeClusters (G .last) f))))
+  where
+    more : (a b : ℕ) → a ≤ a + b
+    more a b = omega arith
+
+-- who lacks no cluster keeps its chain, and the table stays
+pub lacks-none : (last cb : ℕ) (f : ℕ → ℕ) (cs : List ℕ) (n : ℕ) → n ≤ length cs * cb → 0 < cb → (longerChain last cb f cs n ≡ cs) × (longerTable last cb f cs n ≡ f)
+unfolding longerChain longerTable lacking extended
+lacks-none last cb f cs n l p =
+    let z : clustersFor cb n - length cs ≡ 0 = omega (arith, clusters-least cb p n (length cs) l) in
+    (rw z (append-nil cs), rw z refl)

@@ -1,0 +1,52 @@
+-- What the value of a table entry may be. A table is a function from cluster to value; last is the last cluster's number.
+use Prim.Native.Nat.{ℕ, _≤_}
+use mathlib.Core.Path.{_≡_}
+use mathlib.Core.Logic.{_⊎_}
+use mathlib.Core.Bool.{Bool, _&&_}
+use lib.Dec.{leb, eqb}
+use Rattle.chains.specs.Tests.{bit}
+use Rattle.chains.specs.Sums.{sumClusters}
+
+-- "2 to the last cluster, the next cluster". It is also what a cluster's own number must be.
+abbrev pub Link : ℕ → ℕ → Type 0
+Link last v = (2 ≤ v) × (v ≤ last)
+
+-- "FF8 to FFF the end"
+abbrev pub End : ℕ → Type 0
+End v = (0xff8 ≤ v) × (v ≤ 0xfff)
+
+-- "FF0 to FF7 set aside"
+abbrev pub Aside : ℕ → Type 0
+Aside v = (0xff0 ≤ v) × (v ≤ 0xff7)
+
+-- "a link or an end": the value of a cluster in a chain
+abbrev pub Used : ℕ → ℕ → Type 0
+Used last v = Link last v ⊎ End v
+
+-- one of "the values above"; "000 free"
+pub data Valid (last : ℕ) (v : ℕ) : Type 0 where
+  free : v ≡ 0 → Valid last v
+  used : Used last v → Valid last v
+  aside : Aside v → Valid last v
+
+-- ---- the same as tests
+
+abbrev pub freeb : ℕ → Bool
+freeb v = eqb v 0
+
+unfoldable pub linkb : ℕ → ℕ → Bool
+linkb last v = leb 2 v && leb v last
+
+unfoldable pub endb : ℕ → Bool
+endb v = leb 0xff8 v && leb v 0xfff
+
+abbrev pub asideb : ℕ → Bool
+asideb v = leb 0xff0 v && leb v 0xff7
+
+-- ---- "free and aside are numbers of table values"
+
+abbrev pub freeCount : ℕ → (ℕ → ℕ) → ℕ
+freeCount last f = sumClusters last (λ c. bit (freeb (f c)))
+
+abbrev pub asideCount : ℕ → (ℕ → ℕ) → ℕ
+asideCount last f = sumClusters last (λ c. bit (asideb (f c)))

@@ -1,0 +1,35 @@
+-- Bytes put into a file: what its bytes are then, and what the image is then.
+use Prim.Native.Nat.{ℕ, zero, suc, _+_, _-_, _*_, min}
+use mathlib.Core.List.{List, _++_}
+use lib.ListN.{length, getD, set, take, drop, replicate}
+use Rattle.chains.specs.Free.{freeClusters}
+use Rattle.chains.specs.Content.{byteAt}
+
+-- "room for (own clusters + free) times cluster bytes"
+unfoldable pub roomFor : ℕ → ℕ → (ℕ → ℕ) → List ℕ → ℕ
+roomFor last cb f cs = (length cs + length (freeClusters last f)) * cb
+
+-- "the smaller of the length and room less pointer; 0 when the pointer is at or past the room"
+unfoldable pub accepted : ℕ → ℕ → ℕ → ℕ
+accepted room pos n = min n (room - pos)
+
+-- bs over xs, from byte pos on
+unfoldable pub splice : List ℕ → ℕ → List ℕ → List ℕ
+splice xs pos bs = take pos xs ++ (bs ++ drop (pos + length bs) xs)
+
+-- the bytes of a file after bs were put at pos: "bytes between the old size and the pointer become zero"
+unfoldable pub written : List ℕ → ℕ → List ℕ → List ℕ
+written xs pos bs = splice (xs ++ replicate (pos - length xs) 0) pos bs
+
+-- the image after the first n of bs were stored along the chain cs, from its byte pos on
+unfoldable pub poured : ℕ → ℕ → List ℕ → List ℕ → ℕ → List ℕ → ℕ → List ℕ
+poured base cb img cs pos bs zero = img
+poured base cb img cs pos bs (suc n) = set (poured base cb img cs pos bs n) (byteAt base cb cs (pos + n)) (getD bs n 0)
+
+-- the image after zeros were stored between the size and pos
+unfoldable pub filledImage : ℕ → ℕ → List ℕ → List ℕ → ℕ → ℕ → List ℕ
+filledImage base cb img cs size pos = poured base cb img cs size (replicate (pos - size) 0) (pos - size)
+
+-- the image after bs were put at pos into a file of size bytes with the chain cs
+unfoldable pub writtenImage : ℕ → ℕ → List ℕ → List ℕ → ℕ → ℕ → List ℕ → List ℕ
+writtenImage base cb img cs size pos bs = poured base cb (filledImage base cb img cs size pos) cs pos bs (length bs)
