@@ -1,0 +1,2 @@
+-- The laws of the definition beside this folder.
+pub mod Offset

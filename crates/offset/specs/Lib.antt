@@ -1,0 +1,3 @@
+-- The arithmetic of seek.
+pub mod Offset
+pub mod Laws

@@ -1,0 +1,11 @@
+// Prints document 01's worked numbers, computed by the library. The file stdout beside src/ has them as the paper prints them.
+mod print;
+mod run;
+
+fn main() {
+    run::table_entries();
+    run::sectors();
+    run::stamps();
+    run::pointers();
+    run::sizes();
+}
