@@ -1,5 +1,6 @@
 // The table's entries: read, written in both copies, what their values mean, how many are free or set aside.
-use image::{get16, put16};
+use image::get16;
+use image::put16;
 ghost use mathlib.Core.Path.{_≡_};
 ghost use Prim.Native.Nat.{ℕ, _+_, _-_, _*_, _/_, _≤_, _<_};
 ghost use lib.ListN.{length};

@@ -69,11 +69,23 @@ module _ (l : List ℕ) (i last : ℕ) (answer : Found) (inv : lowest (freeAt l)
 
 -- ---- what they mean, for any test
 
--- equal tests count the same
-pub count-same : (p q : ℕ → Bool) → ((i : ℕ) → p i ≡ q i) → (s f : ℕ) → count p s f ≡ count q s f
+-- tests that are equal there count the same, and have the same lowest
+module _ (p q : ℕ → Bool) where
+  pub count-same : (s f : ℕ) → ((i : ℕ) → s ≤ i → i < s + f → p i ≡ q i) → count p s f ≡ count q s f
+  unfolding count
+  count-same s zero h = refl
+  count-same s (suc f) h = ap₂ _+_ (ap (λ b. cond b 1 0) (h s (omega arith) (omega arith))) (count-same (s + 1) f (λ i j k. h i (omega arith) (omega arith)))
+
+  pub lowest-same : (s f : ℕ) → ((i : ℕ) → s ≤ i → i < s + f → p i ≡ q i) → lowest p s f ≡ lowest q s f
+  unfolding lowest
+  lowest-same s zero h = refl
+  lowest-same s (suc f) h = ap₂ (λ b r. cond b (At s) r) (h s (omega arith) (omega arith)) (lowest-same (s + 1) f (λ i j k. h i (omega arith) (omega arith)))
+
+-- the last of them apart
+pub count-last : (p : ℕ → Bool) (s f : ℕ) → count p s (suc f) ≡ count p s f + cond (p (s + f)) 1 0
 unfolding count
-count-same p q h s zero = refl
-count-same p q h s (suc f) = ap₂ _+_ (ap (λ b. cond b 1 0) (h s)) (count-same p q h (s + 1) f)
+count-last p s zero = let e : s + 0 ≡ s = omega arith in rw e (omega arith)
+count-last p s (suc f) = let e : s + 1 + f ≡ s + suc f = omega arith in omega (arith, rw e at (count-last p (s + 1) f))
 
 pub count-bound : (p : ℕ → Bool) (s f : ℕ) → count p s f ≤ f
 unfolding count
@@ -154,7 +166,7 @@ module _ (last : ℕ) (l : List ℕ) where
   -- 000 is the one value from 0 to 0
   pub count-free : (r : ℕ) → r ≡ count (amongAt 0 0 l) 2 (last + 1 - 2) → r ≡ freeCount last l
   unfolding freeCount
-  count-free r e = e ∙ count-same _ (freeAt l) (λ n. zero-among (entryOf l n)) 2 (last + 1 - 2)
+  count-free r e = e ∙ count-same (amongAt 0 0 l) (freeAt l) 2 (last + 1 - 2) (λ n h k. zero-among (entryOf l n))
     where
       zero-among : (v : ℕ) → among 0 0 v ≡ eqb v 0
       zero-among v = elim (ℕ-discrete v 0) [ yes q ↦ rw q | no q ↦ rw (ne-eqb v 0 q, lt-leb v 0 (omega arith), le-leb 0 v (omega arith)) ]

@@ -81,7 +81,7 @@ module _ (base : ℕ) (l : List ℕ) (n v : ℕ) where
 
   module _ (fits : wordAt base n + 2 ≤ length l) where
     -- the bytes of the entry's word
-    setAt-inside : (i : ℕ) → i < 2 → getD (setAt base l n v) (wordAt base n + i) 0 ≡ getD (digits (kept (even n) (number l (wordAt base n) 2) v) 2) i 0
+    pub setAt-inside : (i : ℕ) → i < 2 → getD (setAt base l n v) (wordAt base n + i) 0 ≡ getD (digits (kept (even n) (number l (wordAt base n) 2) v) 2) i 0
     unfolding setAt
     setAt-inside i h =
         let d = length-digits (kept (even n) (number l (wordAt base n) 2) v) 2 in
