@@ -1,0 +1,56 @@
+-- Entries of the table: 12 bits each, two of them in three bytes. A copy of the table starts at byte base: copy 1 at byte
+-- 512, copy 2 at byte second.
+use Prim.Native.Nat.{ℕ, _+_, _*_, _/_, _%_, _≤_, _<_}
+use mathlib.Core.Bool.{Bool, true, false, cond, _&&_}
+use mathlib.Core.List.{List}
+use mathlib.Core.Path.{_≡_}
+use lib.Dec.{eqb, leb}
+use lib.ListN.{length, getD}
+use Rattle.image.specs.Store.{stored}
+use Rattle.image.specs.Numbers.{number, digits}
+
+-- "Entry n is the 16-bit little-endian word at byte n times 3 divided by 2, rounded down"
+abbrev pub wordAt : ℕ → ℕ → ℕ
+wordAt base n = base + n * 3 / 2
+
+abbrev pub even : ℕ → Bool
+even n = eqb (n % 2) 0
+
+-- "low 12 bits for even n, high 12 for odd"
+unfoldable pub taken : Bool → ℕ → ℕ
+taken true w = w % 4096
+taken false w = w / 16
+
+-- the word with v put in. "Writing it keeps the neighbour's four bits"
+unfoldable pub kept : Bool → ℕ → ℕ → ℕ
+kept true w v = w / 4096 * 4096 + v
+kept false w v = v * 16 + w % 16
+
+-- entry n of the copy at byte base
+unfoldable pub entryAt : ℕ → List ℕ → ℕ → ℕ
+entryAt base l n = taken (even n) (number l (wordAt base n) 2)
+
+-- l with v stored as that entry
+unfoldable pub setAt : ℕ → List ℕ → ℕ → ℕ → List ℕ
+setAt base l n v = stored l (wordAt base n) (digits (kept (even n) (number l (wordAt base n) 2) v) 2)
+
+-- entry n: that of copy 1
+abbrev pub entryOf : List ℕ → ℕ → ℕ
+entryOf l n = entryAt 512 l n
+
+-- l with v stored as entry n "in both copies"
+unfoldable pub setBoth : ℕ → List ℕ → ℕ → ℕ → List ℕ
+setBoth second l n v = setAt second (setAt 512 l n v) n v
+
+-- each copy holds the whole word of entry n: copy 1 before copy 2, copy 2 before the end
+pub record Reaches (second : ℕ) (l : List ℕ) (n : ℕ) : Type 0 where
+  pub low : wordAt 512 n + 2 ≤ second
+  pub high : wordAt second n + 2 ≤ length l
+
+-- the copies, of size bytes each, are the same
+abbrev pub Agree : ℕ → ℕ → List ℕ → Type 0
+Agree second size l = (j : ℕ) → j < size → getD l (512 + j) 0 ≡ getD l (second + j) 0
+
+-- the table as a function: the entry of each cluster, and 0 where there is no cluster
+unfoldable pub tableOf : ℕ → List ℕ → ℕ → ℕ
+tableOf last l c = cond (leb 2 c && leb c last) (entryOf l c) 0

@@ -1,0 +1,164 @@
+// The table's entries: read, written in both copies, what their values mean, how many are free or set aside.
+use image::get16;
+use image::put16;
+ghost use mathlib.Core.Path.{_≡_};
+ghost use Prim.Native.Nat.{ℕ, _+_, _-_, _*_, _/_, _≤_, _<_};
+ghost use lib.ListN.{length};
+ghost use Rattle.table.specs.Entries.{wordAt, even, taken, kept, entryAt, entryOf, setAt, setBoth, Reaches};
+ghost use Rattle.table.specs.Values.{meaningOf};
+ghost use Rattle.table.specs.Counts.{count, among, amongAt, freeCount, asideCount, lowestFree};
+
+// The 12 bits of entry n in its word.
+fn bits_of(n: usize, w: u16) -> u16
+    ensures { λ r. ⌜ r ≡ taken (even n) w ⌝ }
+{
+    if n % 2 == 0 { w % 4096 } else { w / 16 }
+}
+
+// The word of entry n with v put in; the other four bits are the neighbour's.
+fn with_bits(n: usize, w: u16, v: u16) -> u16
+    requires { ⌜ v < 4096 ⌝ }
+    ensures { λ r. ⌜ r ≡ kept (even n) w v ⌝ }
+{
+    if n % 2 == 0 {
+        w / 4096 * 4096 + v
+    } else {
+        v * 16 + w % 16
+    }
+}
+
+// Entry n of the copy that starts at byte base.
+pub fn entry_at(img: &[u8], base: usize, n: usize) -> u16
+    requires { ⌜ n ≤ 4095 ⌝ }
+    requires { ⌜ wordAt base n + 2 ≤ length (now img) ⌝ }
+    ensures { λ r. ⌜ r ≡ entryAt base (now (img .entry)) n ⌝ }
+{
+    bits_of(n, get16(img, base + n * 3 / 2))
+}
+
+// Entry n, from copy 1.
+pub fn entry(img: &[u8], n: usize) -> u16
+    requires { ⌜ n ≤ 4095 ⌝ }
+    requires { ⌜ wordAt 512 n + 2 ≤ length (now img) ⌝ }
+    ensures { λ r. ⌜ r ≡ entryOf (now (img .entry)) n ⌝ }
+{
+    entry_at(img, 512, n)
+}
+
+// Stores v as entry n of the copy that starts at byte base.
+pub fn set_at(img: &mut [u8], base: usize, n: usize, v: u16)
+    requires { ⌜ n ≤ 4095 ⌝ }
+    requires { ⌜ wordAt base n + 2 ≤ length (now img) ⌝ }
+    requires { ⌜ v < 4096 ⌝ }
+    ensures { λ _. ⌜ now (img .exit) ≡ setAt base (now (img .entry)) n v ⌝ }
+{
+    let at = base + n * 3 / 2;
+    let w = get16(img, at);
+    put16(img, at, with_bits(n, w, v));
+}
+
+// Stores v as entry n, in both copies.
+pub fn set_entry(img: &mut [u8], second: usize, n: usize, v: u16)
+    requires { ⌜ n ≤ 4095 ⌝ }
+    requires { ⌜ Reaches second (now img) n ⌝ }
+    requires { ⌜ v < 4096 ⌝ }
+    ensures { λ _. ⌜ now (img .exit) ≡ setBoth second (now (img .entry)) n v ⌝ }
+{
+    set_at(img, 512, n, v);
+    set_at(img, second, n, v);
+}
+
+// What a value means.
+pub enum Meaning {
+    Free,
+    Next(usize),
+    Aside,
+    End,
+    NoneOfThese,
+}
+
+pub fn meaning_of(v: u16, last: usize) -> Meaning
+    ensures { λ r. ⌜ r ≡ meaningOf last v ⌝ }
+{
+    if v == 0 {
+        return Meaning::Free;
+    }
+    if v < 2 {
+        return Meaning::NoneOfThese;
+    }
+    let next = v as usize;
+    if next <= last {
+        return Meaning::Next(next);
+    }
+    if v < 0xFF0 {
+        return Meaning::NoneOfThese;
+    }
+    if v <= 0xFF7 {
+        return Meaning::Aside;
+    }
+    Meaning::End
+}
+
+// Is a value one of low to high?
+fn is_among(v: u16, low: u16, high: u16) -> bool
+    ensures { λ r. ⌜ r ≡ among low high v ⌝ }
+{
+    low <= v && v <= high
+}
+
+// How many of the entries from 2 to the last have a value from low to high.
+fn count_among(img: &[u8], last: usize, low: u16, high: u16) -> usize
+    requires { ⌜ last ≤ 4079 ⌝ }
+    requires { ⌜ wordAt 512 last + 2 ≤ length (now img) ⌝ }
+    ensures { λ r. ⌜ r ≡ count (amongAt low high (now (img .entry))) 2 (last + 1 - 2) ⌝ }
+{
+    let mut found: usize = 0;
+    let mut n: usize = 2;
+    while n <= last {
+        if is_among(entry(img, n), low, high) {
+            found += 1;
+        }
+        n += 1;
+    }
+    found
+}
+
+// How many entries are free.
+pub fn free_count(img: &[u8], last: usize) -> usize
+    requires { ⌜ last ≤ 4079 ⌝ }
+    requires { ⌜ wordAt 512 last + 2 ≤ length (now img) ⌝ }
+    ensures { λ r. ⌜ r ≡ freeCount last (now (img .entry)) ⌝ }
+{
+    count_among(img, last, 0, 0)
+}
+
+// How many entries are set aside.
+pub fn aside_count(img: &[u8], last: usize) -> usize
+    requires { ⌜ last ≤ 4079 ⌝ }
+    requires { ⌜ wordAt 512 last + 2 ≤ length (now img) ⌝ }
+    ensures { λ r. ⌜ r ≡ asideCount last (now (img .entry)) ⌝ }
+{
+    count_among(img, last, 0xFF0, 0xFF7)
+}
+
+// A place that was looked for.
+pub enum Found {
+    At(usize),
+    Nothing,
+}
+
+// The lowest free entry.
+pub fn lowest_free(img: &[u8], last: usize) -> Found
+    requires { ⌜ last ≤ 4079 ⌝ }
+    requires { ⌜ wordAt 512 last + 2 ≤ length (now img) ⌝ }
+    ensures { λ r. ⌜ r ≡ lowestFree last (now (img .entry)) ⌝ }
+{
+    let mut lowest: usize = 2;
+    while lowest <= last {
+        if entry(img, lowest) == 0 {
+            return Found::At(lowest);
+        }
+        lowest += 1;
+    }
+    Found::Nothing
+}
