@@ -39,7 +39,3 @@ sectorOf k n = (n - 2) * k .per + firstData k
 
 abbrev pub clusterAt : Kind → ℕ → ℕ
 clusterAt k n = 512 * sectorOf k n
-
--- the size divided by the cluster's bytes, rounded up
-unfoldable pub neededFor : ℕ → ℕ → ℕ
-neededFor bytes size = (size + (bytes - 1)) / bytes

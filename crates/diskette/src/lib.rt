@@ -3,7 +3,8 @@ ghost use mathlib.Core.Path.{_≡_};
 ghost use Prim.Native.Nat.{ℕ, _≤_, _<_};
 ghost use lib.ListN.{length};
 ghost use Rattle.diskette.specs.Kinds.{named, Usable};
-ghost use Rattle.diskette.specs.Places.{firstData, clusterBytes, clusters, lastCluster, rootEntries, copyTwo, slotAt, sectorOf, clusterAt, neededFor};
+ghost use Rattle.diskette.specs.Places.{firstData, clusterBytes, clusters, lastCluster, rootEntries, copyTwo, slotAt, sectorOf, clusterAt};
+ghost use Rattle.chains.specs.Sizes.{clustersFor};
 ghost use Rattle.diskette.specs.Images.{kindOfImage, kindOfArea};
 
 // Five numbers say all of a kind: the rest is computed from them.
@@ -144,7 +145,7 @@ impl Kind {
     // How many clusters a file of that size needs.
     pub fn needed_for(self, size: u32) -> usize
         requires { ⌜ Usable self ⌝ }
-        ensures { λ r. ⌜ r ≡ neededFor (clusterBytes self) size ⌝ }
+        ensures { λ r. ⌜ r ≡ clustersFor (clusterBytes self) size ⌝ }
     {
         let bytes = self.cluster_bytes();
         (size as usize + (bytes - 1)) / bytes

@@ -1,31 +1,21 @@
 -- What the 12 bits of an entry mean, on a volume with that last cluster.
-use Prim.Native.Nat.{ℕ, _≤_}
+use Prim.Native.Nat.{ℕ}
 use mathlib.Core.Bool.{cond}
 use mathlib.Core.Logic.{_≢_}
 use mathlib.Core.Path.{_≡_}
 use lib.Dec.{eqb, leb, ltb}
+use Rattle.chains.specs.Values as value
 use Rattle.table.specs.declared.Meaning.{Meaning}
 use Rattle.table.specs.declared.Meaning.the-variants.{Free, Next, Aside, End, NoneOfThese}
 
--- "2 to the last cluster, the next cluster"
-abbrev pub IsNext : ℕ → ℕ → Type 0
-IsNext last v = (2 ≤ v) × (v ≤ last)
-
--- "FF0 to FF7 set aside"
-abbrev pub IsAside : ℕ → Type 0
-IsAside v = (0xFF0 ≤ v) × (v ≤ 0xFF7)
-
--- "FF8 to FFF the end"
-abbrev pub IsEnd : ℕ → Type 0
-IsEnd v = (0xFF8 ≤ v) × (v ≤ 0xFFF)
-
--- the values that each case stands for; "000 free"
+-- the values that each case stands for: "000 free; 2 to the last cluster, the next cluster; FF0 to FF7 set aside; FF8 to
+-- FFF the end"
 abbrev pub Values : Meaning → ℕ → ℕ → Type 0
 Values Free last v = v ≡ 0
-Values (Next n) last v = IsNext last v × (n ≡ v)
-Values Aside last v = IsAside v
-Values End last v = IsEnd v
-Values NoneOfThese last v = (v ≢ 0) × (¬ IsNext last v) × (¬ IsAside v) × (¬ IsEnd v)
+Values (Next n) last v = value.Link last v × (n ≡ v)
+Values Aside last v = value.Aside v
+Values End last v = value.End v
+Values NoneOfThese last v = (v ≢ 0) × (¬ value.Link last v) × (¬ value.Aside v) × (¬ value.End v)
 
 -- the same as a function, for the values of 12 bits
 unfoldable pub meaningOf : ℕ → ℕ → Meaning

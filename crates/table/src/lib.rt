@@ -1,12 +1,15 @@
 // The table's entries: read, written in both copies, what their values mean, how many are free or set aside.
 use image::get16;
 use image::put16;
+use search::Found;
 ghost use mathlib.Core.Path.{_≡_};
 ghost use Prim.Native.Nat.{ℕ, _+_, _-_, _*_, _/_, _≤_, _<_};
 ghost use lib.ListN.{length};
-ghost use Rattle.table.specs.Entries.{wordAt, even, taken, kept, entryAt, entryOf, setAt, setBoth, Reaches};
+ghost use Rattle.chains.specs.Values.{freeCount, asideCount};
+ghost use Rattle.search.specs.Search.{count};
+ghost use Rattle.table.specs.Entries.{wordAt, even, taken, kept, entryAt, entryOf, setAt, setBoth, Reaches, tableOf};
 ghost use Rattle.table.specs.Values.{meaningOf};
-ghost use Rattle.table.specs.Counts.{count, among, amongAt, freeCount, asideCount, lowestFree};
+ghost use Rattle.table.specs.Counts.{among, amongAt, lowestFree};
 
 // The 12 bits of entry n in its word.
 fn bits_of(n: usize, w: u16) -> u16
@@ -127,7 +130,7 @@ fn count_among(img: &[u8], last: usize, low: u16, high: u16) -> usize
 pub fn free_count(img: &[u8], last: usize) -> usize
     requires { ⌜ last ≤ 4079 ⌝ }
     requires { ⌜ wordAt 512 last + 2 ≤ length (now img) ⌝ }
-    ensures { λ r. ⌜ r ≡ freeCount last (now (img .entry)) ⌝ }
+    ensures { λ r. ⌜ r ≡ freeCount last (tableOf last (now (img .entry))) ⌝ }
 {
     count_among(img, last, 0, 0)
 }
@@ -136,15 +139,9 @@ pub fn free_count(img: &[u8], last: usize) -> usize
 pub fn aside_count(img: &[u8], last: usize) -> usize
     requires { ⌜ last ≤ 4079 ⌝ }
     requires { ⌜ wordAt 512 last + 2 ≤ length (now img) ⌝ }
-    ensures { λ r. ⌜ r ≡ asideCount last (now (img .entry)) ⌝ }
+    ensures { λ r. ⌜ r ≡ asideCount last (tableOf last (now (img .entry))) ⌝ }
 {
     count_among(img, last, 0xFF0, 0xFF7)
-}
-
-// A place that was looked for.
-pub enum Found {
-    At(usize),
-    Nothing,
 }
 
 // The lowest free entry.

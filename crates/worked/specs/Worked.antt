@@ -6,7 +6,8 @@ use lib.IntN.{ℤ, pos, negsuc}
 use Rattle.image.specs.Store.{part, stored}
 use Rattle.image.specs.Numbers.{number, digits}
 use Rattle.diskette.specs.Kinds.{kindFE, kindFD}
-use Rattle.diskette.specs.Places.{clusterBytes, sectorOf, neededFor}
+use Rattle.diskette.specs.Places.{clusterBytes, sectorOf}
+use Rattle.chains.specs.Sizes.{clustersFor}
 use Rattle.table.specs.Entries.{entryAt, setAt}
 use Rattle.stamps.specs.Stamps.{packed, timeFits, dateFits}
 use Rattle.stamps.specs.declared.Stamp.{Stamp}
@@ -67,12 +68,12 @@ cases =
     ∷ (timeOf (packed (stamp 1983 9 1 18 5 30)) gives refused 43)
     ∷ (pointer (movedBy 10 (negsuc 9)) gives is 0)
     ∷ (pointer (movedBy 10 (negsuc 10)) gives refused 1)
-    ∷ (is (neededFor (clusterBytes kindFE) 512) gives is 1)
-    ∷ (is (neededFor (clusterBytes kindFE) 513) gives is 2)
-    ∷ (is (neededFor (clusterBytes kindFE) 0) gives is 0)
+    ∷ (is (clustersFor (clusterBytes kindFE) 512) gives is 1)
+    ∷ (is (clustersFor (clusterBytes kindFE) 513) gives is 2)
+    ∷ (is (clustersFor (clusterBytes kindFE) 0) gives is 0)
     ∷ []
 
 -- what our definitions give is what the paper prints, case by case
 pub worked : map (λ (c : Case). c .ours) cases ≡ map (λ (c : Case). c .paper) cases
-unfolding entryAt setAt stored number digits packed timeFits dateFits movedBy neededFor
+unfolding entryAt setAt stored number digits packed timeFits dateFits movedBy clustersFor
 worked = refl

@@ -1,6 +1,5 @@
 // The worked numbers, by topic.
 use crate::print;
-
 ghost use mathlib.Core.Path.{_≡_};
 
 // P1 and P2: entries of a table that starts at byte 0.
@@ -39,9 +38,18 @@ fn sector(byte: u8, n: usize) -> u64 {
 
 // P3 to P5.
 pub fn sectors() {
-    print::decimal(b"P3 FD, cluster 2 is sector ", sector(diskette::Kind::FD, 2));
-    print::decimal(b"P4 cluster 355 is sector ", sector(diskette::Kind::FD, 355));
-    print::decimal(b"P5 FE, cluster 314 is sector ", sector(diskette::Kind::FE, 314));
+    print::decimal(
+        b"P3 FD, cluster 2 is sector ",
+        sector(diskette::Kind::FD, 2),
+    );
+    print::decimal(
+        b"P4 cluster 355 is sector ",
+        sector(diskette::Kind::FD, 355),
+    );
+    print::decimal(
+        b"P5 FE, cluster 314 is sector ",
+        sector(diskette::Kind::FE, 314),
+    );
 }
 
 // A stamp of 1983-09-01 at 18:05 and a two-second step.

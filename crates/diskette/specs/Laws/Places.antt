@@ -1,10 +1,8 @@
 -- The parts lie one after the other, and a cluster in range lies whole in the image.
-use Prim.Native.Nat.{ℕ, suc, _+_, _-_, _*_, _/_, _≤_, _<_}
+use Prim.Native.Nat.{ℕ, _+_, _-_, _*_, _/_, _≤_, _<_}
 use native.Mathlib.Omega.{arith}
-use native.Mathlib.Nat.{mul-le-mul-right, div-lt-iff-lt-mul}
-use native.Mathlib.Decide.{ℕ-discrete, decLt}
-use mathlib.Core.Path.{_≡_, refl, ap}
-use Rattle.diskette.specs.Places.{firstData, clusterBytes, clusters, lastCluster, rootEntries, copyTwo, slotAt, sectorOf, clusterAt, neededFor}
+use native.Mathlib.Nat.{mul-le-mul-right}
+use Rattle.diskette.specs.Places.{firstData, clusterBytes, clusters, lastCluster, rootEntries, slotAt, sectorOf, clusterAt}
 use Rattle.diskette.specs.Kinds.{Usable}
 use Rattle.diskette.specs.declared.Kind.{Kind}
 
@@ -28,13 +26,3 @@ module _ (k : Kind) (u : Usable k) where
   -- a table entry of either copy lies within that copy
   pub entry-within : (n : ℕ) → n ≤ lastCluster k → n * 3 / 2 + 2 ≤ 512 * k .fat
   entry-within n h = omega arith
-
--- ---- how many clusters a size needs
-
-pub needed-least : (b : ℕ) → 0 < b → (n c : ℕ) → n ≤ c * b → neededFor b n ≤ c
-unfolding neededFor
-needed-least b p n c h = omega (arith, div-lt-iff-lt-mul {k = b} {x = n + (b - 1)} {y = suc c} p .1 (omega (arith, p)))
-
-pub needed-holds : (b : ℕ) → 0 < b → (n : ℕ) → n ≤ neededFor b n * b
-unfolding neededFor
-needed-holds b p n = omega (arith, p, div-lt-iff-lt-mul {k = b} {x = n + (b - 1)} {y = suc ((n + (b - 1)) / b)} p .0 (omega arith))

@@ -1,4 +1,4 @@
-use Rattle.table.specs.Counts.{asideCount}
+use Rattle.table.specs.Laws.Counts.{count-aside}
 use borrow.Author.Needs.{needs}
 use Rattle.table.proofs.aside_count.Statement.{statement}
 use Rattle.table.proofs.aside_count.Tie as tie
@@ -7,8 +7,7 @@ count-among-requires : tie.Need-count-among-requires
 count-among-requires c κs = search needs
 
 returns : tie.Need-returns
-unfolding asideCount
-returns c = search needs
+returns c = search count-aside
 
 pub aside-count-spec : {M : Type 1} → statement M
 aside-count-spec = tie.close (tie.spec count-among-requires returns)

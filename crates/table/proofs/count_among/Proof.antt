@@ -3,7 +3,8 @@ use borrow.Author.Needs.{needs}
 use Prim.Native.Nat.{_+_, _-_, _≤_}
 use mathlib.Core.Path.{_≡_}
 use mathlib.Core.Logic.{⊎-elim}
-use Rattle.table.specs.Counts.{count, amongAt}
+use Rattle.search.specs.Search.{count}
+use Rattle.table.specs.Counts.{amongAt}
 use Rattle.table.specs.Laws.Counts.{count-hit, count-miss, count-done}
 use Rattle.table.proofs.count_among.Statement.{statement}
 use Rattle.table.proofs.count_among.Tie as tie

@@ -3,13 +3,13 @@ use borrow.Author.Needs.{needs}
 use Prim.Native.Nat.{_+_, _-_, _≤_}
 use mathlib.Core.Path.{_≡_}
 use Rattle.table.specs.Counts.{freeAt, lowestFree}
-use Rattle.table.specs.Counts as counts
+use Rattle.search.specs.Search as find
 use Rattle.table.specs.Laws.Counts.{lowest-hit, lowest-miss, lowest-done}
 use Rattle.table.proofs.lowest_free.Statement.{statement}
 use Rattle.table.proofs.lowest_free.Tie as tie
 
 abbrev Inv-loop : tie.InvT-loop
-Inv-loop img last lowest₀ lowest = (2 ≤ lowest) × (counts.lowest (freeAt img) lowest (last + 1 - lowest) ≡ lowestFree last img)
+Inv-loop img last lowest₀ lowest = (2 ≤ lowest) × (find.lowest (freeAt img) lowest (last + 1 - lowest) ≡ lowestFree last img)
 
 abbrev μ-loop : tie.MeasureT-loop
 μ-loop img last lowest₀ lowest = last + 1 - lowest

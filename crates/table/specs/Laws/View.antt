@@ -7,7 +7,7 @@ use mathlib.Core.Bool.{Bool, true, false, cond, _&&_}
 use mathlib.Core.List.{List}
 use mathlib.Core.Logic.{_⊎_, inl, inr, _≢_}
 use mathlib.Core.Path.{_≡_, refl, sym, _∙_, ap}
-use lib.Dec.{eqb, leb}
+use lib.Dec.{leb}
 use lib.ListN.{length, getD}
 use borrow.Author.Tests.{le-leb, lt-leb}
 use Rattle.image.specs.Bytes.{Bytes}
@@ -15,11 +15,8 @@ use Rattle.image.specs.Store.{stored}
 use Rattle.image.specs.Laws.Store.{stored-outside}
 use Rattle.image.specs.Laws.Numbers.{number-same}
 use Rattle.table.specs.Entries.{wordAt, entryOf, setBoth, Reaches, Agree, tableOf}
-use Rattle.table.specs.Counts.{among, amongAt, freeAt, count, lowest, freeCount, asideCount, lowestFree}
 use Rattle.table.specs.Laws.OneCopy.{entry-small, entry-same}
 use Rattle.table.specs.Laws.Copies.{setBoth-same, setBoth-other}
-use Rattle.table.specs.Laws.Counts.{count-same, lowest-same}
-use Rattle.table.specs.declared.Found.{Found}
 
 -- ---- its values
 
@@ -74,23 +71,6 @@ module _ (last second : ℕ) (l : List ℕ) (n v : ℕ) (all : Reaches second l 
 module _ (last : ℕ) (l m : List ℕ) where
   pub table-same : ((j : ℕ) → 512 ≤ j → j < wordAt 512 last + 2 → getD m j 0 ≡ getD l j 0) → (c : ℕ) → tableOf last m c ≡ tableOf last l c
   table-same e c = table-by last m l c (λ h k. entry-same 512 512 m l c (number-same m l (wordAt 512 c) (wordAt 512 c) 2 (λ i t. e (wordAt 512 c + i) (omega arith) (omega arith))))
-
-  -- the counts are those of the table
-  module _ (e : (c : ℕ) → tableOf last m c ≡ tableOf last l c) where
-    entries : (c : ℕ) → 2 ≤ c → c < 2 + (last + 1 - 2) → entryOf m c ≡ entryOf l c
-    entries c h k = sym (table-inside last m c h (omega arith)) ∙ e c ∙ table-inside last l c h (omega arith)
-
-    pub free-same : freeCount last m ≡ freeCount last l
-    unfolding freeCount
-    free-same = count-same (freeAt m) (freeAt l) 2 (last + 1 - 2) (λ c h k. ap (λ v. eqb v 0) (entries c h k))
-
-    pub aside-same : asideCount last m ≡ asideCount last l
-    unfolding asideCount
-    aside-same = count-same (amongAt 0xFF0 0xFF7 m) (amongAt 0xFF0 0xFF7 l) 2 (last + 1 - 2) (λ c h k. ap (among 0xFF0 0xFF7) (entries c h k))
-
-    pub lowest-free-same : lowestFree last m ≡ lowestFree last l
-    unfolding lowestFree
-    lowest-free-same = lowest-same (freeAt m) (freeAt l) 2 (last + 1 - 2) (λ c h k. ap (λ v. eqb v 0) (entries c h k))
 
 pub table-beside : (last : ℕ) (l : List ℕ) (at : ℕ) (s : List ℕ) → (at + length s ≤ 512) ⊎ (wordAt 512 last + 2 ≤ at) → (c : ℕ) → tableOf last (stored l at s) c ≡ tableOf last l c
 table-beside last l at s (inl p) = table-same last l (stored l at s) (λ j h k. stored-outside l at s j (inr (omega arith)))

@@ -1,4 +1,4 @@
-use Rattle.diskette.specs.Places.{neededFor}
+use Rattle.chains.specs.Sizes.{clustersFor}
 use borrow.Author.Needs.{needs}
 use Rattle.diskette.proofs.Kind.needed_for.Statement.{statement}
 use Rattle.diskette.proofs.Kind.needed_for.Tie as tie
@@ -16,7 +16,7 @@ div-result : tie.Need-div-result
 div-result c = search needs
 
 returns : tie.Need-returns
-unfolding neededFor
+unfolding clustersFor
 returns c = cc
 
 pub needed-for-spec : {M : Type 1} → statement M
