@@ -8,7 +8,7 @@ use Rattle.image.specs.Numbers.{number, digits}
 use Rattle.diskette.specs.Kinds.{kindFE, kindFD}
 use Rattle.diskette.specs.Places.{clusterBytes, sectorOf}
 use Rattle.chains.specs.Sizes.{clustersFor}
-use Rattle.table.specs.Entries.{entryAt, setAt}
+use Rattle.table.specs.Entries.{entryAt, setAt, taken, kept}
 use Rattle.stamps.specs.Stamps.{packed, timeFits, dateFits}
 use Rattle.stamps.specs.declared.Stamp.{Stamp}
 use Rattle.stamps.specs.declared.Packed.{Packed}
@@ -75,5 +75,5 @@ cases =
 
 -- what our definitions give is what the paper prints, case by case
 pub worked : map (λ (c : Case). c .ours) cases ≡ map (λ (c : Case). c .paper) cases
-unfolding entryAt setAt stored number digits packed timeFits dateFits movedBy clustersFor
+unfolding entryAt setAt taken kept stored number digits packed timeFits dateFits movedBy clustersFor
 worked = refl

@@ -12,7 +12,7 @@ pub fn line_end() {
 // A label, a decimal number and the line's end.
 pub fn decimal(text: &[u8], n: u64) {
     label(text);
-    io::number::print_decimal(1, n);
+    io::print_decimal(1, n);
     line_end();
 }
 
@@ -23,11 +23,16 @@ fn digit(n: u16) -> u8 {
 }
 
 // The lowest two hex digits of n.
-pub fn two_digits(n: u16) {
+fn two_digits(n: u16) {
     io::write_all(1, &[digit(n / 16), digit(n)]);
 }
 
-// The lowest three.
+// A byte.
+pub fn byte(b: u8) {
+    two_digits(b as u16);
+}
+
+// The lowest three hex digits of n.
 pub fn three_digits(n: u16) {
     io::write_all(1, &[digit(n / 256), digit(n / 16), digit(n)]);
 }

@@ -1,7 +1,5 @@
 // The worked numbers, by topic.
 use crate::print;
-ghost use mathlib.Core.Path.{_≡_};
-
 // P1 and P2: entries of a table that starts at byte 0.
 pub fn table_entries() {
     let mut bytes = [0xFDu8, 0xFF, 0xFF, 0x03, 0x40, 0x00];
@@ -12,11 +10,11 @@ pub fn table_entries() {
     print::line_end();
     table::set_at(&mut bytes, 0, 3, 0xFFF);
     print::label(b"P2 ");
-    print::two_digits(bytes[3] as u16);
+    print::byte(bytes[3]);
     print::label(b" ");
-    print::two_digits(bytes[4] as u16);
+    print::byte(bytes[4]);
     print::label(b" ");
-    print::two_digits(bytes[5] as u16);
+    print::byte(bytes[5]);
     print::line_end();
 }
 
