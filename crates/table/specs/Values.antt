@@ -23,6 +23,6 @@ meaningOf last v =
     cond (eqb v 0) Free
     (cond (ltb v 2) NoneOfThese
     (cond (leb v last) (Next v)
-    (cond (ltb v 0xFF0) NoneOfThese
-    (cond (leb v 0xFF7) Aside
-    End))))
+    (cond (leb 0xFF8 v) End
+    (cond (leb 0xFF0 v) Aside
+    NoneOfThese))))

@@ -3,7 +3,7 @@ use image::get16;
 use image::put16;
 use search::Found;
 ghost use mathlib.Core.Path.{_≡_};
-ghost use Prim.Native.Nat.{ℕ, _+_, _-_, _*_, _/_, _≤_, _<_};
+ghost use Prim.Native.Nat.{_+_, _-_, _≤_, _<_};
 ghost use lib.ListN.{length};
 ghost use Rattle.chains.specs.Values.{freeCount, asideCount};
 ghost use Rattle.search.specs.Search.{count};
@@ -93,13 +93,13 @@ pub fn meaning_of(v: u16, last: usize) -> Meaning
     if next <= last {
         return Meaning::Next(next);
     }
-    if v < 0xFF0 {
-        return Meaning::NoneOfThese;
+    if 0xFF8 <= v {
+        return Meaning::End;
     }
-    if v <= 0xFF7 {
+    if 0xFF0 <= v {
         return Meaning::Aside;
     }
-    Meaning::End
+    Meaning::NoneOfThese
 }
 
 // Is a value one of low to high?
@@ -109,15 +109,15 @@ fn is_among(v: u16, low: u16, high: u16) -> bool
     low <= v && v <= high
 }
 
-// How many of the entries from 2 to the last have a value from low to high.
-fn count_among(img: &[u8], last: usize, low: u16, high: u16) -> usize
-    requires { ⌜ last ≤ 4079 ⌝ }
-    requires { ⌜ wordAt 512 last + 2 ≤ length (now img) ⌝ }
-    ensures { λ r. ⌜ r ≡ count (amongAt low high (now (img .entry))) 2 (last + 1 - 2) ⌝ }
+// How many of the entries from 2 on, before entry after, have a value from low to high.
+fn count_among(img: &[u8], after: usize, low: u16, high: u16) -> usize
+    requires { ⌜ after ≤ 4080 ⌝ }
+    requires { ⌜ wordAt 512 (after - 1) + 2 ≤ length (now img) ⌝ }
+    ensures { λ r. ⌜ r ≡ count (amongAt low high (now (img .entry))) 2 (after - 2) ⌝ }
 {
     let mut found: usize = 0;
     let mut n: usize = 2;
-    while n <= last {
+    while n < after {
         if is_among(entry(img, n), low, high) {
             found += 1;
         }
@@ -132,7 +132,7 @@ pub fn free_count(img: &[u8], last: usize) -> usize
     requires { ⌜ wordAt 512 last + 2 ≤ length (now img) ⌝ }
     ensures { λ r. ⌜ r ≡ freeCount last (tableOf last (now (img .entry))) ⌝ }
 {
-    count_among(img, last, 0, 0)
+    count_among(img, last + 1, 0, 0)
 }
 
 // How many entries are set aside.
@@ -141,7 +141,7 @@ pub fn aside_count(img: &[u8], last: usize) -> usize
     requires { ⌜ wordAt 512 last + 2 ≤ length (now img) ⌝ }
     ensures { λ r. ⌜ r ≡ asideCount last (tableOf last (now (img .entry))) ⌝ }
 {
-    count_among(img, last, 0xFF0, 0xFF7)
+    count_among(img, last + 1, 0xFF0, 0xFF7)
 }
 
 // The lowest free entry.
@@ -150,8 +150,9 @@ pub fn lowest_free(img: &[u8], last: usize) -> Found
     requires { ⌜ wordAt 512 last + 2 ≤ length (now img) ⌝ }
     ensures { λ r. ⌜ r ≡ lowestFree last (now (img .entry)) ⌝ }
 {
+    let after = last + 1;
     let mut lowest: usize = 2;
-    while lowest <= last {
+    while lowest < after {
         if entry(img, lowest) == 0 {
             return Found::At(lowest);
         }

@@ -1,3 +1,4 @@
+-- Even or odd picks the half.
 use Rattle.table.specs.Laws.Bits.{bits-even, bits-odd}
 use Rattle.table.proofs.bits_of.Statement.{statement}
 use Rattle.table.proofs.bits_of.Tie as tie

@@ -10,10 +10,10 @@ use Rattle.table.proofs.count_among.Statement.{statement}
 use Rattle.table.proofs.count_among.Tie as tie
 
 abbrev Inv-loop : tie.InvT-loop
-Inv-loop img last low high found₀ n₀ found n = (2 ≤ n) × (found ≤ n) × (found + count (amongAt low high img) n (last + 1 - n) ≡ count (amongAt low high img) 2 (last + 1 - 2))
+Inv-loop img after low high found₀ n₀ found n = (2 ≤ n) × (found ≤ n) × (found + count (amongAt low high img) n (after - n) ≡ count (amongAt low high img) 2 (after - 2))
 
 abbrev μ-loop : tie.MeasureT-loop
-μ-loop img last low high found₀ n₀ found n = last + 1 - n
+μ-loop img after low high found₀ n₀ found n = after - n
 
 loop-holds : tie.Need-loop-holds Inv-loop μ-loop
 loop-holds c = search needs

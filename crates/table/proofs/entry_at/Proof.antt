@@ -1,3 +1,4 @@
+-- The bits taken are those of the word read.
 use Rattle.table.specs.Entries.{entryAt}
 use borrow.Author.Needs.{needs}
 use Rattle.table.proofs.entry_at.Statement.{statement}

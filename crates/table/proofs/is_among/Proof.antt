@@ -1,3 +1,4 @@
+-- Where the first test fails the answer is no, else the second decides.
 use Rattle.table.specs.Laws.Counts.{among-high, among-low}
 use Rattle.table.proofs.is_among.Statement.{statement}
 use Rattle.table.proofs.is_among.Tie as tie

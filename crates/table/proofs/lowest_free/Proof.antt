@@ -1,6 +1,6 @@
 -- The lowest from here on is the lowest of all.
 use borrow.Author.Needs.{needs}
-use Prim.Native.Nat.{_+_, _-_, _≤_}
+use Prim.Native.Nat.{_-_, _≤_}
 use mathlib.Core.Path.{_≡_}
 use Rattle.table.specs.Counts.{freeAt, lowestFree}
 use Rattle.search.specs.Search as find
@@ -9,10 +9,13 @@ use Rattle.table.proofs.lowest_free.Statement.{statement}
 use Rattle.table.proofs.lowest_free.Tie as tie
 
 abbrev Inv-loop : tie.InvT-loop
-Inv-loop img last lowest₀ lowest = (2 ≤ lowest) × (find.lowest (freeAt img) lowest (last + 1 - lowest) ≡ lowestFree last img)
+Inv-loop img last after lowest₀ lowest = (2 ≤ lowest) × (find.lowest (freeAt img) lowest (after - lowest) ≡ lowestFree last img)
 
 abbrev μ-loop : tie.MeasureT-loop
-μ-loop img last lowest₀ lowest = last + 1 - lowest
+μ-loop img last after lowest₀ lowest = after - lowest
+
+add-after : tie.Need-add-after Inv-loop μ-loop
+add-after c = search needs
 
 loop-holds : tie.Need-loop-holds Inv-loop μ-loop
 unfolding lowestFree
@@ -42,6 +45,7 @@ lowest-free-spec =
     (tie.spec
     Inv-loop
     μ-loop
+    add-after
     loop-holds
     entry-requires
     returns

@@ -1,5 +1,5 @@
 -- Each test passed or failed picks its case.
-use Rattle.table.specs.Laws.Values.{means-free, means-one, means-next, means-between, means-aside, means-end}
+use Rattle.table.specs.Laws.Values.{means-free, means-one, means-next, means-end, means-aside, means-between}
 use Rattle.table.proofs.meaning_of.Statement.{statement}
 use Rattle.table.proofs.meaning_of.Tie as tie
 
@@ -13,13 +13,13 @@ returns-3 : tie.Need-returns-3
 returns-3 c = search means-next
 
 returns-4 : tie.Need-returns-4
-returns-4 c = search means-between
+returns-4 c = search means-end
 
 returns-5 : tie.Need-returns-5
 returns-5 c = search means-aside
 
 returns-6 : tie.Need-returns-6
-returns-6 c = search means-end
+returns-6 c = search means-between
 
 pub meaning-of-spec : {M : Type 1} → statement M
 meaning-of-spec = tie.close (tie.spec returns returns-2 returns-3 returns-4 returns-5 returns-6)

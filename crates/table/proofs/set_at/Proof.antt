@@ -1,3 +1,4 @@
+-- The word stored is the word read, with the bits put in.
 use Rattle.table.specs.Entries.{setAt}
 use borrow.Author.Needs.{needs}
 use Rattle.table.proofs.set_at.Statement.{statement}

@@ -1,3 +1,4 @@
+-- One store after the other.
 use Rattle.table.specs.Entries.{setBoth}
 use borrow.Author.Needs.{needs}
 use Rattle.table.proofs.set_entry.Statement.{statement}

@@ -1,3 +1,4 @@
+-- Even or odd picks the half.
 use Rattle.table.specs.Laws.Bits.{word-even, word-odd}
 use borrow.Author.Needs.{needs}
 use Rattle.table.proofs.with_bits.Statement.{statement}

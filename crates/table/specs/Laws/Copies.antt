@@ -4,16 +4,16 @@ use native.Mathlib.Omega.{arith}
 use native.Mathlib.Decide.{decLt}
 use mathlib.Core.List.{List}
 use mathlib.Core.Logic.{_⊎_, inl, inr, _≢_}
-use mathlib.Core.Path.{_≡_, refl, sym, _∙_, ap}
+use mathlib.Core.Path.{_≡_, sym, _∙_}
 use lib.ListN.{length, getD}
 use Rattle.image.specs.Bytes.{Bytes}
 use Rattle.image.specs.Store.{part, Outside, Apart}
-use Rattle.image.specs.Numbers.{number, digits}
+use Rattle.image.specs.Numbers.{number}
 use Rattle.image.specs.Laws.Numbers.{number-same}
 use Rattle.diskette.specs.Kinds.{Usable}
 use Rattle.diskette.specs.Places.{firstData, lastCluster, copyTwo}
 use Rattle.diskette.specs.declared.Kind.{Kind}
-use Rattle.table.specs.Entries.{wordAt, even, kept, entryAt, entryOf, setAt, setBoth, Reaches, Agree}
+use Rattle.table.specs.Entries.{wordAt, entryAt, entryOf, setAt, setBoth, Reaches, Agree}
 use Rattle.table.specs.Laws.OneCopy.{entry-same, length-setAt, bytes-setAt, setAt-outside, setAt-inside, number-setAt, part-setAt, setAt-same, setAt-other}
 
 -- ---- which entries both copies hold

@@ -1,13 +1,13 @@
 -- The loops that count and search, in the form of their needs, and what the lowest free cluster is.
 use Prim.Native.Nat.{ℕ, _+_, _-_, _≤_, _<_}
 use native.Mathlib.Omega.{arith}
-use native.Mathlib.Decide.{ℕ-discrete}
-use mathlib.Core.Bool.{Bool, true, false, _&&_}
+use native.Mathlib.Decide.{ℕ-discrete, decLe}
+use mathlib.Core.Bool.{Bool, true, false, false≢true}
 use mathlib.Core.List.{List}
-use mathlib.Core.Logic.{_≢_, _⊎_, inl, inr}
+use mathlib.Core.Logic.{_≢_, _↔_}
 use mathlib.Core.Path.{_≡_, refl, sym, _∙_, ap, subst}
 use lib.Dec.{eqb, leb}
-use borrow.Author.Tests.{eq-eqb, ne-eqb, eqb-true, eqb-false, le-leb, lt-leb}
+use borrow.Author.Tests.{eq-eqb, ne-eqb, eqb-true, eqb-false, le-leb, lt-leb, leb-true}
 use Rattle.chains.specs.Tests.{bit}
 use Rattle.chains.specs.Sums.{sum}
 use Rattle.chains.specs.Values.{freeCount, asideCount}
@@ -19,20 +19,21 @@ use Rattle.search.specs.Laws.Theory.{count-sum}
 use Rattle.search.specs.declared.Found.{Found}
 use Rattle.search.specs.declared.Found.the-variants.{At, Nothing}
 use Rattle.table.specs.Entries.{entryOf, tableOf}
-use Rattle.table.specs.Counts.{among, amongAt, freeAt, lowestFree}
+use Rattle.table.specs.Counts.{among, amongAt, freeAt, lowestFree, LowestFree}
 use Rattle.table.specs.Laws.View.{table-inside}
 
 -- ---- the count loop: e is the entry that was read, b the test's answer
 
-module _ (l : List ℕ) (low high i last total : ℕ) where
-  pub count-hit : (e : ℕ) (b : Bool) (n n′ : ℕ) → i ≤ last → e ≡ entryOf l i → b ≡ among low high e → b ≡ true → n′ ≡ n + 1 → n + count (amongAt low high l) i (last + 1 - i) ≡ total → n′ + count (amongAt low high l) (i + 1) (last + 1 - (i + 1)) ≡ total
-  count-hit e b n n′ h r t y s inv = turns.count-hit (amongAt low high l) i (last + 1) n total inv n′ (omega arith) (ap (among low high) (sym r) ∙ sym t ∙ y) s
+module _ (l : List ℕ) (low high i after total n : ℕ) (inv : n + count (amongAt low high l) i (after - i) ≡ total) where
+  module _ (e : ℕ) (b : Bool) (h : i < after) (r : e ≡ entryOf l i) (t : b ≡ among low high e) (m : ℕ) where
+    pub count-hit : b ≡ true → m ≡ n + 1 → m + count (amongAt low high l) (i + 1) (after - (i + 1)) ≡ total
+    count-hit y s = turns.count-hit (amongAt low high l) i after n total inv m h (ap (among low high) (sym r) ∙ sym t ∙ y) s
 
-  pub count-miss : (e : ℕ) (b : Bool) (n n′ : ℕ) → i ≤ last → e ≡ entryOf l i → b ≡ among low high e → b ≡ false → n′ ≡ n → n + count (amongAt low high l) i (last + 1 - i) ≡ total → n′ + count (amongAt low high l) (i + 1) (last + 1 - (i + 1)) ≡ total
-  count-miss e b n n′ h r t y s inv = turns.count-miss (amongAt low high l) i (last + 1) n total inv n′ (omega arith) (ap (among low high) (sym r) ∙ sym t ∙ y) s
+    pub count-miss : b ≡ false → m ≡ n → m + count (amongAt low high l) (i + 1) (after - (i + 1)) ≡ total
+    count-miss y s = turns.count-miss (amongAt low high l) i after n total inv m h (ap (among low high) (sym r) ∙ sym t ∙ y) s
 
-  pub count-done : (n : ℕ) → last < i → n + count (amongAt low high l) i (last + 1 - i) ≡ total → n ≡ total
-  count-done n h inv = turns.count-done (amongAt low high l) i (last + 1) n total inv (omega arith)
+  pub count-done : after ≤ i → n ≡ total
+  count-done h = turns.count-done (amongAt low high l) i after n total inv h
 
 -- the leaf that tests a value
 pub among-high : (low high v : ℕ) → low ≤ v → leb v high ≡ among low high v
@@ -41,22 +42,20 @@ among-high low high v h = rw (le-leb low v h)
 pub among-low : (low high v : ℕ) → v < low → leb low v ≡ among low high v
 among-low low high v h = rw (lt-leb low v h)
 
--- ---- the loop to the lowest free
-
-module _ (l : List ℕ) (i last : ℕ) (answer : Found) (inv : lowest (freeAt l) i (last + 1 - i) ≡ answer) where
-  pub lowest-hit : (e : ℕ) → i ≤ last → e ≡ entryOf l i → e ≡ 0 → At i ≡ answer
-  lowest-hit e h r z = turns.lowest-hit (freeAt l) i (last + 1) answer inv (omega arith) (eq-eqb (entryOf l i) 0 (sym r ∙ z))
-
-  pub lowest-miss : (e : ℕ) → i ≤ last → e ≡ entryOf l i → e ≢ 0 → lowest (freeAt l) (i + 1) (last + 1 - (i + 1)) ≡ answer
-  lowest-miss e h r z = turns.lowest-miss (freeAt l) i (last + 1) answer inv (omega arith) (ne-eqb (entryOf l i) 0 (λ q. z (r ∙ q)))
-
-  pub lowest-done : last < i → Nothing ≡ answer
-  lowest-done h = turns.lowest-done (freeAt l) i (last + 1) answer inv (omega arith)
+-- what the test of a value says
+pub among-means : (low high v : ℕ) → (among low high v ≡ true) ↔ ((low ≤ v) × (v ≤ high))
+among-means low high v = (to, λ h. rw (le-leb low v (h .0), le-leb v high (h .1)))
+  where
+    to : among low high v ≡ true → (low ≤ v) × (v ≤ high)
+    to e = elim (decLe low v) [
+      | no h ↦ absurd (false≢true (sym (rw (lt-leb low v (omega arith))) ∙ e))
+      | yes h ↦ (h, leb-true v high (among-high low high v h ∙ e))
+    ]
 
 -- ---- what the counts are, in the words of the theory
 
 -- a count of entries is the sum over the table's values, where the tests agree
-counted : (last : ℕ) (l : List ℕ) (p : ℕ → Bool) (q : ℕ → Bool) → ((v : ℕ) → p v ≡ q v) → count (λ n. p (entryOf l n)) 2 (last + 1 - 2) ≡ sum (last - 1) (λ i. bit (q (tableOf last l (i + 2))))
+counted : (last : ℕ) (l : List ℕ) (p q : ℕ → Bool) → ((v : ℕ) → p v ≡ q v) → count (λ n. p (entryOf l n)) 2 (last + 1 - 2) ≡ sum (last - 1) (λ i. bit (q (tableOf last l (i + 2))))
 counted last l p q h =
     let e : last + 1 - 2 ≡ last - 1 = omega arith in
     count-sum (λ n. p (entryOf l n)) 2 (last + 1 - 2)
@@ -74,14 +73,19 @@ module _ (last : ℕ) (l : List ℕ) (r : ℕ) where
   pub count-aside : r ≡ count (amongAt 0xFF0 0xFF7 l) 2 (last + 1 - 2) → r ≡ asideCount last (tableOf last l)
   count-aside e = e ∙ counted last l (among 0xFF0 0xFF7) (among 0xFF0 0xFF7) (λ v. refl)
 
--- ---- what the lowest free is
+-- ---- the loop to the lowest free
 
--- n is the lowest free cluster
-pub record LowestFree (last : ℕ) (l : List ℕ) (n : ℕ) : Type 0 where
-  pub from : 2 ≤ n
-  pub to : n ≤ last
-  pub free : entryOf l n ≡ 0
-  pub below : (m : ℕ) → 2 ≤ m → m < n → entryOf l m ≢ 0
+module _ (l : List ℕ) (i after : ℕ) (answer : Found) (inv : lowest (freeAt l) i (after - i) ≡ answer) where
+  pub lowest-hit : (e : ℕ) → i < after → e ≡ entryOf l i → e ≡ 0 → At i ≡ answer
+  lowest-hit e h r z = turns.lowest-hit (freeAt l) i after answer inv h (eq-eqb (entryOf l i) 0 (sym r ∙ z))
+
+  pub lowest-miss : (e : ℕ) → i < after → e ≡ entryOf l i → e ≢ 0 → lowest (freeAt l) (i + 1) (after - (i + 1)) ≡ answer
+  lowest-miss e h r z = turns.lowest-miss (freeAt l) i after answer inv h (ne-eqb (entryOf l i) 0 (λ q. z (r ∙ q)))
+
+  pub lowest-done : after ≤ i → Nothing ≡ answer
+  lowest-done h = turns.lowest-done (freeAt l) i after answer inv h
+
+-- ---- what the lowest free is
 
 module _ (last : ℕ) (l : List ℕ) where
   answers-free : (r : Found) → lowestFree last l ≡ r → Answers (freeAt l) 2 (last + 1 - 2) r

@@ -1,19 +1,18 @@
 -- One copy of the table, that starts at byte base: read after write, and what a write leaves.
-use Prim.Native.Nat.{ℕ, suc, _+_, _*_, _/_, _%_, _≤_, _<_}
+use Prim.Native.Nat.{ℕ, _+_, _*_, _/_, _%_, _≤_, _<_}
 use native.Mathlib.Omega.{arith}
 use native.Mathlib.Decide.{ℕ-discrete, decLt}
-use mathlib.Core.Bool.{Bool, true, false}
+use mathlib.Core.Bool.{true, false}
 use mathlib.Core.List.{List}
-use mathlib.Core.Logic.{_⊎_, inl, inr, _≢_}
-use mathlib.Core.Path.{_≡_, refl, sym, _∙_, ap}
-use lib.Dec.{eqb}
+use mathlib.Core.Logic.{inl, inr, _≢_}
+use mathlib.Core.Path.{_≡_, _∙_, ap}
 use lib.ListN.{length, getD}
 use borrow.Author.Tests.{eq-eqb, ne-eqb}
 use Rattle.image.specs.Bytes.{Bytes}
 use Rattle.image.specs.Store.{stored, part, Outside, Apart}
 use Rattle.image.specs.Numbers.{number, digits}
 use Rattle.image.specs.Laws.Store.{length-stored, bytes-stored, stored-outside, stored-inside, part-apart}
-use Rattle.image.specs.Laws.Numbers.{length-digits, bytes-digits, number-same, number-small, number-stored, number-apart}
+use Rattle.image.specs.Laws.Numbers.{length-digits, bytes-digits, number-small, number-stored, number-apart}
 use Rattle.table.specs.Entries.{wordAt, even, taken, kept, entryAt, setAt}
 use Rattle.table.specs.Laws.Bits.{taken-small, kept-small, taken-kept, taken-after, taken-before}
 

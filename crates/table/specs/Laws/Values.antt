@@ -2,10 +2,8 @@
 use Prim.Native.Nat.{ℕ, _≤_, _<_}
 use native.Mathlib.Omega.{arith}
 use native.Mathlib.Decide.{ℕ-discrete, decLe, decLt}
-use mathlib.Core.Bool.{cond}
 use mathlib.Core.Logic.{_≢_, _↔_}
-use mathlib.Core.Path.{_≡_, refl, sym, _∙_, subst}
-use lib.Dec.{eqb, leb, ltb}
+use mathlib.Core.Path.{_≡_, refl, sym, subst}
 use borrow.Author.Tests.{eq-eqb, ne-eqb, lt-ltb, le-ltb, le-leb, lt-leb}
 use Rattle.table.specs.Values.{Values, meaningOf}
 use Rattle.table.specs.declared.Meaning.{Meaning}
@@ -29,17 +27,17 @@ module _ (last v : ℕ) where
       means-next h = rw (ne-eqb v 0 d, le-ltb v 2 f, le-leb v last h)
 
       module _ (g : last < v) where
-        pub means-between : v < 0xFF0 → NoneOfThese ≡ meaningOf last v
+        pub means-end : 0xFF8 ≤ v → End ≡ meaningOf last v
         unfolding meaningOf
-        means-between h = rw (ne-eqb v 0 d, le-ltb v 2 f, lt-leb v last g, lt-ltb v 0xFF0 h)
+        means-end h = rw (ne-eqb v 0 d, le-ltb v 2 f, lt-leb v last g, le-leb 0xFF8 v h)
 
-        pub means-aside : 0xFF0 ≤ v → v ≤ 0xFF7 → Aside ≡ meaningOf last v
+        pub means-aside : v < 0xFF8 → 0xFF0 ≤ v → Aside ≡ meaningOf last v
         unfolding meaningOf
-        means-aside k h = rw (ne-eqb v 0 d, le-ltb v 2 f, lt-leb v last g, le-ltb v 0xFF0 k, le-leb v 0xFF7 h)
+        means-aside k h = rw (ne-eqb v 0 d, le-ltb v 2 f, lt-leb v last g, lt-leb 0xFF8 v k, le-leb 0xFF0 v h)
 
-        pub means-end : 0xFF0 ≤ v → 0xFF7 < v → End ≡ meaningOf last v
+        pub means-between : v < 0xFF8 → v < 0xFF0 → NoneOfThese ≡ meaningOf last v
         unfolding meaningOf
-        means-end k h = rw (ne-eqb v 0 d, le-ltb v 2 f, lt-leb v last g, le-ltb v 0xFF0 k, lt-leb v 0xFF7 h)
+        means-between k h = rw (ne-eqb v 0 d, le-ltb v 2 f, lt-leb v last g, lt-leb 0xFF8 v k, lt-leb 0xFF0 v h)
 
   -- ---- what it means
 
@@ -52,11 +50,11 @@ module _ (last v : ℕ) where
         | yes h ↦ by (means-one d h) (d, (λ p. omega arith), (λ p. omega arith), λ p. omega arith)
         | no f ↦ elim (decLe v last) [
           | yes h ↦ by (means-next d (omega arith) h) ((omega arith, h), refl)
-          | no g ↦ elim (decLt v 0xFF0) [
-            | yes h ↦ by (means-between d (omega arith) (omega arith) h) (d, (λ p. omega arith), (λ p. omega arith), λ p. omega arith)
-            | no k ↦ elim (decLe v 0xFF7) [
-              | yes h ↦ by (means-aside d (omega arith) (omega arith) (omega arith) h) (omega arith, h)
-              | no h ↦ by (means-end d (omega arith) (omega arith) (omega arith) (omega arith)) (omega arith, omega arith)
+          | no g ↦ elim (decLe 0xFF8 v) [
+            | yes h ↦ by (means-end d (omega arith) (omega arith) h) (h, omega arith)
+            | no k ↦ elim (decLe 0xFF0 v) [
+              | yes h ↦ by (means-aside d (omega arith) (omega arith) (omega arith) h) (h, omega arith)
+              | no h ↦ by (means-between d (omega arith) (omega arith) (omega arith) (omega arith)) (d, (λ p. omega arith), (λ p. omega arith), λ p. omega arith)
             ]
           ]
         ]
@@ -71,16 +69,16 @@ module _ (last v : ℕ) where
     meaning-only Free x = means-free x
     meaning-only (Next n) x = rw (x .1) (means-next (omega arith) (omega arith) (omega arith))
     meaning-only Aside x = means-aside (omega arith) (omega arith) (omega arith) (omega arith) (omega arith)
-    meaning-only End x = means-end (omega arith) (omega arith) (omega arith) (omega arith) (omega arith)
+    meaning-only End x = means-end (omega arith) (omega arith) (omega arith) (omega arith)
     meaning-only NoneOfThese x = elim (decLt v 2) [
       | yes h ↦ means-one (x .0) h
       | no f ↦ elim (decLe v last) [
         | yes h ↦ absurd (x .1 (omega arith, h))
-        | no g ↦ elim (decLt v 0xFF0) [
-          | yes h ↦ means-between (x .0) (omega arith) (omega arith) h
-          | no k ↦ elim (decLe v 0xFF7) [
-            | yes h ↦ absurd (x .2 (omega arith, h))
-            | no h ↦ absurd (x .3 (omega arith, omega arith))
+        | no g ↦ elim (decLe 0xFF8 v) [
+          | yes h ↦ absurd (x .3 (h, omega arith))
+          | no k ↦ elim (decLe 0xFF0 v) [
+            | yes h ↦ absurd (x .2 (h, omega arith))
+            | no h ↦ means-between (x .0) (omega arith) (omega arith) (omega arith) (omega arith)
           ]
         ]
       ]

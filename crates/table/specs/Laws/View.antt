@@ -1,6 +1,6 @@
 -- The table as a function: a write in both copies changes one value of it, a store elsewhere none. Above these laws
 -- nothing speaks of words and bits.
-use Prim.Native.Nat.{ℕ, _+_, _-_, _*_, _/_, _≤_, _<_}
+use Prim.Native.Nat.{ℕ, _+_, _-_, _≤_, _<_}
 use native.Mathlib.Omega.{arith}
 use native.Mathlib.Decide.{decLe, decLt}
 use mathlib.Core.Bool.{Bool, true, false, cond, _&&_}
