@@ -1,0 +1,4 @@
+-- The laws of the definitions beside this folder.
+pub mod Tests
+pub mod Parts
+pub mod Code

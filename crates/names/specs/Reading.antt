@@ -1,0 +1,37 @@
+-- The same as a function: the name is split at its first dot, tested and padded.
+use Prim.Native.Nat.{ℕ, _-_}
+use mathlib.Core.Bool.{Bool, true, false, cond, _&&_}
+use mathlib.Core.List.{List, [], _∷_}
+use lib.Dec.{eqb, leb, ltb}
+use lib.ListN.{length, getD, replicate}
+use Rattle.names.specs.Alphabet.{capital}
+use Rattle.names.specs.Spelling.{dot, space, allAllowed, eleven}
+use Rattle.names.specs.declared.Spelled.{Spelled}
+
+-- what stands before the first d in s: all of s where there is none
+unfoldable pub before : ℕ → List ℕ → List ℕ
+before d [] = []
+before d (c ∷ cs) = cond (eqb c d) [] (c ∷ before d cs)
+
+-- what stands after the first d in s: nothing where there is none
+unfoldable pub after : ℕ → List ℕ → List ℕ
+after d [] = []
+after d (c ∷ cs) = cond (eqb c d) cs (after d cs)
+
+unfoldable pub fitting : List ℕ → List ℕ → Bool
+fitting base ext = leb 1 (length base) && (leb (length base) 8 && (leb (length ext) 3 && (allAllowed base && allAllowed ext)))
+
+-- byte i of a part in capitals, padded by spaces
+abbrev pub paddedByte : List ℕ → ℕ → ℕ
+paddedByte t i = cond (ltb i (length t)) (capital (getD t i 0)) space
+
+-- byte i of the eleven
+abbrev pub nameByte : List ℕ → List ℕ → ℕ → ℕ
+nameByte base ext i = cond (ltb i 8) (paddedByte base i) (paddedByte ext (i - 8))
+
+-- a name that does not fit is answered with eleven spaces
+abbrev pub spelledAs : List ℕ → List ℕ → Spelled
+spelledAs base ext = cond (fitting base ext) (record { fits = true; name = eleven base ext }) (record { fits = false; name = replicate 11 space })
+
+unfoldable pub nameOf : List ℕ → Spelled
+nameOf s = spelledAs (before dot s) (after dot s)
