@@ -29,8 +29,13 @@ abbrev pub among : List ℕ → ℕ → Bool
 among [] c = false
 among (x ∷ xs) c = eqb c x || among xs c
 
+-- capitals, digits and the signs: what a name on a volume is made of
+unfoldable pub plain : ℕ → Bool
+plain c = largeLetter c || (digit c || among signs c)
+
+-- what a caller may write
 unfoldable pub allowed : ℕ → Bool
-allowed c = largeLetter c || (smallLetter c || (digit c || among signs c))
+allowed c = smallLetter c || plain c
 
 -- small letters become capitals, others stay
 unfoldable pub capital : ℕ → ℕ

@@ -4,8 +4,8 @@ use mathlib.Core.Bool.{Bool, true, false, cond, _&&_}
 use mathlib.Core.List.{List, [], _∷_}
 use lib.Dec.{eqb, leb, ltb}
 use lib.ListN.{length, getD, replicate}
-use Rattle.names.specs.Alphabet.{capital}
-use Rattle.names.specs.Spelling.{dot, space, allAllowed, eleven}
+use Rattle.names.specs.Alphabet.{allowed, capital}
+use Rattle.names.specs.Spelling.{dot, space, every, eleven}
 use Rattle.names.specs.declared.Spelled.{Spelled}
 
 -- what stands before the first d in s: all of s where there is none
@@ -19,7 +19,7 @@ after d [] = []
 after d (c ∷ cs) = cond (eqb c d) cs (after d cs)
 
 unfoldable pub fitting : List ℕ → List ℕ → Bool
-fitting base ext = leb 1 (length base) && (leb (length base) 8 && (leb (length ext) 3 && (allAllowed base && allAllowed ext)))
+fitting base ext = leb 1 (length base) && (leb (length base) 8 && (leb (length ext) 3 && (every allowed base && every allowed ext)))
 
 -- byte i of a part in capitals, padded by spaces
 abbrev pub paddedByte : List ℕ → ℕ → ℕ

@@ -13,18 +13,18 @@ dot = 0x2E
 abbrev pub space : ℕ
 space = 0x20
 
--- every character is of the alphabet
-unfoldable pub allAllowed : List ℕ → Bool
-allAllowed [] = true
-allAllowed (c ∷ cs) = allowed c && allAllowed cs
+-- every character of the list passes the test
+unfoldable pub every : (ℕ → Bool) → List ℕ → Bool
+every p [] = true
+every p (c ∷ cs) = p c && every p cs
 
 -- 1 to 8 characters, and 0 to 3 more
 pub record Parts (base ext : List ℕ) : Type 0 where
   pub some : 1 ≤ length base
   pub eight : length base ≤ 8
   pub three : length ext ≤ 3
-  pub baseAllowed : allAllowed base ≡ true
-  pub extAllowed : allAllowed ext ≡ true
+  pub baseAllowed : every allowed base ≡ true
+  pub extAllowed : every allowed ext ≡ true
 
 -- 1 to 8 characters, then optionally a dot and 0 to 3 more.
 pub record Spells (s base ext : List ℕ) : Type 0 where

@@ -1,8 +1,8 @@
 // Names given by callers: eleven bytes, or refused.
 ghost use mathlib.Core.Path.{_≡_};
 ghost use lib.ListN.{length};
-ghost use Rattle.names.specs.Alphabet.{within, among, allowed, capital};
-ghost use Rattle.names.specs.Spelling.{dot, allAllowed, Parts, eleven};
+ghost use Rattle.names.specs.Alphabet.{within, among, plain, allowed, capital};
+ghost use Rattle.names.specs.Spelling.{dot, every, Parts, eleven};
 ghost use Rattle.names.specs.Reading.{before, fitting, paddedByte, nameByte, spelledAs, nameOf};
 
 // Whether a name fits the rules, and its eleven bytes (all spaces where it does not).
@@ -35,20 +35,27 @@ fn is_among(s: &[u8], c: u8) -> bool
     false
 }
 
-// Whether a character may stand in a name.
-fn is_allowed(c: u8) -> bool
-    ensures { λ r. ⌜ r ≡ allowed c ⌝ }
+// Whether c is a capital, a digit or one of the signs.
+pub fn is_plain(c: u8) -> bool
+    ensures { λ r. ⌜ r ≡ plain c ⌝ }
 {
     if is_within(b'A', b'Z', c) {
-        return true;
-    }
-    if is_within(b'a', b'z', c) {
         return true;
     }
     if is_within(b'0', b'9', c) {
         return true;
     }
     is_among(b"$&#@!%'()-{}_", c)
+}
+
+// Whether a caller may write c in a name.
+fn is_allowed(c: u8) -> bool
+    ensures { λ r. ⌜ r ≡ allowed c ⌝ }
+{
+    if is_within(b'a', b'z', c) {
+        return true;
+    }
+    is_plain(c)
 }
 
 // Small letters become capitals, others stay.
@@ -62,9 +69,9 @@ fn to_capital(c: u8) -> u8
     }
 }
 
-// Whether every character of s may stand in a name.
+// Whether a caller may write every character of s in a name.
 fn all_allowed(s: &[u8]) -> bool
-    ensures { λ r. ⌜ r ≡ allAllowed (now (s .entry)) ⌝ }
+    ensures { λ r. ⌜ r ≡ every allowed (now (s .entry)) ⌝ }
 {
     let mut i: usize = 0;
     while i < s.len() {

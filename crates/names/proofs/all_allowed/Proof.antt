@@ -3,13 +3,14 @@ use borrow.Author.Needs.{needs}
 use Prim.Native.Nat.{_-_, _≤_}
 use mathlib.Core.Path.{_≡_}
 use lib.ListN.{length, drop}
-use Rattle.names.specs.Spelling.{allAllowed}
+use Rattle.names.specs.Alphabet.{allowed}
+use Rattle.names.specs.Spelling.{every}
 use Rattle.names.specs.Laws.Code.{all-turn, all-found, all-done}
 use Rattle.names.proofs.all_allowed.Statement.{statement}
 use Rattle.names.proofs.all_allowed.Tie as tie
 
 abbrev Inv-loop : tie.InvT-loop
-Inv-loop s i₀ i = (i ≤ length s) × (allAllowed (drop i s) ≡ allAllowed s)
+Inv-loop s i₀ i = (i ≤ length s) × (every allowed (drop i s) ≡ every allowed s)
 
 abbrev μ-loop : tie.MeasureT-loop
 μ-loop s i₀ i = length s - i

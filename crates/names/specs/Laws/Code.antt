@@ -11,8 +11,8 @@ use lib.Dec.{eqb, leb, ltb}
 use lib.ListN.{length, getD, set, take, drop, replicate, length-drop, drop-of-length-le}
 use lib.Seq.{drop-cons, getD-set-same, getD-set-other, ext-getD, take-all, length-take-le}
 use borrow.Author.Tests.{not-true, not-false, leb-true, eq-eqb, ne-eqb, le-leb, lt-leb, lt-ltb, le-ltb}
-use Rattle.names.specs.Alphabet.{within, largeLetter, smallLetter, digit, signs, among, allowed, capital}
-use Rattle.names.specs.Spelling.{dot, space, allAllowed, Parts, eleven}
+use Rattle.names.specs.Alphabet.{within, largeLetter, smallLetter, digit, signs, among, plain, allowed, capital}
+use Rattle.names.specs.Spelling.{dot, space, every, Parts, eleven}
 use Rattle.names.specs.Reading.{before, after, fitting, paddedByte, nameByte, spelledAs, nameOf}
 use Rattle.names.specs.Laws.Tests.{and-left, fitting-parts}
 use Rattle.names.specs.Laws.Parts.{take-before, drop-after, length-eleven, eleven-at}
@@ -39,24 +39,28 @@ module _ (s : List ℕ) (c i : ℕ) (b : Bool) where
   pub among-done : length s ≤ i → among (drop i s) c ≡ b → false ≡ b
   among-done h inv = rw (drop-of-length-le s h) at inv
 
-module _ (c : ℕ) (l s d r : Bool) (large : l ≡ largeLetter c) where
-  pub allowed-large : l ≡ true → true ≡ allowed c
-  unfolding allowed
-  allowed-large e = rw (sym large ∙ e)
+module _ (c : ℕ) (l d r : Bool) (large : l ≡ largeLetter c) where
+  pub plain-large : l ≡ true → true ≡ plain c
+  unfolding plain
+  plain-large e = rw (sym large ∙ e)
 
-  pub allowed-small : l ≡ false → s ≡ smallLetter c → s ≡ true → true ≡ allowed c
-  unfolding allowed
-  allowed-small e small f = rw (sym large ∙ e, sym small ∙ f)
+  pub plain-digit : l ≡ false → d ≡ digit c → d ≡ true → true ≡ plain c
+  unfolding plain
+  plain-digit e number f = rw (sym large ∙ e, sym number ∙ f)
 
-  pub allowed-digit : l ≡ false → s ≡ smallLetter c → s ≡ false → d ≡ digit c → d ≡ true → true ≡ allowed c
-  unfolding allowed
-  allowed-digit e small f number g = rw (sym large ∙ e, sym small ∙ f, sym number ∙ g)
-
-  pub allowed-sign : l ≡ false → s ≡ smallLetter c → s ≡ false → d ≡ digit c → d ≡ false → r ≡ among signs c → r ≡ allowed c
-  unfolding allowed
-  allowed-sign e small f number g sign = sign ∙ rw (sym large ∙ e, sym small ∙ f, sym number ∙ g)
+  pub plain-sign : l ≡ false → d ≡ digit c → d ≡ false → r ≡ among signs c → r ≡ plain c
+  unfolding plain
+  plain-sign e number f sign = sign ∙ rw (sym large ∙ e, sym number ∙ f)
 
 module _ (c : ℕ) (s : Bool) (small : s ≡ smallLetter c) where
+  pub allowed-small : s ≡ true → true ≡ allowed c
+  unfolding allowed
+  allowed-small e = rw (sym small ∙ e)
+
+  pub allowed-plain : (r : Bool) → s ≡ false → r ≡ plain c → r ≡ allowed c
+  unfolding allowed
+  allowed-plain r e p = p ∙ rw (sym small ∙ e)
+
   pub small-from : s ≡ true → 0x61 ≤ c
   small-from e = leb-true 0x61 c (and-left (leb 0x61 c) (leb c 0x7A) (sym small ∙ e))
 
@@ -68,17 +72,17 @@ module _ (c : ℕ) (s : Bool) (small : s ≡ smallLetter c) where
   unfolding capital
   capital-other e = rw (sym small ∙ e)
 
-module _ (s : List ℕ) (i : ℕ) (a b : Bool) (is : a ≡ allowed (getD s i 0)) (inv : allAllowed (drop i s) ≡ b) where
-  pub all-turn : i < length s → not a ≡ false → allAllowed (drop (i + 1) s) ≡ b
-  unfolding allAllowed
+module _ (s : List ℕ) (i : ℕ) (a b : Bool) (is : a ≡ allowed (getD s i 0)) (inv : every allowed (drop i s) ≡ b) where
+  pub all-turn : i < length s → not a ≡ false → every allowed (drop (i + 1) s) ≡ b
+  unfolding every
   all-turn h e = rw (sym is ∙ not-false a e) at (rw (drop-next s i h) at inv)
 
   pub all-found : i < length s → not a ≡ true → false ≡ b
-  unfolding allAllowed
+  unfolding every
   all-found h e = rw (sym is ∙ not-true a e) at (rw (drop-next s i h) at inv)
 
-pub all-done : (s : List ℕ) (i : ℕ) (b : Bool) → allAllowed (drop i s) ≡ b → length s ≤ i → true ≡ b
-unfolding allAllowed
+pub all-done : (s : List ℕ) (i : ℕ) (b : Bool) → every allowed (drop i s) ≡ b → length s ≤ i → true ≡ b
+unfolding every
 all-done s i b inv h = rw (drop-of-length-le s h) at inv
 
 -- ---- the first dot
@@ -113,12 +117,12 @@ module _ (base ext : List ℕ) where
       unfolding fitting
       fitting-longer h = rw (le-leb 1 (length base) some, le-leb (length base) 8 eight, lt-leb (length ext) 3 h)
 
-      module _ (three : length ext ≤ 3) (a : Bool) (isBase : a ≡ allAllowed base) where
+      module _ (three : length ext ≤ 3) (a : Bool) (isBase : a ≡ every allowed base) where
         pub fitting-strange : not a ≡ true → false ≡ fitting base ext
         unfolding fitting
         fitting-strange h = rw (le-leb 1 (length base) some, le-leb (length base) 8 eight, le-leb (length ext) 3 three, sym isBase ∙ not-true a h)
 
-        pub fitting-rest : (b : Bool) → not a ≡ false → b ≡ allAllowed ext → b ≡ fitting base ext
+        pub fitting-rest : (b : Bool) → not a ≡ false → b ≡ every allowed ext → b ≡ fitting base ext
         unfolding fitting
         fitting-rest b h isExt = isExt ∙ rw (le-leb 1 (length base) some, le-leb (length base) 8 eight, le-leb (length ext) 3 three, sym isBase ∙ not-false a h)
 

@@ -6,7 +6,8 @@ use mathlib.Core.Path.{_≡_, refl, sym, _∙_, ap}
 use lib.Dec.{leb}
 use lib.ListN.{length}
 use borrow.Author.Tests.{leb-true, le-leb}
-use Rattle.names.specs.Spelling.{allAllowed, Parts}
+use Rattle.names.specs.Alphabet.{allowed}
+use Rattle.names.specs.Spelling.{every, Parts}
 use Rattle.names.specs.Reading.{fitting}
 
 pub and-left : (a b : Bool) → (a && b) ≡ true → a ≡ true
@@ -29,8 +30,8 @@ module _ (base ext : List ℕ) where
         some = leb-true 1 (length base) (and-left _ _ e);
         eight = leb-true (length base) 8 (and-left _ _ e₁);
         three = leb-true (length ext) 3 (and-left _ _ e₂);
-        baseAllowed = and-left (allAllowed base) _ e₃;
-        extAllowed = and-right (allAllowed base) _ e₃
+        baseAllowed = and-left (every allowed base) _ e₃;
+        extAllowed = and-right (every allowed base) _ e₃
       }
 
   pub parts-fitting : Parts base ext → fitting base ext ≡ true
