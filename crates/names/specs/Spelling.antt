@@ -1,11 +1,12 @@
 -- What a caller may write, and the eleven bytes that it means.
-use Prim.Native.Nat.{ℕ, _-_, _≤_}
-use mathlib.Core.Bool.{Bool, true, _&&_}
+use Prim.Native.Nat.{ℕ, _-_, _≤_, _<_}
+use mathlib.Core.Bool.{Bool, true, cond, _&&_}
 use mathlib.Core.List.{List, [], _∷_, _++_, map}
-use mathlib.Core.Logic.{_⊎_}
+use mathlib.Core.Logic.{_⊎_, _≢_}
 use mathlib.Core.Path.{_≡_}
-use lib.ListN.{length, replicate}
-use Rattle.names.specs.Alphabet.{allowed, capital}
+use lib.Dec.{eqb}
+use lib.ListN.{length, getD, replicate}
+use Rattle.names.specs.Alphabet.{plain, allowed, capital}
 
 abbrev pub dot : ℕ
 dot = 0x2E
@@ -45,3 +46,25 @@ pub record Means (s n : List ℕ) : Type 0 where
   pub ext : List ℕ
   pub spells : Spells s base ext
   pub bytes : n ≡ eleven base ext
+
+-- What stands in the directory entry of a live file: eleven bytes, capitals, digits and signs, padded by spaces.
+-- First byte 00: never used; E5: erased; a live entry does not start with 2E.
+pub record Proper (n : List ℕ) : Type 0 where
+  pub long : length n ≡ 11
+  pub bytes : (i : ℕ) → getD n i 0 < 256
+  pub letters : (i : ℕ) → i < 11 → (plain (getD n i 0) ≡ true) ⊎ (getD n i 0 ≡ space)
+  pub first : plain (getD n 0 0) ≡ true
+  pub blank : getD n 0 0 ≢ space
+  pub neverUsed : getD n 0 0 ≢ 0x00
+  pub erased : getD n 0 0 ≢ 0xE5
+  pub dotted : getD n 0 0 ≢ dot
+
+-- "TARE." equals "TARE": a last dot says nothing.
+unfoldable pub withoutLastDot : List ℕ → List ℕ
+withoutLastDot [] = []
+withoutLastDot (c ∷ []) = cond (eqb c dot) [] (c ∷ [])
+withoutLastDot (c ∷ (d ∷ cs)) = c ∷ withoutLastDot (d ∷ cs)
+
+-- small letters become capitals
+unfoldable pub plainly : List ℕ → List ℕ
+plainly s = map capital (withoutLastDot s)
