@@ -30,8 +30,12 @@ abbrev pub nameByte : List ℕ → List ℕ → ℕ → ℕ
 nameByte base ext i = cond (ltb i 8) (paddedByte base i) (paddedByte ext (i - 8))
 
 -- a name that does not fit is answered with eleven spaces
+abbrev pub answered : Bool → List ℕ → Spelled
+answered true n = record { fits = true; name = n }
+answered false n = record { fits = false; name = replicate 11 space }
+
 abbrev pub spelledAs : List ℕ → List ℕ → Spelled
-spelledAs base ext = cond (fitting base ext) (record { fits = true; name = eleven base ext }) (record { fits = false; name = replicate 11 space })
+spelledAs base ext = answered (fitting base ext) (eleven base ext)
 
 unfoldable pub nameOf : List ℕ → Spelled
 nameOf s = spelledAs (before dot s) (after dot s)

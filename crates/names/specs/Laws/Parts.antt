@@ -4,15 +4,17 @@ use native.Mathlib.Omega.{arith}
 use native.Mathlib.Decide.{decLt}
 use mathlib.Core.Bool.{Bool, true, false, cond}
 use mathlib.Core.List.{List, [], _∷_, _++_, map}
-use mathlib.Core.Logic.{_≢_}
+use mathlib.Core.Logic.{_⊎_, inl, inr}
 use mathlib.Core.Path.{_≡_, refl, sym, _∙_, ap}
 use lib.Dec.{eqb, ltb}
 use lib.ListN.{length, getD, take, drop, replicate, length-append, length-map, length-replicate, getD-replicate, List·getD-append, List·getD-map}
 use lib.Seq.{getD-append-add, take-all}
-use borrow.Author.Tests.{lt-ltb, le-ltb}
+use borrow.Author.Tests.{eqb-true, ne-eqb, lt-ltb, le-ltb}
 use Rattle.names.specs.Alphabet.{capital}
-use Rattle.names.specs.Spelling.{space, padded, Parts, eleven}
+use Rattle.names.specs.Spelling.{every, Parts, space, padded, eleven}
 use Rattle.names.specs.Reading.{before, after, paddedByte, nameByte}
+use Rattle.names.specs.Laws.Tests.{and-left, and-right}
+use Rattle.names.specs.Laws.Alphabet.{told}
 
 -- ---- cut at the first d
 
@@ -33,6 +35,34 @@ drop-after d (c ∷ cs) = go (eqb c d) (drop-after d cs)
     go : (b : Bool) → drop (suc (length (before d cs))) cs ≡ after d cs → drop (length (cond b [] (c ∷ before d cs))) cs ≡ cond b cs (after d cs)
     go true h = refl
     go false h = h
+
+-- s is cut there, or whole
+pub cut : (d : ℕ) (s : List ℕ) → ((s ≡ before d s) × (after d s ≡ [])) ⊎ (s ≡ before d s ++ (d ∷ after d s))
+unfolding before after
+cut d [] = inl (refl, refl)
+cut d (c ∷ cs) = go (eqb c d) refl (cut d cs)
+  where
+    go : (b : Bool) → eqb c d ≡ b → ((cs ≡ before d cs) × (after d cs ≡ [])) ⊎ (cs ≡ before d cs ++ (d ∷ after d cs))
+        → ((c ∷ cs ≡ cond b [] (c ∷ before d cs)) × (cond b cs (after d cs) ≡ [])) ⊎ (c ∷ cs ≡ cond b [] (c ∷ before d cs) ++ (d ∷ cond b cs (after d cs)))
+    go true e h = inr (ap (λ (x : ℕ). x ∷ cs) (eqb-true c d e))
+    go false e (inl h) = inl (ap (λ (l : List ℕ). c ∷ l) (h .0), h .1)
+    go false e (inr h) = inr (ap (λ (l : List ℕ). c ∷ l) h)
+
+-- a run without d stands before the first d
+module _ (p : ℕ → Bool) (d : ℕ) (never : p d ≡ false) where
+  pub before-skip : (b r : List ℕ) → every p b ≡ true → before d (b ++ r) ≡ b ++ before d r
+  unfolding before every
+  before-skip [] r e = refl
+  before-skip (c ∷ cs) r e =
+      let n : eqb c d ≡ false = ne-eqb c d (told p c d (and-left (p c) (every p cs) e) never) in
+      rw (n, before-skip cs r (and-right (p c) (every p cs) e))
+
+  pub after-skip : (b r : List ℕ) → every p b ≡ true → after d (b ++ r) ≡ after d r
+  unfolding after every
+  after-skip [] r e = refl
+  after-skip (c ∷ cs) r e =
+      let n : eqb c d ≡ false = ne-eqb c d (told p c d (and-left (p c) (every p cs) e) never) in
+      rw n (after-skip cs r (and-right (p c) (every p cs) e))
 
 -- ---- padded
 
