@@ -62,11 +62,7 @@ fn is_allowed(c: u8) -> bool
 fn to_capital(c: u8) -> u8
     ensures { λ r. ⌜ r ≡ capital c ⌝ }
 {
-    if is_within(b'a', b'z', c) {
-        c - 32
-    } else {
-        c
-    }
+    if is_within(b'a', b'z', c) { c - 32 } else { c }
 }
 
 // Whether a caller may write every character of s in a name.
@@ -120,11 +116,7 @@ fn parts_fit(base: &[u8], ext: &[u8]) -> bool
 fn padded_byte(s: &[u8], i: usize) -> u8
     ensures { λ r. ⌜ r ≡ paddedByte (now (s .entry)) i ⌝ }
 {
-    if i < s.len() {
-        to_capital(s[i])
-    } else {
-        b' '
-    }
+    if i < s.len() { to_capital(s[i]) } else { b' ' }
 }
 
 // Byte i of the eleven.

@@ -36,7 +36,7 @@ module _ (base ext : List ℕ) where
         eight = leb-true (length base) 8 (and-left _ _ e₁);
         three = leb-true (length ext) 3 (and-left _ _ e₂);
         baseAllowed = and-left (every allowed base) _ e₃;
-        extAllowed = and-right (every allowed base) _ e₃
+        extAllowed = and-right (every allowed base) _ e₃;
       }
 
   pub parts-fitting : Parts base ext → fitting base ext ≡ true
