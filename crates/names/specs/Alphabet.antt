@@ -1,6 +1,6 @@
 -- The characters of a name: letters (small ones become capitals), digits and the signs $ & # @ ! % ' ( ) - { } _.
 use Prim.Native.Nat.{ℕ, _-_}
-use mathlib.Core.Bool.{Bool, true, false, cond, _&&_, _||_}
+use mathlib.Core.Bool.{Bool, false, cond, _&&_, _||_}
 use mathlib.Core.List.{List, [], _∷_}
 use lib.Dec.{eqb, leb}
 
@@ -29,7 +29,7 @@ abbrev pub among : List ℕ → ℕ → Bool
 among [] c = false
 among (x ∷ xs) c = eqb c x || among xs c
 
--- capitals, digits and the signs: what a name on a volume is made of
+-- capitals, digits and the signs: what the eleven bytes are made of, but for padding
 unfoldable pub plain : ℕ → Bool
 plain c = largeLetter c || (digit c || among signs c)
 

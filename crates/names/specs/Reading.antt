@@ -18,6 +18,7 @@ unfoldable pub after : ℕ → List ℕ → List ℕ
 after d [] = []
 after d (c ∷ cs) = cond (eqb c d) cs (after d cs)
 
+-- the parts keep to the rules
 unfoldable pub fitting : List ℕ → List ℕ → Bool
 fitting base ext = leb 1 (length base) && (leb (length base) 8 && (leb (length ext) 3 && (every allowed base && every allowed ext)))
 
@@ -29,13 +30,15 @@ paddedByte t i = cond (ltb i (length t)) (capital (getD t i 0)) space
 abbrev pub nameByte : List ℕ → List ℕ → ℕ → ℕ
 nameByte base ext i = cond (ltb i 8) (paddedByte base i) (paddedByte ext (i - 8))
 
--- a name that does not fit is answered with eleven spaces
+-- where a name breaks the rules (refusal 42) it does not fit, and its bytes are eleven spaces
 abbrev pub answered : Bool → List ℕ → Spelled
 answered true n = record { fits = true; name = n }
 answered false n = record { fits = false; name = replicate 11 space }
 
+-- the answer for two parts
 abbrev pub spelledAs : List ℕ → List ℕ → Spelled
 spelledAs base ext = answered (fitting base ext) (eleven base ext)
 
+-- the answer for a name given by a caller
 unfoldable pub nameOf : List ℕ → Spelled
 nameOf s = spelledAs (before dot s) (after dot s)

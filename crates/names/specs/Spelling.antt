@@ -47,8 +47,8 @@ pub record Means (s n : List ℕ) : Type 0 where
   pub spells : Spells s base ext
   pub bytes : n ≡ eleven base ext
 
--- What stands in the directory entry of a live file: eleven bytes, capitals, digits and signs, padded by spaces.
--- First byte 00: never used; E5: erased; a live entry does not start with 2E.
+-- Eleven bytes that can be the name of a live file: capitals, digits and signs, padded by spaces.
+-- First byte 00: never used; E5: erased; a live entry that starts with 2E is not sound.
 pub record Proper (n : List ℕ) : Type 0 where
   pub long : length n ≡ 11
   pub bytes : (i : ℕ) → getD n i 0 < 256
@@ -65,6 +65,6 @@ withoutLastDot [] = []
 withoutLastDot (c ∷ []) = cond (eqb c dot) [] (c ∷ [])
 withoutLastDot (c ∷ (d ∷ cs)) = c ∷ withoutLastDot (d ∷ cs)
 
--- small letters become capitals
+-- s without the case of its letters and without a last dot
 unfoldable pub plainly : List ℕ → List ℕ
 plainly s = map capital (withoutLastDot s)

@@ -1,7 +1,7 @@
 // Names given by callers: eleven bytes, or refused.
 ghost use mathlib.Core.Path.{_≡_};
 ghost use lib.ListN.{length};
-ghost use Rattle.names.specs.Alphabet.{within, among, plain, allowed, capital};
+ghost use Rattle.names.specs.Alphabet.{within, smallLetter, among, plain, allowed, capital};
 ghost use Rattle.names.specs.Spelling.{dot, every, Parts, eleven};
 ghost use Rattle.names.specs.Reading.{before, fitting, paddedByte, nameByte, spelledAs, nameOf};
 
@@ -48,11 +48,18 @@ pub fn is_plain(c: u8) -> bool
     is_among(b"$&#@!%'()-{}_", c)
 }
 
+// Whether c is a small letter.
+fn is_small(c: u8) -> bool
+    ensures { λ r. ⌜ r ≡ smallLetter c ⌝ }
+{
+    is_within(b'a', b'z', c)
+}
+
 // Whether a caller may write c in a name.
 fn is_allowed(c: u8) -> bool
     ensures { λ r. ⌜ r ≡ allowed c ⌝ }
 {
-    if is_within(b'a', b'z', c) {
+    if is_small(c) {
         return true;
     }
     is_plain(c)
@@ -62,7 +69,7 @@ fn is_allowed(c: u8) -> bool
 fn to_capital(c: u8) -> u8
     ensures { λ r. ⌜ r ≡ capital c ⌝ }
 {
-    if is_within(b'a', b'z', c) { c - 32 } else { c }
+    if is_small(c) { c - 32 } else { c }
 }
 
 // Whether a caller may write every character of s in a name.

@@ -4,8 +4,8 @@ use borrow.Author.Needs.{needs}
 use Rattle.names.proofs.is_allowed.Statement.{statement}
 use Rattle.names.proofs.is_allowed.Tie as tie
 
-is-within-requires : tie.Need-is-within-requires
-is-within-requires c κs = search needs
+is-small-requires : tie.Need-is-small-requires
+is-small-requires c κs = search needs
 
 returns : tie.Need-returns
 returns c = search allowed-small
@@ -17,4 +17,4 @@ returns-2 : tie.Need-returns-2
 returns-2 c = search allowed-plain
 
 pub is-allowed-spec : {M : Type 1} → statement M
-is-allowed-spec = tie.close (tie.spec is-within-requires returns is-plain-requires returns-2)
+is-allowed-spec = tie.close (tie.spec is-small-requires returns is-plain-requires returns-2)

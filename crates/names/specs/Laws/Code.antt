@@ -1,13 +1,13 @@
 -- The definitions in the form of the code's needs. A loop's law says: what is left, from here on, gives what the whole gives.
-use Prim.Native.Nat.{ℕ, zero, suc, _+_, _-_, _≤_, _<_}
+use Prim.Native.Nat.{ℕ, suc, _+_, _-_, _≤_, _<_}
 use native.Mathlib.Omega.{arith}
 use native.Mathlib.Numerals.{add-one}
 use native.Mathlib.Decide.{ℕ-discrete}
-use mathlib.Core.Bool.{Bool, true, false, cond, not, _&&_, _||_}
-use mathlib.Core.List.{List, [], _∷_, map}
+use mathlib.Core.Bool.{Bool, true, false, and-false, not}
+use mathlib.Core.List.{List, [], _∷_}
 use mathlib.Core.Logic.{_≢_}
-use mathlib.Core.Path.{_≡_, refl, sym, _∙_, ap}
-use lib.Dec.{eqb, leb, ltb}
+use mathlib.Core.Path.{_≡_, sym, _∙_}
+use lib.Dec.{leb}
 use lib.ListN.{length, getD, set, take, drop, replicate, length-drop, drop-of-length-le}
 use lib.Seq.{drop-cons, getD-set-same, getD-set-other, ext-getD, take-all, length-take-le}
 use borrow.Author.Tests.{not-true, not-false, leb-true, eq-eqb, ne-eqb, le-leb, lt-leb, lt-ltb, le-ltb}
@@ -107,24 +107,22 @@ module _ (base ext : List ℕ) where
   unfolding fitting
   fitting-none h = rw (lt-leb 1 (length base) h)
 
-  module _ (some : 1 ≤ length base) where
-    pub fitting-long : 8 < length base → false ≡ fitting base ext
+  pub fitting-long : 8 < length base → false ≡ fitting base ext
+  unfolding fitting
+  fitting-long h = rw (lt-leb (length base) 8 h, and-false (leb 1 (length base)))
+
+  pub fitting-longer : 3 < length ext → false ≡ fitting base ext
+  unfolding fitting
+  fitting-longer h = rw (lt-leb (length ext) 3 h, and-false (leb (length base) 8), and-false (leb 1 (length base)))
+
+  module _ (a : Bool) (isBase : a ≡ every allowed base) where
+    pub fitting-strange : not a ≡ true → false ≡ fitting base ext
     unfolding fitting
-    fitting-long h = rw (le-leb 1 (length base) some, lt-leb (length base) 8 h)
+    fitting-strange h = rw (sym isBase ∙ not-true a h, and-false (leb (length ext) 3), and-false (leb (length base) 8), and-false (leb 1 (length base)))
 
-    module _ (eight : length base ≤ 8) where
-      pub fitting-longer : 3 < length ext → false ≡ fitting base ext
-      unfolding fitting
-      fitting-longer h = rw (le-leb 1 (length base) some, le-leb (length base) 8 eight, lt-leb (length ext) 3 h)
-
-      module _ (three : length ext ≤ 3) (a : Bool) (isBase : a ≡ every allowed base) where
-        pub fitting-strange : not a ≡ true → false ≡ fitting base ext
-        unfolding fitting
-        fitting-strange h = rw (le-leb 1 (length base) some, le-leb (length base) 8 eight, le-leb (length ext) 3 three, sym isBase ∙ not-true a h)
-
-        pub fitting-rest : (b : Bool) → not a ≡ false → b ≡ every allowed ext → b ≡ fitting base ext
-        unfolding fitting
-        fitting-rest b h isExt = isExt ∙ rw (le-leb 1 (length base) some, le-leb (length base) 8 eight, le-leb (length ext) 3 three, sym isBase ∙ not-false a h)
+    pub fitting-rest : (b : Bool) → 1 ≤ length base → length base ≤ 8 → length ext ≤ 3 → not a ≡ false → b ≡ every allowed ext → b ≡ fitting base ext
+    unfolding fitting
+    fitting-rest b some eight three h isExt = isExt ∙ rw (le-leb 1 (length base) some, le-leb (length base) 8 eight, le-leb (length ext) 3 three, sym isBase ∙ not-false a h)
 
 pub padded-letter : (t : List ℕ) (i r : ℕ) → i < length t → r ≡ capital (getD t i 0) → r ≡ paddedByte t i
 padded-letter t i r h e = e ∙ rw (lt-ltb i (length t) h)

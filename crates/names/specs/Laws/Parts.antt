@@ -1,14 +1,14 @@
 -- What stands before and after a character, and what is padded.
-use Prim.Native.Nat.{ℕ, zero, suc, _+_, _-_, _≤_, _<_}
+use Prim.Native.Nat.{ℕ, suc, _+_, _-_, _≤_, _<_}
 use native.Mathlib.Omega.{arith}
 use native.Mathlib.Decide.{decLt}
 use mathlib.Core.Bool.{Bool, true, false, cond}
 use mathlib.Core.List.{List, [], _∷_, _++_, map}
 use mathlib.Core.Logic.{_⊎_, inl, inr}
-use mathlib.Core.Path.{_≡_, refl, sym, _∙_, ap}
-use lib.Dec.{eqb, ltb}
+use mathlib.Core.Path.{_≡_, refl, _∙_, ap}
+use lib.Dec.{eqb}
 use lib.ListN.{length, getD, take, drop, replicate, length-append, length-map, length-replicate, getD-replicate, List·getD-append, List·getD-map}
-use lib.Seq.{getD-append-add, take-all}
+use lib.Seq.{getD-append-add}
 use borrow.Author.Tests.{eqb-true, ne-eqb, lt-ltb, le-ltb}
 use Rattle.names.specs.Alphabet.{capital}
 use Rattle.names.specs.Spelling.{every, Parts, space, padded, eleven}

@@ -1,14 +1,14 @@
 -- The eleven bytes of an accepted name can stand in the entry of a live file.
-use Prim.Native.Nat.{ℕ, _-_, _≤_, _<_}
+use Prim.Native.Nat.{ℕ, _-_, _<_}
 use native.Mathlib.Omega.{arith}
 use native.Mathlib.Decide.{decLt}
 use mathlib.Core.Bool.{true}
 use mathlib.Core.List.{List}
-use mathlib.Core.Logic.{_⊎_, inl, inr}
-use mathlib.Core.Path.{_≡_, refl, sym, _∙_}
+use mathlib.Core.Logic.{_⊎_, inl, inr, _≢_}
+use mathlib.Core.Path.{_≡_, refl}
 use lib.ListN.{length, getD, List·getD-eq-default}
 use borrow.Author.Tests.{lt-ltb, le-ltb}
-use Rattle.names.specs.Alphabet.{plain, allowed, capital}
+use Rattle.names.specs.Alphabet.{plain, allowed}
 use Rattle.names.specs.Spelling.{dot, space, every, Parts, eleven, Proper}
 use Rattle.names.specs.Reading.{before, after, paddedByte, nameByte, nameOf}
 use Rattle.names.specs.Laws.Alphabet.{told, plain-below, capital-plain, every-at}
@@ -61,3 +61,7 @@ module _ (base ext : List ℕ) (p : Parts base ext) where
 
 pub proper : (s : List ℕ) → nameOf s .fits ≡ true → Proper (nameOf s .name)
 proper s e = rw (fits-name s e) (proper-eleven (before dot s) (after dot s) (fits-spells s e .parts))
+
+-- Names found on a volume may hold other bytes; they are then out of a caller's reach.
+pub out-of-reach : (n : List ℕ) → (Proper n → ⊥) → (s : List ℕ) → nameOf s .fits ≡ true → nameOf s .name ≢ n
+out-of-reach n h s e q = h (rw q at (proper s e))
