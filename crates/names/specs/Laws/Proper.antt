@@ -18,8 +18,8 @@ use Rattle.names.specs.Laws.Meaning.{fits-spells, fits-name}
 padded-plain : (t : List ℕ) (i : ℕ) → every allowed t ≡ true → i < length t → plain (paddedByte t i) ≡ true
 padded-plain t i e h = rw (lt-ltb i (length t) h) (capital-plain (getD t i 0) (every-at allowed t i e h))
 
-padded-letter : (t : List ℕ) (i : ℕ) → every allowed t ≡ true → (plain (paddedByte t i) ≡ true) ⊎ (paddedByte t i ≡ space)
-padded-letter t i e = elim (decLt i (length t)) [
+padded-either : (t : List ℕ) (i : ℕ) → every allowed t ≡ true → (plain (paddedByte t i) ≡ true) ⊎ (paddedByte t i ≡ space)
+padded-either t i e = elim (decLt i (length t)) [
   | yes h ↦ inl (padded-plain t i e h)
   | no h ↦ inr (rw (le-ltb i (length t) (omega arith)))
 ]
@@ -27,8 +27,8 @@ padded-letter t i e = elim (decLt i (length t)) [
 module _ (base ext : List ℕ) (p : Parts base ext) where
   byte-letter : (i : ℕ) → (plain (nameByte base ext i) ≡ true) ⊎ (nameByte base ext i ≡ space)
   byte-letter i = elim (decLt i 8) [
-    | yes h ↦ rw (lt-ltb i 8 h) (padded-letter base i (p .baseAllowed))
-    | no h ↦ rw (le-ltb i 8 (omega arith)) (padded-letter ext (i - 8) (p .extAllowed))
+    | yes h ↦ rw (lt-ltb i 8 h) (padded-either base i (p .baseAllowed))
+    | no h ↦ rw (le-ltb i 8 (omega arith)) (padded-either ext (i - 8) (p .extAllowed))
   ]
 
   letter : (i : ℕ) → i < 11 → (plain (getD (eleven base ext) i 0) ≡ true) ⊎ (getD (eleven base ext) i 0 ≡ space)
