@@ -1,0 +1,187 @@
+-- The definitions in the form of the code's needs. A loop's law says: what is left, from here on, gives what the whole gives.
+use Prim.Native.Nat.{ℕ, suc, _+_, _-_, _≤_, _<_}
+use native.Mathlib.Omega.{arith}
+use native.Mathlib.Numerals.{add-one}
+use native.Mathlib.Decide.{ℕ-discrete}
+use mathlib.Core.Bool.{Bool, true, false, and-false, not}
+use mathlib.Core.List.{List, [], _∷_}
+use mathlib.Core.Logic.{_≢_}
+use mathlib.Core.Path.{_≡_, sym, _∙_}
+use lib.Dec.{leb}
+use lib.ListN.{length, getD, set, take, drop, replicate, length-drop, drop-of-length-le}
+use lib.Seq.{drop-cons, getD-set-same, getD-set-other, ext-getD, take-all, length-take-le}
+use borrow.Author.Tests.{not-true, not-false, leb-true, eq-eqb, ne-eqb, le-leb, lt-leb, lt-ltb, le-ltb}
+use Rattle.names.specs.Alphabet.{within, largeLetter, smallLetter, digit, signs, among, plain, allowed, capital}
+use Rattle.names.specs.Spelling.{dot, space, every, Parts, eleven}
+use Rattle.names.specs.Reading.{before, after, fitting, paddedByte, nameByte, spelledAs, nameOf}
+use Rattle.names.specs.Laws.Tests.{and-left, fitting-parts}
+use Rattle.names.specs.Laws.Parts.{take-before, drop-after, length-eleven, eleven-at}
+use Rattle.names.specs.declared.Spelled.{Spelled}
+
+pub drop-next : (s : List ℕ) (i : ℕ) → i < length s → drop i s ≡ getD s i 0 ∷ drop (i + 1) s
+drop-next s i h = rw (add-one i) (drop-cons s i 0 h)
+
+-- ---- characters
+
+pub within-below : (low high c : ℕ) → c < low → false ≡ within low high c
+within-below low high c h = rw (lt-leb low c h)
+
+pub within-from : (low high c : ℕ) → low ≤ c → leb c high ≡ within low high c
+within-from low high c h = rw (le-leb low c h)
+
+module _ (s : List ℕ) (c i : ℕ) (b : Bool) where
+  pub among-turn : i < length s → c ≢ getD s i 0 → among (drop i s) c ≡ b → among (drop (i + 1) s) c ≡ b
+  among-turn h n inv = rw (ne-eqb c (getD s i 0) n) at (rw (drop-next s i h) at inv)
+
+  pub among-found : i < length s → c ≡ getD s i 0 → among (drop i s) c ≡ b → true ≡ b
+  among-found h e inv = rw (eq-eqb c (getD s i 0) e) at (rw (drop-next s i h) at inv)
+
+  pub among-done : length s ≤ i → among (drop i s) c ≡ b → false ≡ b
+  among-done h inv = rw (drop-of-length-le s h) at inv
+
+module _ (c : ℕ) (l d r : Bool) (large : l ≡ largeLetter c) where
+  pub plain-large : l ≡ true → true ≡ plain c
+  unfolding plain
+  plain-large e = rw (sym large ∙ e)
+
+  pub plain-digit : l ≡ false → d ≡ digit c → d ≡ true → true ≡ plain c
+  unfolding plain
+  plain-digit e number f = rw (sym large ∙ e, sym number ∙ f)
+
+  pub plain-sign : l ≡ false → d ≡ digit c → d ≡ false → r ≡ among signs c → r ≡ plain c
+  unfolding plain
+  plain-sign e number f sign = sign ∙ rw (sym large ∙ e, sym number ∙ f)
+
+module _ (c : ℕ) (s : Bool) (small : s ≡ smallLetter c) where
+  pub allowed-small : s ≡ true → true ≡ allowed c
+  unfolding allowed
+  allowed-small e = rw (sym small ∙ e)
+
+  pub allowed-plain : (r : Bool) → s ≡ false → r ≡ plain c → r ≡ allowed c
+  unfolding allowed
+  allowed-plain r e p = p ∙ rw (sym small ∙ e)
+
+  pub small-from : s ≡ true → 0x61 ≤ c
+  small-from e = leb-true 0x61 c (and-left (leb 0x61 c) (leb c 0x7A) (sym small ∙ e))
+
+  pub capital-small : s ≡ true → c - 32 ≡ capital c
+  unfolding capital
+  capital-small e = rw (sym small ∙ e)
+
+  pub capital-other : s ≡ false → c ≡ capital c
+  unfolding capital
+  capital-other e = rw (sym small ∙ e)
+
+module _ (s : List ℕ) (i : ℕ) (a b : Bool) (is : a ≡ allowed (getD s i 0)) (inv : every allowed (drop i s) ≡ b) where
+  pub all-turn : i < length s → not a ≡ false → every allowed (drop (i + 1) s) ≡ b
+  unfolding every
+  all-turn h e = rw (sym is ∙ not-false a e) at (rw (drop-next s i h) at inv)
+
+  pub all-found : i < length s → not a ≡ true → false ≡ b
+  unfolding every
+  all-found h e = rw (sym is ∙ not-true a e) at (rw (drop-next s i h) at inv)
+
+pub all-done : (s : List ℕ) (i : ℕ) (b : Bool) → every allowed (drop i s) ≡ b → length s ≤ i → true ≡ b
+unfolding every
+all-done s i b inv h = rw (drop-of-length-le s h) at inv
+
+-- ---- the first dot
+
+module _ (d : ℕ) (s : List ℕ) (i m : ℕ) (inv : i + length (before d (drop i s)) ≡ m) where
+  pub before-turn : i < length s → getD s i 0 ≢ d → i + 1 + length (before d (drop (i + 1) s)) ≡ m
+  unfolding before
+  before-turn h n = let p = rw (ne-eqb (getD s i 0) d n) at (rw (drop-next s i h) at inv) in omega arith
+
+  pub before-found : i < length s → getD s i 0 ≡ d → i ≡ m
+  unfolding before
+  before-found h e = let p = rw (eq-eqb (getD s i 0) d e) at (rw (drop-next s i h) at inv) in omega arith
+
+  pub before-done : length s ≤ i → i ≡ m
+  unfolding before
+  before-done h = let p = rw (drop-of-length-le s h) at inv in omega arith
+
+-- ---- the parts
+
+module _ (base ext : List ℕ) where
+  pub fitting-none : length base < 1 → false ≡ fitting base ext
+  unfolding fitting
+  fitting-none h = rw (lt-leb 1 (length base) h)
+
+  pub fitting-long : 8 < length base → false ≡ fitting base ext
+  unfolding fitting
+  fitting-long h = rw (lt-leb (length base) 8 h, and-false (leb 1 (length base)))
+
+  pub fitting-longer : 3 < length ext → false ≡ fitting base ext
+  unfolding fitting
+  fitting-longer h = rw (lt-leb (length ext) 3 h, and-false (leb (length base) 8), and-false (leb 1 (length base)))
+
+  module _ (a : Bool) (isBase : a ≡ every allowed base) where
+    pub fitting-strange : not a ≡ true → false ≡ fitting base ext
+    unfolding fitting
+    fitting-strange h = rw (sym isBase ∙ not-true a h, and-false (leb (length ext) 3), and-false (leb (length base) 8), and-false (leb 1 (length base)))
+
+    pub fitting-rest : (b : Bool) → 1 ≤ length base → length base ≤ 8 → length ext ≤ 3 → not a ≡ false → b ≡ every allowed ext → b ≡ fitting base ext
+    unfolding fitting
+    fitting-rest b some eight three h isExt = isExt ∙ rw (le-leb 1 (length base) some, le-leb (length base) 8 eight, le-leb (length ext) 3 three, sym isBase ∙ not-false a h)
+
+pub padded-letter : (t : List ℕ) (i r : ℕ) → i < length t → r ≡ capital (getD t i 0) → r ≡ paddedByte t i
+padded-letter t i r h e = e ∙ rw (lt-ltb i (length t) h)
+
+pub padded-space : (t : List ℕ) (i : ℕ) → length t ≤ i → space ≡ paddedByte t i
+padded-space t i h = rw (le-ltb i (length t) h)
+
+pub byte-of-base : (base ext : List ℕ) (i r : ℕ) → i < 8 → r ≡ paddedByte base i → r ≡ nameByte base ext i
+byte-of-base base ext i r h e = e ∙ rw (lt-ltb i 8 h)
+
+pub byte-of-ext : (base ext : List ℕ) (i r : ℕ) → 8 ≤ i → r ≡ paddedByte ext (i - 8) → r ≡ nameByte base ext i
+byte-of-ext base ext i r h e = e ∙ rw (le-ltb i 8 h)
+
+-- the bytes below i are those of the name
+abbrev pub Done : List ℕ → List ℕ → List ℕ → ℕ → Type 0
+Done base ext name i = (k : ℕ) → k < i → getD name k 0 ≡ nameByte base ext k
+
+pub done-none : (base ext name : List ℕ) → Done base ext name 0
+done-none base ext name k h = absurd (omega arith)
+
+pub done-turn : (base ext name : List ℕ) (i r : ℕ) → length name ≡ 11 → i < 11 → r ≡ nameByte base ext i → Done base ext name i → Done base ext (set name i r) (i + 1)
+done-turn base ext name i r l h e d k b = elim (ℕ-discrete k i) [
+  | yes p ↦ rw p (getD-set-same name i r 0 (omega arith) ∙ e)
+  | no p ↦ getD-set-other name i k r 0 p ∙ d k (omega arith)
+]
+
+pub done-all : (base ext name : List ℕ) (i : ℕ) → Parts base ext → length name ≡ 11 → 11 ≤ i → Done base ext name i → name ≡ eleven base ext
+done-all base ext name i p l g d =
+    ext-getD 0 name (eleven base ext) (l ∙ sym (length-eleven base ext p))
+    (λ j m. d j (omega arith) ∙ sym (eleven-at base ext j p (omega arith)))
+
+-- ---- the answer
+
+module _ (base ext : List ℕ) (f : Bool) (fit : f ≡ fitting base ext) where
+  pub parts-refused : not f ≡ true → record { fits = false; name = replicate 11 space } ≡ spelledAs base ext
+  parts-refused h = rw (sym fit ∙ not-true f h)
+
+  pub parts-kept : not f ≡ false → Parts base ext
+  parts-kept h = fitting-parts base ext (sym fit ∙ not-false f h)
+
+  pub parts-named : (n : List ℕ) → not f ≡ false → n ≡ eleven base ext → record { fits = true; name = n } ≡ spelledAs base ext
+  parts-named n h e = rw (sym fit ∙ not-false f h, e)
+
+module _ (s : List ℕ) (at : ℕ) where
+  pub length-front : at < length s → at ≡ length (take at s)
+  length-front h = sym (length-take-le at s (omega arith))
+
+  module _ (r : Spelled) (is : at ≡ length (before dot s)) where
+    pub given-dot : r ≡ spelledAs (take at s) (take (length s - (at + 1)) (drop (at + 1) s)) → r ≡ nameOf s
+    unfolding nameOf
+    given-dot e =
+        let a : take at s ≡ before dot s = rw is (take-before dot s) in
+        let b : drop (at + 1) s ≡ after dot s = rw (is, add-one (length (before dot s))) (drop-after dot s) in
+        let t : take (length s - (at + 1)) (drop (at + 1) s) ≡ drop (at + 1) s = take-all (length s - (at + 1)) (drop (at + 1) s) (simp length-drop (omega arith)) in
+        e ∙ rw (t, a, b)
+
+    pub given-plain : length s ≤ at → r ≡ spelledAs s [] → r ≡ nameOf s
+    unfolding nameOf
+    given-plain h e =
+        let a : before dot s ≡ s = sym (take-before dot s) ∙ take-all (length (before dot s)) s (omega arith) in
+        let b : after dot s ≡ [] = sym (drop-after dot s) ∙ drop-of-length-le s {i = suc (length (before dot s))} (omega arith) in
+        e ∙ rw (a, b)
