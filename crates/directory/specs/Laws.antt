@@ -1,0 +1,5 @@
+-- The laws of the definitions beside this folder.
+pub mod Fields
+pub mod Slots
+pub mod Names
+pub mod Search

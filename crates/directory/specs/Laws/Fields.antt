@@ -1,0 +1,54 @@
+-- Fields.
+use Prim.Native.Nat.{ℕ, zero, suc, _+_, _-_, _*_, _≤_, _<_}
+use native.Mathlib.Omega.{arith}
+use mathlib.Core.Path.{_≡_, refl, sym, _∙_, ap}
+use mathlib.Core.List.{List, [], _∷_, _++_}
+use mathlib.Core.Logic.{_⊎_, inl, inr}
+use lib.ListN.{length, getD, replicate, take, drop, length-append, length-replicate}
+use lib.Seq.{ext-getD, getD-append-add}
+use Rattle.image.specs.Bytes.{Bytes}
+use Rattle.image.specs.Store.{stored, part, Outside, Apart}
+use Rattle.image.specs.Numbers.{number, digits}
+use Rattle.image.specs.Laws.Store.{length-stored, stored-inside, stored-outside, stored-append, part-same, length-part, part-at}
+use Rattle.image.specs.Laws.Numbers.{length-digits}
+use Rattle.directory.specs.Fields.{nameOf, attrOf, reservedOf, timeOf, dateOf, startOf, sizeOf, headBytes, tailBytes, entryBytes}
+
+-- ---- the code's needs
+
+-- a list of which every byte is stored anew
+pub stored-whole : (l s : List ℕ) → length l ≡ length s → stored l 0 s ≡ s
+stored-whole l s e =
+    ext-getD 0 (stored l 0 s) s (length-stored l 0 s ∙ e)
+    (λ i k. let z : 0 + i ≡ i = omega arith in rw z at (stored-inside l 0 s i (omega (arith, length-stored l 0 s)) (omega arith)))
+
+pub name-copied : (l r : List ℕ) (a : ℕ) → a + 32 ≤ length l → r ≡ stored (replicate 11 0) 0 (take (a + 11 - a) (drop a l)) → r ≡ nameOf l a
+name-copied l r a h p =
+    let e : a + 11 - a ≡ 11 = omega arith in
+    let n : length (part l a 11) ≡ 11 = length-part l a 11 (omega arith) in
+    (rw e at p) ∙ stored-whole (replicate 11 0) (part l a 11) (omega arith)
+
+-- a store that goes on where another ended
+and-then : (l m k : List ℕ) (a b : ℕ) (s t : List ℕ) → m ≡ stored l a s → k ≡ stored m b t → b ≡ a + length s → k ≡ stored l a (s ++ t)
+and-then l m k a b s t p q e = rw (q, p, e, stored-append l a s t)
+
+pub head-stored : (l l₁ l₂ l₃ : List ℕ) (a : ℕ) (name : List ℕ) (attr : ℕ) → length name ≡ 11 → l₁ ≡ stored l a name → l₂ ≡ stored l₁ (a + 11) (attr ∷ []) → l₃ ≡ stored l₂ (a + 12) (replicate 10 0) → l₃ ≡ stored l a (headBytes name attr)
+unfolding headBytes
+head-stored l l₁ l₂ l₃ a name attr e p q r =
+    let x : l₃ ≡ stored l₁ (a + 11) ((attr ∷ []) ++ replicate 10 0) = and-then l₁ l₂ l₃ (a + 11) (a + 12) (attr ∷ []) (replicate 10 0) q r (omega arith) in
+    and-then l l₁ l₃ a (a + 11) name (attr ∷ replicate 10 0) p x (omega arith)
+
+pub tail-stored : (l l₁ l₂ l₃ l₄ : List ℕ) (a time date start size : ℕ) → l₁ ≡ stored l (a + 22) (digits time 2) → l₂ ≡ stored l₁ (a + 24) (digits date 2) → l₃ ≡ stored l₂ (a + 26) (digits start 2) → l₄ ≡ stored l₃ (a + 28) (digits size 4) → l₄ ≡ stored l (a + 22) (tailBytes time date start size)
+unfolding tailBytes
+tail-stored l l₁ l₂ l₃ l₄ a time date start size p q r s =
+    let y = and-then l₂ l₃ l₄ (a + 26) (a + 28) (digits start 2) (digits size 4) r s (rw (length-digits start 2) (omega arith)) in
+    let x = and-then l₁ l₂ l₄ (a + 24) (a + 26) (digits date 2) (digits start 2 ++ digits size 4) q y (rw (length-digits date 2) (omega arith)) in
+    and-then l l₁ l₄ (a + 22) (a + 24) (digits time 2) (digits date 2 ++ (digits start 2 ++ digits size 4)) p x (rw (length-digits time 2) (omega arith))
+
+pub length-head : (name : List ℕ) (attr : ℕ) → length name ≡ 11 → length (headBytes name attr) ≡ 22
+unfolding headBytes
+length-head name attr e = length-append name (attr ∷ replicate 10 0) ∙ omega arith
+
+pub entry-stored : (l m k : List ℕ) (a : ℕ) (name : List ℕ) (attr time date start size : ℕ) → length name ≡ 11 → m ≡ stored l a (headBytes name attr) → k ≡ stored m (a + 22) (tailBytes time date start size) → k ≡ stored l a (entryBytes name attr time date start size)
+unfolding entryBytes
+entry-stored l m k a name attr time date start size e p q =
+    and-then l m k a (a + 22) (headBytes name attr) (tailBytes time date start size) p q (omega (arith, length-head name attr e))
