@@ -1,5 +1,5 @@
 -- A slot found in a directory of count slots, the first of which stands at byte root.
-use Prim.Native.Nat.{ℕ, zero, suc, _+_, _*_}
+use Prim.Native.Nat.{ℕ, zero, suc, _+_, _*_, _<_}
 use mathlib.Core.Bool.{Bool, true, false, cond, _&&_}
 use mathlib.Core.List.{List}
 use lib.Dec.{eqb}
@@ -18,6 +18,19 @@ lowestFrom p s (suc n) = cond (p s) (At s) (lowestFrom p (s + 1) n)
 unfoldable pub lowest : (ℕ → Bool) → ℕ → Found
 lowest p count = lowestFrom p 0 count
 
+-- ---- what an answer means: it passes and none below does; or none does
+
+pub record LowestBelow (P : ℕ → Type 0) (count s : ℕ) : Type 0 where
+  pub below : s < count
+  pub passes : P s
+  pub none-lower : (q : ℕ) → q < s → ¬ P q
+
+abbrev pub Answers : (ℕ → Type 0) → ℕ → Found → Type 0
+Answers P count (At s) = LowestBelow P count s
+Answers P count Nothing = (q : ℕ) → q < count → ¬ P q
+
+-- ---- names
+
 -- the n bytes of x and of y from byte i on are the same
 unfoldable pub sameFrom : List ℕ → List ℕ → ℕ → ℕ → Bool
 sameFrom x y i zero = true
@@ -26,6 +39,8 @@ sameFrom x y i (suc n) = eqb (getD x i 0) (getD y i 0) && sameFrom x y (i + 1) n
 -- two names, compared on all 11 bytes
 unfoldable pub sameName : List ℕ → List ℕ → Bool
 sameName x y = sameFrom x y 0 11
+
+-- ---- slots
 
 -- the address of a slot
 abbrev pub slotFrom : ℕ → ℕ → ℕ

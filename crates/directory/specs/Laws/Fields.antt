@@ -52,3 +52,8 @@ pub entry-stored : (l m k : List ℕ) (a : ℕ) (name : List ℕ) (attr time dat
 unfolding entryBytes
 entry-stored l m k a name attr time date start size e p q =
     and-then l m k a (a + 22) (headBytes name attr) (tailBytes time date start size) p q (omega (arith, length-head name attr e))
+
+pub length-entry : (name : List ℕ) (attr time date start size : ℕ) → length name ≡ 11 → length (entryBytes name attr time date start size) ≡ 32
+unfolding entryBytes tailBytes digits
+length-entry name attr time date start size e =
+    length-append (headBytes name attr) (tailBytes time date start size) ∙ omega (arith, length-head name attr e)
