@@ -1,6 +1,6 @@
 // The 32 bytes of a directory entry, by the address a of the first: fields read and stored, what a slot stands for, slots found.
 ghost use mathlib.Core.Path.{_≡_};
-ghost use Prim.Native.Nat.{ℕ, _+_, _*_, _≤_};
+ghost use Prim.Native.Nat.{_+_, _*_, _≤_};
 ghost use lib.ListN.{length};
 ghost use Rattle.directory.specs.Fields.{nameOf, attrOf, timeOf, dateOf, startOf, sizeOf, withName, withFirst, withAttr, withTime, withDate, withStart, withSize, headBytes, tailBytes, withEntry};
 ghost use Rattle.directory.specs.Slots.{standingBy, standingOf, isOpen, isPlain};

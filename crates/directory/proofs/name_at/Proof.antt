@@ -1,3 +1,4 @@
+-- The copy of the eleven bytes takes the place of every byte of the array.
 use Rattle.directory.specs.Laws.Fields.{name-copied}
 use borrow.Author.Needs.{needs}
 use Rattle.directory.proofs.name_at.Statement.{statement}

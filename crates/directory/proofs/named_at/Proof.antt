@@ -1,3 +1,4 @@
+-- A plain file is compared by its name; nothing else has that name.
 use Rattle.directory.specs.Laws.Names.{named-plain, named-none}
 use borrow.Author.Needs.{needs}
 use Rattle.directory.proofs.named_at.Statement.{statement}

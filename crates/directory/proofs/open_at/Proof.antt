@@ -1,3 +1,4 @@
+-- The test of what the slot stands for.
 use Rattle.directory.specs.Slots.{isOpen}
 use Rattle.directory.specs.Laws.Slots.{test-of}
 use borrow.Author.Needs.{needs}

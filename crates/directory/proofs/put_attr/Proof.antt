@@ -1,3 +1,4 @@
+-- One byte set is a run of one byte stored.
 use Rattle.image.specs.Store.{stored}
 use borrow.Author.Needs.{needs}
 use Rattle.directory.proofs.put_attr.Statement.{statement}

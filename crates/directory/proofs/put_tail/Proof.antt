@@ -1,3 +1,4 @@
+-- Time, date, start and size side by side are the last ten bytes.
 use Rattle.directory.specs.Laws.Fields.{tail-stored}
 use borrow.Author.Needs.{needs}
 use Rattle.directory.proofs.put_tail.Statement.{statement}

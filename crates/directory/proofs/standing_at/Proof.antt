@@ -1,3 +1,4 @@
+-- The two bytes that were read decide.
 use borrow.Author.Needs.{needs}
 use Rattle.directory.proofs.standing_at.Statement.{statement}
 use Rattle.directory.proofs.standing_at.Tie as tie

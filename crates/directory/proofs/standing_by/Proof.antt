@@ -1,3 +1,4 @@
+-- Each way out is one case of the rule.
 use Rattle.directory.specs.Laws.Slots.{never-used, erased, label, plain}
 use Rattle.directory.proofs.standing_by.Statement.{statement}
 use Rattle.directory.proofs.standing_by.Tie as tie

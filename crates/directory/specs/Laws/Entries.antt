@@ -2,21 +2,19 @@
 -- law is stated over the place of the store.
 use Prim.Native.Nat.{ℕ, _+_, _≤_, _<_}
 use native.Mathlib.Omega.{arith}
-use mathlib.Core.Path.{_≡_, refl, sym, _∙_, ap}
+use mathlib.Core.Path.{_≡_, sym, _∙_, ap}
 use mathlib.Core.List.{List, [], _∷_, _++_, append-assoc}
-use mathlib.Core.Logic.{_⊎_, inl, inr}
-use lib.ListN.{length, getD, replicate, take, drop, length-append, List·getD-append}
+use mathlib.Core.Logic.{inl, inr}
+use lib.ListN.{length, getD, replicate, length-append, List·getD-append}
 use lib.Seq.{getD-append-add, take-at, drop-at, getD-at}
-use Rattle.image.specs.Bytes.{Bytes}
 use Rattle.image.specs.Store.{stored, part, Outside, Apart}
 use Rattle.image.specs.Numbers.{number, digits}
 use Rattle.image.specs.Laws.Store.{length-stored, stored-inside, stored-outside, part-same, part-at, part-stored, part-apart}
 use Rattle.image.specs.Laws.Numbers.{number-same, number-stored, number-apart}
-use Rattle.directory.specs.Fields.{nameOf, attrOf, timeOf, withFirst, withAttr, withName, withEntry, headBytes, tailBytes, entryBytes}
+use Rattle.directory.specs.Fields.{attrOf, withFirst, withAttr, withName, withEntry, headBytes, tailBytes, entryBytes}
 use Rattle.directory.specs.Slots.{standingBy, standingOf}
 use Rattle.directory.specs.Entries.{Holds, SameBytes, SameFields, Untouched}
 use Rattle.directory.specs.Laws.Fields.{length-head, length-entry}
-use Rattle.directory.specs.declared.Standing.{Standing}
 
 same-standing : (f f′ v v′ : ℕ) → f ≡ f′ → v ≡ v′ → standingBy f v ≡ standingBy f′ v′
 same-standing f f′ v v′ p q = rw (p, q)
@@ -53,6 +51,10 @@ module _ (l m : List ℕ) (a b : ℕ) (fl : a + 32 ≤ length l) (fm : b + 32 �
     size = digit 28 4 (omega arith);
     standing = same-standing (getD l a 0) (getD m b 0) (attrOf l a) (attrOf m b) head (same 11 (omega arith));
   }
+
+-- two parts of 32 bytes that are one list
+pub same-bytes : (l m : List ℕ) (a b : ℕ) → part l a 32 ≡ part m b 32 → SameBytes l a m b
+same-bytes l m a b e i k = sym (part-at l a 32 i k) ∙ ap (λ (x : List ℕ). getD x i 0) e ∙ part-at m b 32 i k
 
 -- ---- what a store leaves
 

@@ -1,7 +1,7 @@
 -- Two names of 11 bytes pass the comparison where they are one list.
 use Prim.Native.Nat.{ℕ, zero, suc, _+_, _-_, _≤_, _<_}
 use native.Mathlib.Omega.{arith}
-use native.Mathlib.Numerals.{add-one}
+use native.Mathlib.Decide.{ℕ-discrete}
 use mathlib.Core.Bool.{Bool, true, false, _&&_}
 use mathlib.Core.List.{List}
 use mathlib.Core.Logic.{_≢_, _↔_}
@@ -10,9 +10,11 @@ use lib.Dec.{eqb}
 use lib.ListN.{length, getD}
 use lib.Seq.{ext-getD}
 use borrow.Author.Tests.{eqb-true, eq-eqb, ne-eqb}
+use Rattle.image.specs.Laws.Store.{length-part}
 use Rattle.directory.specs.Fields.{nameOf}
-use Rattle.directory.specs.Slots.{standingOf, isPlain}
+use Rattle.directory.specs.Slots.{PlainAt, standingOf, isPlain}
 use Rattle.directory.specs.Search.{sameFrom, sameName, isNamed}
+use Rattle.directory.specs.Laws.Slots.{plain-is}
 
 -- ---- the code's needs: what is left to compare decides
 
@@ -53,7 +55,7 @@ unfolding sameFrom
 from-bytes x y i zero e j h k = absurd (omega arith)
 from-bytes x y i (suc n) e j h k =
     let b = and-both (eqb (getD x i 0) (getD y i 0)) (sameFrom x y (i + 1) n) e in
-    elim (native.Mathlib.Decide.ℕ-discrete j i) [
+    elim (ℕ-discrete j i) [
       | yes q ↦ rw q (eqb-true (getD x i 0) (getD y i 0) (b .0))
       | no q ↦ from-bytes x y (i + 1) n (b .1) j (omega arith) (omega arith)
     ]
@@ -68,3 +70,17 @@ pub same-name-equal : (x y : List ℕ) → length x ≡ 11 → length y ≡ 11 �
 unfolding sameName
 same-name-equal x y e f =
     (λ s. ext-getD 0 x y (e ∙ sym f) (λ i k. from-bytes x y 0 11 s i (omega arith) (omega arith)), λ q. rw q (itself y 0 11))
+
+-- The entry is the plain file of that name.
+pub named-is : (l : List ℕ) (a : ℕ) → a + 32 ≤ length l → (name : List ℕ) → length name ≡ 11
+    → (isNamed l a name ≡ true) ↔ (PlainAt l a × (nameOf l a ≡ name))
+named-is l a f name long = (to, from)
+  where
+    same : (sameName (nameOf l a) name ≡ true) ↔ (nameOf l a ≡ name)
+    same = same-name-equal (nameOf l a) name (length-part l a 11 (omega arith)) long
+
+    to : isNamed l a name ≡ true → PlainAt l a × (nameOf l a ≡ name)
+    to e = let b = and-both (isPlain (standingOf l a)) (sameName (nameOf l a) name) e in (plain-is l a .0 (b .0), same .0 (b .1))
+
+    from : PlainAt l a × (nameOf l a ≡ name) → isNamed l a name ≡ true
+    from h = rw (plain-is l a .1 (h .0)) (same .1 (h .1))
