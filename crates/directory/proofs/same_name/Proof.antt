@@ -1,7 +1,8 @@
 -- What is left to compare decides as the whole does.
+use native.Mathlib.Omega.{arith}
 use borrow.Author.Needs.{needs}
 use mathlib.Core.Path.{_≡_}
-use Prim.Native.Nat.{_-_, _≤_}
+use Prim.Native.Nat.{_-_, _≤_, _<_}
 use Rattle.directory.specs.Search.{sameFrom, sameName}
 use Rattle.directory.specs.Laws.Names.{same-all, same-more, same-differs, same-end}
 use Rattle.directory.proofs.same_name.Statement.{statement}
@@ -23,7 +24,7 @@ array-read-if1-2 : tie.Need-array-read-if1-2 Inv-loop μ-loop
 array-read-if1-2 c = search needs
 
 returns : tie.Need-returns Inv-loop μ-loop
-returns c = search same-differs
+returns c = let h : c .before .before .loop .i < 11 = omega arith in search same-differs
 
 add-i : tie.Need-add-i Inv-loop μ-loop
 add-i c = search needs
@@ -32,7 +33,7 @@ loop-less : tie.Need-loop-less Inv-loop μ-loop
 loop-less c = search needs
 
 loop-again : tie.Need-loop-again Inv-loop μ-loop
-loop-again c = search (needs, same-more)
+loop-again c = let h : c .before .before .loop .i < 11 = omega arith in search (needs, same-more)
 
 returns-2 : tie.Need-returns-2 Inv-loop μ-loop
 returns-2 c = search same-end
