@@ -1,9 +1,9 @@
 // The 32 bytes of a directory entry, by the address a of the first: fields read and stored, what a slot stands for, slots found.
 ghost use mathlib.Core.Path.{_≡_};
-ghost use Prim.Native.Nat.{_+_, _*_, _≤_};
+ghost use Prim.Native.Nat.{_+_, _*_, _≤_, _<_};
 ghost use lib.ListN.{length};
 ghost use Rattle.directory.specs.Fields.{nameOf, attrOf, timeOf, dateOf, startOf, sizeOf, withName, withFirst, withAttr, withTime, withDate, withStart, withSize, headBytes, tailBytes, withEntry};
-ghost use Rattle.directory.specs.Slots.{standingBy, standingOf, isOpen, isPlain};
+ghost use Rattle.directory.specs.Slots.{hasBit, standingBy, standingOf, isOpen, isPlain};
 ghost use Rattle.directory.specs.Search.{sameName, isNamed, lowestOpenSlot, slotNamed};
 ghost use Rattle.image.specs.Store.{stored};
 
@@ -176,6 +176,14 @@ pub fn write_entry(
     put_tail(img, a, time, date, start, size);
 }
 
+// Whether v has the bit whose worth is b, a power of two.
+pub fn has_bit(v: u8, b: u8) -> bool
+    requires { ⌜ 0 < b ⌝ }
+    ensures { λ r. ⌜ r ≡ hasBit v b ⌝ }
+{
+    v / b % 2 == 1
+}
+
 // What an entry stands for, by its first byte and its attribute.
 fn standing_by(first: u8, attr: u8) -> Standing
     ensures { λ r. ⌜ r ≡ standingBy first attr ⌝ }
@@ -186,7 +194,7 @@ fn standing_by(first: u8, attr: u8) -> Standing
     if first == 0xE5 {
         return Standing::Erased;
     }
-    if attr / 0x08 % 2 == 1 {
+    if has_bit(attr, 0x08) {
         Standing::Label
     } else {
         Standing::Plain
@@ -201,7 +209,7 @@ pub fn standing_at(img: &[u8], a: usize) -> Standing
 }
 
 // Whether a new file may take the slot.
-fn open_at(img: &[u8], a: usize) -> bool
+pub fn open_at(img: &[u8], a: usize) -> bool
     requires { ⌜ a + 32 ≤ length (now img) ⌝ }
     ensures { λ r. ⌜ r ≡ isOpen (standingOf (now (img .entry)) a) ⌝ }
 {

@@ -2,7 +2,7 @@
 -- law is stated over the place of the store.
 use Prim.Native.Nat.{ℕ, _+_, _≤_, _<_}
 use native.Mathlib.Omega.{arith}
-use mathlib.Core.Path.{_≡_, sym, _∙_, ap}
+use mathlib.Core.Path.{_≡_, refl, sym, _∙_, ap}
 use mathlib.Core.List.{List, [], _∷_, _++_, append-assoc}
 use mathlib.Core.Logic.{inl, inr}
 use lib.ListN.{length, getD, replicate, length-append, List·getD-append}
@@ -10,7 +10,7 @@ use lib.Seq.{getD-append-add, take-at, drop-at, getD-at}
 use Rattle.image.specs.Store.{stored, part, Outside, Apart}
 use Rattle.image.specs.Numbers.{number, digits}
 use Rattle.image.specs.Laws.Store.{length-stored, stored-inside, stored-outside, part-same, part-at, part-stored, part-apart}
-use Rattle.image.specs.Laws.Numbers.{number-same, number-stored, number-apart}
+use Rattle.image.specs.Laws.Numbers.{length-digits, number-same, number-stored, number-apart}
 use Rattle.directory.specs.Fields.{attrOf, withFirst, withAttr, withName, withEntry, headBytes, tailBytes, entryBytes}
 use Rattle.directory.specs.Slots.{standingBy, standingOf}
 use Rattle.directory.specs.Entries.{Holds, SameBytes, SameFields, Untouched}
@@ -87,6 +87,16 @@ module _ (l : List ℕ) (p n : ℕ) (s : List ℕ) (long : length s ≡ n) (a : 
   elsewhere o =
       same-fields (stored l p s) l a a (rw (length-stored l p s) fits) fits
       (λ i k. out (a + i) (elim o [ inl q ↦ inr (omega arith) | inr q ↦ inl (omega arith) ]))
+
+-- the widths that fields have
+pub byte-leaves : (l : List ℕ) (at v a : ℕ) → a + 32 ≤ length l → Untouched (stored l at (v ∷ [])) l at 1 a
+byte-leaves l at v a f = untouched l at 1 (v ∷ []) refl a f
+
+pub word-leaves : (l : List ℕ) (at v a : ℕ) → a + 32 ≤ length l → Untouched (stored l at (digits v 2)) l at 2 a
+word-leaves l at v a f = untouched l at 2 (digits v 2) (length-digits v 2) a f
+
+pub long-leaves : (l : List ℕ) (at v a : ℕ) → a + 32 ≤ length l → Untouched (stored l at (digits v 4)) l at 4 a
+long-leaves l at v a f = untouched l at 4 (digits v 4) (length-digits v 4) a f
 
 -- ---- what was stored is read back
 
