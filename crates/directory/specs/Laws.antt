@@ -1,0 +1,6 @@
+-- The laws of the definitions beside this folder.
+pub mod Fields
+pub mod Slots
+pub mod Entries
+pub mod Names
+pub mod Search

@@ -1,0 +1,86 @@
+-- The bytes of a fresh entry: how many they are, that they are bytes, and that stores side by side make them.
+use Prim.Native.Nat.{ℕ, zero, suc, _+_, _-_, _≤_, _<_}
+use native.Mathlib.Omega.{arith}
+use mathlib.Core.Path.{_≡_, _∙_}
+use mathlib.Core.List.{List, [], _∷_, _++_}
+use lib.ListN.{length, replicate, take, drop, length-append}
+use lib.Seq.{ext-getD}
+use Rattle.image.specs.Bytes.{Bytes}
+use Rattle.image.specs.Store.{stored, part}
+use Rattle.image.specs.Numbers.{digits}
+use Rattle.image.specs.Laws.Store.{length-stored, stored-inside, stored-append, length-part}
+use Rattle.image.specs.Laws.Numbers.{length-digits, bytes-digits}
+use Rattle.directory.specs.Fields.{nameOf, headBytes, tailBytes, entryBytes}
+
+pub length-head : (name : List ℕ) (attr : ℕ) → length name ≡ 11 → length (headBytes name attr) ≡ 22
+unfolding headBytes
+length-head name attr e = length-append name (attr ∷ replicate 10 0) ∙ omega arith
+
+pub length-entry : (name : List ℕ) (attr time date start size : ℕ) → length name ≡ 11 → length (entryBytes name attr time date start size) ≡ 32
+unfolding entryBytes tailBytes digits
+length-entry name attr time date start size e =
+    length-append (headBytes name attr) (tailBytes time date start size) ∙ omega (arith, length-head name attr e)
+
+pub bytes-one : (v : ℕ) → v < 256 → Bytes (v ∷ [])
+bytes-one v h zero = h
+bytes-one v h (suc i) = omega arith
+
+bytes-append : (s t : List ℕ) → Bytes s → Bytes t → Bytes (s ++ t)
+bytes-append [] t b c i = c i
+bytes-append (x ∷ s) t b c zero = b 0
+bytes-append (x ∷ s) t b c (suc i) = bytes-append s t (λ j. b (suc j)) c i
+
+bytes-zeros : (n : ℕ) → Bytes (replicate n 0)
+bytes-zeros zero i = omega arith
+bytes-zeros (suc n) zero = omega arith
+bytes-zeros (suc n) (suc i) = bytes-zeros n i
+
+pub bytes-entry : (name : List ℕ) (attr time date start size : ℕ) → Bytes name → attr < 256 → Bytes (entryBytes name attr time date start size)
+unfolding entryBytes headBytes tailBytes
+bytes-entry name attr time date start size b h =
+    bytes-append (name ++ (attr ∷ replicate 10 0)) _ (bytes-append name _ b (bytes-append (attr ∷ []) (replicate 10 0) (bytes-one attr h) (bytes-zeros 10)))
+    (bytes-append (digits time 2) _ (bytes-digits time 2) (bytes-append (digits date 2) _ (bytes-digits date 2) (bytes-append (digits start 2) _ (bytes-digits start 2) (bytes-digits size 4))))
+
+-- ---- the code's needs
+
+-- a list of which every byte is stored anew
+stored-whole : (l s : List ℕ) → length l ≡ length s → stored l 0 s ≡ s
+stored-whole l s e =
+    ext-getD 0 (stored l 0 s) s (length-stored l 0 s ∙ e)
+    (λ i k. let z : 0 + i ≡ i = omega arith in rw z at (stored-inside l 0 s i (omega (arith, length-stored l 0 s)) (omega arith)))
+
+pub name-copied : (l r : List ℕ) (a : ℕ) → a + 32 ≤ length l
+    → r ≡ stored (replicate 11 0) 0 (take (a + 11 - a) (drop a l)) → r ≡ nameOf l a
+name-copied l r a h p =
+    let e : a + 11 - a ≡ 11 = omega arith in
+    let n : length (part l a 11) ≡ 11 = length-part l a 11 (omega arith) in
+    (rw e at p) ∙ stored-whole (replicate 11 0) (part l a 11) (omega arith)
+
+-- a store that goes on where another ended
+and-then : (l m k : List ℕ) (a b : ℕ) (s t : List ℕ) → m ≡ stored l a s → k ≡ stored m b t → b ≡ a + length s → k ≡ stored l a (s ++ t)
+and-then l m k a b s t p q e = rw (q, p, e, stored-append l a s t)
+
+pub head-stored : (l l₁ l₂ l₃ : List ℕ) (a : ℕ) (name : List ℕ) (attr : ℕ) → length name ≡ 11
+    → l₁ ≡ stored l a name → l₂ ≡ stored l₁ (a + 11) (attr ∷ []) → l₃ ≡ stored l₂ (a + 12) (replicate 10 0)
+    → l₃ ≡ stored l a (headBytes name attr)
+unfolding headBytes
+head-stored l l₁ l₂ l₃ a name attr e p q r =
+    let x : l₃ ≡ stored l₁ (a + 11) ((attr ∷ []) ++ replicate 10 0) = and-then l₁ l₂ l₃ (a + 11) (a + 12) (attr ∷ []) (replicate 10 0) q r (omega arith) in
+    and-then l l₁ l₃ a (a + 11) name (attr ∷ replicate 10 0) p x (omega arith)
+
+pub tail-stored : (l l₁ l₂ l₃ l₄ : List ℕ) (a time date start size : ℕ)
+    → l₁ ≡ stored l (a + 22) (digits time 2) → l₂ ≡ stored l₁ (a + 24) (digits date 2)
+    → l₃ ≡ stored l₂ (a + 26) (digits start 2) → l₄ ≡ stored l₃ (a + 28) (digits size 4)
+    → l₄ ≡ stored l (a + 22) (tailBytes time date start size)
+unfolding tailBytes
+tail-stored l l₁ l₂ l₃ l₄ a time date start size p q r s =
+    let y = and-then l₂ l₃ l₄ (a + 26) (a + 28) (digits start 2) (digits size 4) r s (rw (length-digits start 2) (omega arith)) in
+    let x = and-then l₁ l₂ l₄ (a + 24) (a + 26) (digits date 2) (digits start 2 ++ digits size 4) q y (rw (length-digits date 2) (omega arith)) in
+    and-then l l₁ l₄ (a + 22) (a + 24) (digits time 2) (digits date 2 ++ (digits start 2 ++ digits size 4)) p x (rw (length-digits time 2) (omega arith))
+
+pub entry-stored : (l m k : List ℕ) (a : ℕ) (name : List ℕ) (attr time date start size : ℕ) → length name ≡ 11
+    → m ≡ stored l a (headBytes name attr) → k ≡ stored m (a + 22) (tailBytes time date start size)
+    → k ≡ stored l a (entryBytes name attr time date start size)
+unfolding entryBytes
+entry-stored l m k a name attr time date start size e p q =
+    and-then l m k a (a + 22) (headBytes name attr) (tailBytes time date start size) p q (omega (arith, length-head name attr e))

@@ -1,0 +1,66 @@
+-- A slot found in a directory of count slots, the first of which stands at byte root.
+use Prim.Native.Nat.{ℕ, zero, suc, _+_, _*_, _<_}
+use mathlib.Core.Bool.{Bool, true, cond, _&&_}
+use mathlib.Core.List.{List}
+use lib.Dec.{eqb}
+use lib.ListN.{getD}
+use Rattle.directory.specs.Fields.{nameOf}
+use Rattle.directory.specs.Slots.{standingOf, isOpen, isPlain}
+use Rattle.directory.specs.declared.Found.{Found}
+use Rattle.directory.specs.declared.Found.the-variants.{At, Nothing}
+
+-- the lowest of the n numbers from s on that passes
+unfoldable pub lowestFrom : (ℕ → Bool) → ℕ → ℕ → Found
+lowestFrom p s zero = Nothing
+lowestFrom p s (suc n) = cond (p s) (At s) (lowestFrom p (s + 1) n)
+
+-- the lowest number below count that passes
+unfoldable pub lowest : (ℕ → Bool) → ℕ → Found
+lowest p count = lowestFrom p 0 count
+
+-- ---- what an answer means: it passes and none below does; or none does
+
+pub record LowestBelow (P : ℕ → Type 0) (count s : ℕ) : Type 0 where
+  pub below : s < count
+  pub passes : P s
+  pub none-lower : (q : ℕ) → q < s → ¬ P q
+
+abbrev pub Answers : (ℕ → Type 0) → ℕ → Found → Type 0
+Answers P count (At s) = LowestBelow P count s
+Answers P count Nothing = (q : ℕ) → q < count → ¬ P q
+
+-- ---- names
+
+-- the n bytes of x and of y from byte i on are the same
+unfoldable pub sameFrom : List ℕ → List ℕ → ℕ → ℕ → Bool
+sameFrom x y i zero = true
+sameFrom x y i (suc n) = eqb (getD x i 0) (getD y i 0) && sameFrom x y (i + 1) n
+
+-- two names, compared on all 11 bytes
+unfoldable pub sameName : List ℕ → List ℕ → Bool
+sameName x y = sameFrom x y 0 11
+
+-- ---- slots
+
+-- the address of a slot
+abbrev pub slotFrom : ℕ → ℕ → ℕ
+slotFrom root s = root + 32 * s
+
+-- slot s is erased or never used
+abbrev pub openSlot : List ℕ → ℕ → ℕ → Bool
+openSlot l root s = isOpen (standingOf l (slotFrom root s))
+
+-- the entry at a is the plain file of that name
+abbrev pub isNamed : List ℕ → ℕ → List ℕ → Bool
+isNamed l a name = isPlain (standingOf l a) && sameName (nameOf l a) name
+
+abbrev pub namedSlot : List ℕ → ℕ → List ℕ → ℕ → Bool
+namedSlot l root name s = isNamed l (slotFrom root s) name
+
+-- the lowest erased or never-used slot
+unfoldable pub lowestOpenSlot : List ℕ → ℕ → ℕ → Found
+lowestOpenSlot l root count = lowest (openSlot l root) count
+
+-- the slot of the plain file with these 11 name bytes
+unfoldable pub slotNamed : List ℕ → ℕ → ℕ → List ℕ → Found
+slotNamed l root count name = lowest (namedSlot l root name) count
