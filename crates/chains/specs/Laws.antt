@@ -3,6 +3,7 @@ pub mod Tests
 pub mod Put
 pub mod Lists
 pub mod Sums
+pub mod TallyTurns
 pub mod Sizes
 pub mod Values
 pub mod Chain

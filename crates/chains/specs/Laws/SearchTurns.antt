@@ -20,3 +20,8 @@ first-miss t end c d whole l e q w =
 pub first-end : (t : ℕ → Bool) (end c : ℕ) (whole : Option ℕ) → end ≤ c → first t (end - c) c ≡ whole → none ≡ whole
 unfolding first
 first-end t end c whole l w = let z : end - c ≡ 0 = omega arith in sym (rw (z, first) refl) ∙ w
+
+-- ---- over the clusters of a volume: a loop from 2 on, as long as c ≤ last
+
+pub first-clusters : (t : ℕ → Bool) (last : ℕ) → first t (last + 1 - 2) 2 ≡ first t (last - 1) 2
+first-clusters t last = let z : last + 1 - 2 ≡ last - 1 = omega arith in rw z refl
