@@ -17,6 +17,7 @@ pub mod Replace
 pub mod ReplaceCounts
 pub mod Free
 pub mod FreeTurns
+pub mod CountTurns
 pub mod Growth
 pub mod Changes
 pub mod Marks

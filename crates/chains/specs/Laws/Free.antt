@@ -12,12 +12,11 @@ use Rattle.chains.specs.Put.{put}
 use Rattle.chains.specs.Lists.{Once, _∈_, occ, startOf}
 use Rattle.chains.specs.Sums.{tally}
 use Rattle.chains.specs.Sizes.{Geometry}
-use Rattle.chains.specs.Values.{Link, freeCount, freeb}
+use Rattle.chains.specs.Values.{Link, freeAt, freeCount}
 use Rattle.chains.specs.Free.{Takable, freeClusters, freeFrom}
 use Rattle.chains.specs.Verdict.{Lowest}
 use Rattle.chains.specs.Laws.Put.{put-other, put-same}
 use Rattle.chains.specs.Laws.Lists.{hit-cases, mem-take, occ-not, occ-take}
-use Rattle.chains.specs.Laws.Sums.{tally-sum}
 use Rattle.chains.specs.Laws.Values.{free-none, free-one}
 
 -- the two cases of a step
@@ -75,8 +74,8 @@ free-once G f a = from-once f (G .last - 1) 2 a
 
 -- ---- the count of the table's zeros is the length of that list
 
-from-length : (f : ℕ → ℕ) (n c : ℕ) → length (freeFrom f n c) ≡ tally (λ a. freeb (f a)) n c
-unfolding tally
+from-length : (f : ℕ → ℕ) (n c : ℕ) → length (freeFrom f n c) ≡ tally (freeAt f) n c
+unfolding tally freeAt
 from-length f zero c = ap length (free-nil f c)
 from-length f (suc n) c = elim (ℕ-discrete (f c) 0) [
   | yes h ↦ omega (arith, ap length (free-yes f n c h), from-length f n (suc c), free-one (f c) h)
@@ -84,8 +83,8 @@ from-length f (suc n) c = elim (ℕ-discrete (f c) 0) [
 ]
 
 pub free-length : (G : Geometry) (f : ℕ → ℕ) → length (freeClusters (G .last) f) ≡ freeCount (G .last) f
-unfolding freeClusters
-free-length G f = from-length f (G .last - 1) 2 ∙ tally-sum (λ a. freeb (f a)) (G .last - 1) 2
+unfolding freeClusters freeCount
+free-length G f = from-length f (G .last - 1) 2
 
 -- ---- the lowest free cluster is the head, and taking it leaves the rest
 

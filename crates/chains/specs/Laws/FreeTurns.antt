@@ -20,15 +20,15 @@ left-hit f last c h e = let z : suc c ≡ c + 1 = omega arith in rw (left-suc la
 left-miss : (f : ℕ → ℕ) (last c : ℕ) → c ≤ last → f c ≢ 0 → freeFrom f (last + 1 - c) c ≡ freeFrom f (last + 1 - (c + 1)) (c + 1)
 left-miss f last c h e = let z : suc c ≡ c + 1 = omega arith in rw (left-suc last c h, sym z) (free-no f (last + 1 - (suc c)) c e)
 
-pub lowest-all : (f : ℕ → ℕ) (last : ℕ) → startOf (freeFrom f (last + 1 - 2) 2) ≡ startOf (freeClusters last f)
+pub lowest-start : (f : ℕ → ℕ) (last : ℕ) → startOf (freeFrom f (last + 1 - 2) 2) ≡ startOf (freeClusters last f)
 unfolding freeClusters
-lowest-all f last = let z : last + 1 - 2 ≡ last - 1 = omega arith in rw z refl
+lowest-start f last = let z : last + 1 - 2 ≡ last - 1 = omega arith in rw z refl
 
 pub lowest-hit : (f : ℕ → ℕ) (last c v : ℕ) (whole : ℕ) → c ≤ last → v ≡ f c → v ≡ 0 → startOf (freeFrom f (last + 1 - c) c) ≡ whole → c ≡ whole
 lowest-hit f last c v whole h e z w = sym (ap startOf (left-hit f last c h (sym e ∙ z))) ∙ w
 
-pub lowest-miss : (f : ℕ → ℕ) (last c v d : ℕ) (whole : ℕ) → c ≤ last → v ≡ f c → v ≢ 0 → d ≡ c + 1 → startOf (freeFrom f (last + 1 - c) c) ≡ whole → startOf (freeFrom f (last + 1 - d) d) ≡ whole
-lowest-miss f last c v d whole h e z x w = rw x (sym (ap startOf (left-miss f last c h (λ y. z (e ∙ y)))) ∙ w)
+pub lowest-miss : (f : ℕ → ℕ) (last c v : ℕ) (whole : ℕ) → c ≤ last → v ≡ f c → v ≢ 0 → startOf (freeFrom f (last + 1 - c) c) ≡ whole → startOf (freeFrom f (last + 1 - (c + 1)) (c + 1)) ≡ whole
+lowest-miss f last c v whole h e z w = sym (ap startOf (left-miss f last c h (λ y. z (e ∙ y)))) ∙ w
 
 pub lowest-end : (f : ℕ → ℕ) (last c : ℕ) (whole : ℕ) → last < c → startOf (freeFrom f (last + 1 - c) c) ≡ whole → 0 ≡ whole
 lowest-end f last c whole h w = sym (ap startOf (left-none f last c h)) ∙ w
