@@ -37,3 +37,4 @@ pub mod SearchTurns
 pub mod Check
 pub mod Findings
 pub mod Rows
+pub mod RowTurns
