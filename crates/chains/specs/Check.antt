@@ -26,9 +26,9 @@ abbrev pub allowed : Holder → Option ℕ → Bool
 allowed h none = false
 allowed h (some n) = h .allows n
 
--- the marks of the chains of all of is
-unfoldable pub chainMarks : ℕ → (ℕ → ℕ) → (ℕ → Holder) → List ℕ → List ℕ
-chainMarks last f h is = marksOf last (joined (λ i. chainOf last f (h i)) is)
+-- the marks of the chains of all of is, in a list of size places
+unfoldable pub chainMarks : ℕ → ℕ → (ℕ → ℕ) → (ℕ → Holder) → List ℕ → List ℕ
+chainMarks size last f h is = marksOf size (joined (λ i. chainOf last f (h i)) is)
 
 -- finding 3 at cluster c
 unfoldable pub badValue : ℕ → (ℕ → ℕ) → ℕ → Bool

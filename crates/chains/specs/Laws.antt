@@ -3,6 +3,7 @@ pub mod Tests
 pub mod Put
 pub mod Lists
 pub mod Sums
+pub mod TallyTurns
 pub mod Sizes
 pub mod Values
 pub mod Chain
@@ -16,6 +17,7 @@ pub mod Replace
 pub mod ReplaceCounts
 pub mod Free
 pub mod FreeTurns
+pub mod CountTurns
 pub mod Growth
 pub mod Changes
 pub mod Marks
@@ -35,3 +37,4 @@ pub mod SearchTurns
 pub mod Check
 pub mod Findings
 pub mod Rows
+pub mod RowTurns

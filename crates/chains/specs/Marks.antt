@@ -12,6 +12,6 @@ unfoldable pub marks : List ℕ → List ℕ → List ℕ
 marks m [] = m
 marks m (c ∷ cs) = marks (mark m c) cs
 
--- the marks of all, from nothing
+-- the marks of all, from nothing, in a list of size places
 unfoldable pub marksOf : ℕ → List ℕ → List ℕ
-marksOf last all = marks (replicate (last + 1) 0) all
+marksOf size all = marks (replicate size 0) all

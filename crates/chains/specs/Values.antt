@@ -1,11 +1,10 @@
 -- What the value of a table entry may be. A table is a function from cluster to value; last is the last cluster's number.
-use Prim.Native.Nat.{ℕ, _≤_}
+use Prim.Native.Nat.{ℕ, _-_, _≤_}
 use mathlib.Core.Path.{_≡_}
 use mathlib.Core.Logic.{_⊎_}
 use mathlib.Core.Bool.{Bool, _&&_}
 use lib.Dec.{leb, eqb}
-use Rattle.chains.specs.Tests.{bit}
-use Rattle.chains.specs.Sums.{sumClusters}
+use Rattle.chains.specs.Sums.{tally}
 
 -- "2 to the last cluster, the next cluster". It is also what a cluster's own number must be.
 abbrev pub Link : ℕ → ℕ → Type 0
@@ -45,8 +44,15 @@ asideb v = leb 0xff0 v && leb v 0xff7
 
 -- ---- "free and aside are numbers of table values"
 
-abbrev pub freeCount : ℕ → (ℕ → ℕ) → ℕ
-freeCount last f = sumClusters last (λ c. bit (freeb (f c)))
+-- is cluster c free, is it set aside?
+unfoldable pub freeAt : (ℕ → ℕ) → ℕ → Bool
+freeAt f c = freeb (f c)
 
-abbrev pub asideCount : ℕ → (ℕ → ℕ) → ℕ
-asideCount last f = sumClusters last (λ c. bit (asideb (f c)))
+unfoldable pub asideAt : (ℕ → ℕ) → ℕ → Bool
+asideAt f c = asideb (f c)
+
+unfoldable pub freeCount : ℕ → (ℕ → ℕ) → ℕ
+freeCount last f = tally (freeAt f) (last - 1) 2
+
+unfoldable pub asideCount : ℕ → (ℕ → ℕ) → ℕ
+asideCount last f = tally (asideAt f) (last - 1) 2

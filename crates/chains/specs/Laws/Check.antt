@@ -79,21 +79,22 @@ found-bad-value G f = first-found (BadValue (G .last) f) (badValue (G .last) f) 
 
 -- ---- where all chains are good, the marks decide findings 6 and 7
 
+-- a holder's cluster is one of its walk
+pub in-chain : (G : Geometry) (f : ℕ → ℕ) (h : ℕ → Holder) (i c : ℕ) → InChain (G .last) f h i c → c ∈ chainOf (G .last) f (h i)
+in-chain G f h i c r = subst (λ (ds : List ℕ). c ∈ ds) (owns-chain-of G f (h i) (r .0) (r .1)) (r .2)
+
 module _ (G : Geometry) (f : ℕ → ℕ) (h : ℕ → Holder) (is : List ℕ) (good : (i : ℕ) → i ∈ is → Owns (G .last) f (h i) (chainOf (G .last) f (h i))) where
   abbrev χ : ℕ → List ℕ
   χ i = chainOf (G .last) f (h i)
 
-  pub in-chain : (i c : ℕ) → InChain (G .last) f h i c → c ∈ χ i
-  in-chain i c r = subst (λ (ds : List ℕ). c ∈ ds) (owns-chain-of G f (h i) (r .0) (r .1)) (r .2)
-
-  pub chain-in : (i c : ℕ) → i ∈ is → c ∈ χ i → InChain (G .last) f h i c
+  chain-in : (i c : ℕ) → i ∈ is → c ∈ χ i → InChain (G .last) f h i c
   chain-in i c m k = (χ i, good i m, k)
 
   in-range : (i c : ℕ) → i ∈ is → c ∈ χ i → Link (G .last) c
   in-range i c m k = chain-mem G f (h i .start) (χ i) (good i m .chain) c k .0
 
   two-of : (c : ℕ) → InTwo (G .last) f h is c → InTwoOf χ is c
-  two-of c r = (r .0, r .1, r .2, r .3, r .4, in-chain (r .0) c (r .5), in-chain (r .1) c (r .6))
+  two-of c r = (r .0, r .1, r .2, r .3, r .4, in-chain G f h (r .0) c (r .5), in-chain G f h (r .1) c (r .6))
 
   of-two : (c : ℕ) → InTwoOf χ is c → InTwo (G .last) f h is c
   of-two c r = (r .0, r .1, r .2, r .3, r .4, chain-in (r .0) c (r .3) (r .5), chain-in (r .1) c (r .4) (r .6))
@@ -102,24 +103,25 @@ module _ (G : Geometry) (f : ℕ → ℕ) (h : ℕ → Holder) (is : List ℕ) (
   none-of c n m = let r = mem-joined χ is c m in n (r .0) (r .1) (chain-in (r .0) c (r .1) (r .2))
 
   of-none : (c : ℕ) → ¬ (c ∈ joined χ is) → (i : ℕ) → i ∈ is → ¬ InChain (G .last) f h i c
-  of-none c n i m r = n (joined-mem χ is c i m (in-chain i c r))
+  of-none c n i m r = n (joined-mem χ is c i m (in-chain G f h i c r))
 
-  pub says-in-two : Once is → (c : ℕ) → 2 ≤ c → c < 2 + (G .last - 1) → Says (inTwo (chainMarks (G .last) f h is) c) (InTwo (G .last) f h is c)
-  unfolding inTwo chainMarks
-  says-in-two e c k l =
-      let two : (getD (marksOf (G .last) (joined χ is)) c 0 ≡ 2) ↔ InTwoOf χ is c = two-in-two G χ is c (omega arith) e (λ i m. chain-once G f (h i .start) (χ i) (good i m .chain) c) in
-      says-map (λ q. of-two c (two .0 q)) (λ b. two .1 (two-of c b)) (says-eq (getD (marksOf (G .last) (joined χ is)) c 0) 2)
+  module _ (size : ℕ) (big : G .last < size) where
+    pub says-in-two : Once is → (c : ℕ) → 2 ≤ c → c < 2 + (G .last - 1) → Says (inTwo (chainMarks size (G .last) f h is) c) (InTwo (G .last) f h is c)
+    unfolding inTwo chainMarks
+    says-in-two e c k l =
+        let two : (getD (marksOf size (joined χ is)) c 0 ≡ 2) ↔ InTwoOf χ is c = two-in-two size χ is c (omega arith) e (λ i m. chain-once G f (h i .start) (χ i) (good i m .chain) c) in
+        says-map (λ q. of-two c (two .0 q)) (λ b. two .1 (two-of c b)) (says-eq (getD (marksOf size (joined χ is)) c 0) 2)
 
-  pub says-lost : (c : ℕ) → 2 ≤ c → c < 2 + (G .last - 1) → Says (lost (G .last) f (chainMarks (G .last) f h is) c) (Lost (G .last) f h is c)
-  unfolding lost chainMarks
-  says-lost c k l =
-      let no : (getD (marksOf (G .last) (joined χ is)) c 0 ≡ 0) ↔ (¬ (c ∈ joined χ is)) = zero-none G (joined χ is) c (omega arith) in
-      says-map (λ r. ((k, omega arith), r .0, of-none c (r .1))) (λ b. (b .1, none-of c (b .2)))
-      (says-and (says-or (says-link (G .last) (f c)) (says-end (f c))) (says-map (no .0) (no .1) (says-eq (getD (marksOf (G .last) (joined χ is)) c 0) 0)))
+    pub says-lost : (c : ℕ) → 2 ≤ c → c < 2 + (G .last - 1) → Says (lost (G .last) f (chainMarks size (G .last) f h is) c) (Lost (G .last) f h is c)
+    unfolding lost chainMarks
+    says-lost c k l =
+        let no : (getD (marksOf size (joined χ is)) c 0 ≡ 0) ↔ (¬ (c ∈ joined χ is)) = zero-none size (joined χ is) c (omega arith) in
+        says-map (λ r. ((k, omega arith), r .0, of-none c (r .1))) (λ b. (b .1, none-of c (b .2)))
+        (says-and (says-or (says-link (G .last) (f c)) (says-end (f c))) (says-map (no .0) (no .1) (says-eq (getD (marksOf size (joined χ is)) c 0) 0)))
 
-  pub found-in-two : Once is → Found ltb (InTwo (G .last) f h is) (first (inTwo (chainMarks (G .last) f h is)) (G .last - 1) 2)
-  found-in-two e = first-found (InTwo (G .last) f h is) (inTwo (chainMarks (G .last) f h is)) (G .last - 1) 2
-      (λ c b. let r = in-range (b .0) c (b .3) (in-chain (b .0) c (b .5)) in (r .0, omega arith)) (says-in-two e)
+    pub found-in-two : Once is → Found ltb (InTwo (G .last) f h is) (first (inTwo (chainMarks size (G .last) f h is)) (G .last - 1) 2)
+    found-in-two e = first-found (InTwo (G .last) f h is) (inTwo (chainMarks size (G .last) f h is)) (G .last - 1) 2
+        (λ c b. let r = in-range (b .0) c (b .3) (in-chain G f h (b .0) c (b .5)) in (r .0, omega arith)) (says-in-two e)
 
-  pub found-lost : Found ltb (Lost (G .last) f h is) (first (lost (G .last) f (chainMarks (G .last) f h is)) (G .last - 1) 2)
-  found-lost = first-found (Lost (G .last) f h is) (lost (G .last) f (chainMarks (G .last) f h is)) (G .last - 1) 2 (λ c b. (b .0 .0, omega arith)) says-lost
+    pub found-lost : Found ltb (Lost (G .last) f h is) (first (lost (G .last) f (chainMarks size (G .last) f h is)) (G .last - 1) 2)
+    found-lost = first-found (Lost (G .last) f h is) (lost (G .last) f (chainMarks size (G .last) f h is)) (G .last - 1) 2 (λ c b. (b .0 .0, omega arith)) says-lost

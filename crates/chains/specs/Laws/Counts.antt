@@ -16,7 +16,7 @@ use Rattle.chains.specs.Holders.{Holder, Names, Sound, fileHolder, nobod
 use Rattle.chains.specs.Laws.Lists.{joined-mem, mem-joined, mem-occ, occ-not}
 use Rattle.chains.specs.Laws.Sums.{joined-length, occ-clusters, sum-add, sum-cong, sum-one}
 use Rattle.chains.specs.Laws.Sizes.{clusters-zero, fits-exact}
-use Rattle.chains.specs.Laws.Values.{aside-one, free-no-aside, free-no-use, free-none, free-one, used-no-aside, used-no-free}
+use Rattle.chains.specs.Laws.Values.{aside-one, aside-sum, free-no-aside, free-no-use, free-none, free-one, free-sum, used-no-aside, used-no-free}
 use Rattle.chains.specs.Laws.Holders.{in-range, in-use, joined-once}
 
 module _ (G : Geometry) (f : ℕ → ℕ) (h : ℕ → Holder) (χ : ℕ → List ℕ) (v : Sound (G .last) f h χ) (is : List ℕ) (l : Names χ is) where
@@ -45,7 +45,7 @@ module _ (G : Geometry) (f : ℕ → ℕ) (h : ℕ → Holder) (χ : ℕ → Lis
       let b : ℕ → ℕ = λ i. bit (asideb (f (i + 2))) in
       let e : sum (G .last - 1) (λ i. a i + (t i + b i)) ≡ sum (G .last - 1) (λ i. 1) = sum-cong (G .last - 1) _ _ (λ i k. one-each (i + 2) (omega arith)) in
       let o : sumClusters (G .last) (λ c. occ c (joined χ is)) ≡ length (joined χ is) = occ-clusters G (joined χ is) (λ c m. let r = mem-joined χ is c m in in-range G f h χ v (r .0) c (r .2)) in
-      omega (arith, e, sum-one (G .last - 1), sum-add (G .last - 1) a (λ i. t i + b i), sum-add (G .last - 1) t b, o, joined-length χ is)
+      omega (arith, e, sum-one (G .last - 1), sum-add (G .last - 1) a (λ i. t i + b i), sum-add (G .last - 1) t b, o, joined-length χ is, free-sum (G .last) f, aside-sum (G .last) f)
 
 -- "Held is the sum over files of size divided by cluster bytes, rounded up": where every length is what the size asks for, the sum of the lengths is that sum
 pub held-sizes : (last cb : ℕ) (f : ℕ → ℕ) (h : ℕ → Holder) (χ : ℕ → List ℕ) → Sound last f h χ → (size : ℕ → ℕ) (is : List ℕ)

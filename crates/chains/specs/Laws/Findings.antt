@@ -1,5 +1,5 @@
 -- The answer from finding 5 on: only one fits, it is what is computed, and it is fine exactly where table and holders are sound.
-use Prim.Native.Nat.{ℕ}
+use Prim.Native.Nat.{ℕ, _<_}
 use native.Mathlib.Decide.{ℕ-discrete}
 use mathlib.Core.Path.{_≡_, refl, sym, _∙_, subst}
 use mathlib.Core.Logic.{inr}
@@ -16,7 +16,7 @@ use Rattle.chains.specs.Check.{chainMarks, chainOf, checkChains, checkLo
 use Rattle.chains.specs.Laws.Tests.{says-dec}
 use Rattle.chains.specs.Laws.Lists.{dec-mem, joined-mem, mem-joined}
 use Rattle.chains.specs.Laws.Values.{says-valid}
-use Rattle.chains.specs.Laws.Holders.{nobody-owns, owns-nobody, owns-same}
+use Rattle.chains.specs.Laws.Holders.{nobody-owns, owns-same, sound-listed}
 use Rattle.chains.specs.Laws.Verdict.{numbers, or-else, or-else-same}
 use Rattle.chains.specs.Laws.Check.{found-in-two, found-lost, holders-in, in-chain, owned-chain-of, owns-chain-of, says-owned}
 
@@ -39,17 +39,17 @@ module _ {P A : Type 0} (before : P → P → Bool) (G : Geometry) (f : ℕ → 
     | no k ↦ absurd (n (r .0) (i, r .1, λ cs o. k (cs, o)))
   ]
 
-  check-two : Once is → None (BadChain (G .last) f h es) → FromTwo (G .last) f h es W (checkTwo (G .last) f (chainMarks (G .last) f h is) W)
+  check-two : (size : ℕ) → G .last < size → Once is → None (BadChain (G .last) f h es) → FromTwo (G .last) f h es W (checkTwo (G .last) f (chainMarks size (G .last) f h is) W)
   unfolding checkTwo checkLost
-  check-two e n =
-      or-else ltb (InTwo (G .last) f h is) (W .inTwo) (FromLost (G .last) f h es W) _ (checkLost (G .last) f (chainMarks (G .last) f h is) W) (found-in-two G f h is (good-all n) e) (λ n′.
-      or-else ltb (Lost (G .last) f h is) (W .lost) (λ a. a ≡ W .fine) _ (W .fine) (found-lost G f h is (good-all n)) (λ n″. refl))
+  check-two size big e n =
+      or-else ltb (InTwo (G .last) f h is) (W .inTwo) (FromLost (G .last) f h es W) _ (checkLost (G .last) f (chainMarks size (G .last) f h is) W) (found-in-two G f h is (good-all n) size big e) (λ n′.
+      or-else ltb (Lost (G .last) f h is) (W .lost) (λ a. a ≡ W .fine) _ (W .fine) (found-lost G f h is (good-all n) size big) (λ n″. refl))
 
   -- m need be the marks only where all chains are good
-  pub check-chains : Once is → (o : Option P) (m : List ℕ) → Found before (BadChain (G .last) f h es) o → (None (BadChain (G .last) f h es) → m ≡ chainMarks (G .last) f h is)
+  pub check-chains : (size : ℕ) → G .last < size → Once is → (o : Option P) (m : List ℕ) → Found before (BadChain (G .last) f h es) o → (None (BadChain (G .last) f h es) → m ≡ chainMarks size (G .last) f h is)
       → FromChains before (G .last) f h es W (checkChains (G .last) f m W o)
   unfolding checkChains
-  check-chains e o m d same = or-else before (BadChain (G .last) f h es) (W .badChain) (FromTwo (G .last) f h es W) o (checkTwo (G .last) f m W) d (λ n. rw (same n) (check-two e n))
+  check-chains size big e o m d same = or-else before (BadChain (G .last) f h es) (W .badChain) (FromTwo (G .last) f h es W) o (checkTwo (G .last) f m W) d (λ n. rw (same n) (check-two size big e n))
 
   -- ---- fine is sound: there is nobody outside the list
 
@@ -67,7 +67,7 @@ module _ {P A : Type 0} (before : P → P → Bool) (G : Geometry) (f : ℕ → 
       ];
       cover = λ c l u. elim (dec-mem c (joined χ is)) [
         | yes m ↦ let r = mem-joined χ is c m in (r .0, r .2)
-        | no k ↦ absurd (n7 c (l, u, λ i m r. k (joined-mem χ is c i m (in-chain G f h is (good-all n5) i c r))))
+        | no k ↦ absurd (n7 c (l, u, λ i m r. k (joined-mem χ is c i m (in-chain G f h i c r))))
       ];
     }
       where
@@ -86,9 +86,6 @@ module _ {P A : Type 0} (before : P → P → Bool) (G : Geometry) (f : ℕ → 
       of : (i c : ℕ) → InChain (G .last) f h i c → c ∈ χ′ i
       of i c r = subst (λ (ds : List ℕ). c ∈ ds) (owns-same G f (h i) (r .0) (χ′ i) (r .1) (v .owns i)) (r .2)
 
-      named : (i c : ℕ) → c ∈ χ′ i → i ∈ is
-      named i c m = elim (dec-mem i is) [ yes q ↦ q | no k ↦ absurd (rw (owns-nobody G f (h i) (χ′ i) (out i k) (v .owns i)) at m) ]
-
       pub no-bad-value : None (BadValue (G .last) f)
       no-bad-value c b = b .1 (v .valid c (b .0))
 
@@ -99,7 +96,7 @@ module _ {P A : Type 0} (before : P → P → Bool) (G : Geometry) (f : ℕ → 
       no-in-two c b = b .2 (v .apart (b .0) (b .1) c (of (b .0) c (b .5)) (of (b .1) c (b .6)))
 
       pub no-lost : None (Lost (G .last) f h is)
-      no-lost c b = let o = v .cover c (b .0) (b .1) in b .2 (o .0) (named (o .0) c (o .1)) (χ′ (o .0), v .owns (o .0), o .1)
+      no-lost c b = let o = v .cover c (b .0) (b .1) in b .2 (o .0) (sound-listed G f h χ′ v is out (o .0) c (o .1)) (χ′ (o .0), v .owns (o .0), o .1)
 
       pub sound-fine : FromChains before (G .last) f h es W (W .fine)
       sound-fine = inr (no-bad-chain, inr (no-in-two, inr (no-lost, refl)))

@@ -3,20 +3,21 @@ use Prim.Native.Nat.{ℕ, zero, suc, _+_, _-_, _≤_, _<_}
 use native.Mathlib.Omega.{arith}
 use native.Mathlib.Decide.{ℕ-discrete}
 use mathlib.Core.Path.{_≡_, refl, sym, ap, _∙_}
-use mathlib.Core.Logic.{_≢_, inl, inr}
+use mathlib.Core.Logic.{_↔_, _≢_, inl, inr}
 use mathlib.Core.List.{List, [], _∷_}
+use lib.Dec.{ltb}
 use lib.ListN.{length, take}
-use borrow.Author.Tests.{eq-eqb, ne-eqb}
-use Rattle.chains.specs.Tests.{bit}
+use borrow.Author.Tests.{eq-eqb, ne-eqb, ltb-true}
 use Rattle.chains.specs.Put.{put}
-use Rattle.chains.specs.Lists.{_∈_, occ}
-use Rattle.chains.specs.Sums.{sum}
+use Rattle.chains.specs.Lists.{Once, _∈_, occ, startOf}
+use Rattle.chains.specs.Sums.{tally}
 use Rattle.chains.specs.Sizes.{Geometry}
-use Rattle.chains.specs.Values.{Link, freeCount, freeb}
+use Rattle.chains.specs.Values.{Link, freeAt, freeCount}
 use Rattle.chains.specs.Free.{Takable, freeClusters, freeFrom}
+use Rattle.chains.specs.Verdict.{Lowest}
 use Rattle.chains.specs.Laws.Put.{put-other, put-same}
 use Rattle.chains.specs.Laws.Lists.{hit-cases, mem-take, occ-not, occ-take}
-use Rattle.chains.specs.Laws.Sums.{sum-cong, sum-first}
+use Rattle.chains.specs.Laws.Values.{free-none, free-one}
 
 -- the two cases of a step
 pub free-yes : (f : ℕ → ℕ) (n c : ℕ) → f c ≡ 0 → freeFrom f (suc n) c ≡ c ∷ freeFrom f n (suc c)
@@ -31,7 +32,7 @@ pub free-nil : (f : ℕ → ℕ) (c : ℕ) → freeFrom f zero c ≡ []
 unfolding freeFrom
 free-nil f c = refl
 
-pub from-mem : (f : ℕ → ℕ) (n c a : ℕ) → a ∈ freeFrom f n c → (c ≤ a) × (a < c + n) × (f a ≡ 0)
+from-mem : (f : ℕ → ℕ) (n c a : ℕ) → a ∈ freeFrom f n c → (c ≤ a) × (a < c + n) × (f a ≡ 0)
 from-mem f zero c a m = absurd (rw free-nil at m)
 from-mem f (suc n) c a m = elim (ℕ-discrete (f c) 0) [
   | yes e ↦ elim (rw (free-yes f n c e) at m) [
@@ -41,14 +42,14 @@ from-mem f (suc n) c a m = elim (ℕ-discrete (f c) 0) [
   | no ne ↦ let r = from-mem f n (suc c) a (rw (free-no f n c ne) at m) in (omega arith, omega arith, r .2)
 ]
 
-pub mem-from : (f : ℕ → ℕ) (n c a : ℕ) → c ≤ a → a < c + n → f a ≡ 0 → a ∈ freeFrom f n c
+mem-from : (f : ℕ → ℕ) (n c a : ℕ) → c ≤ a → a < c + n → f a ≡ 0 → a ∈ freeFrom f n c
 mem-from f zero c a h k e = absurd (omega arith)
 mem-from f (suc n) c a h k e = elim (ℕ-discrete (f c) 0) [
   | yes z ↦ rw (free-yes f n c z) (elim (ℕ-discrete a c) [ yes q ↦ inl q | no q ↦ inr (mem-from f n (suc c) a (omega arith) (omega arith) e) ])
   | no nz ↦ rw (free-no f n c nz) (mem-from f n (suc c) a (elim (ℕ-discrete a c) [ yes q ↦ absurd (nz (ap f (sym q) ∙ e)) | no q ↦ omega arith ]) (omega arith) e)
 ]
 
-pub from-once : (f : ℕ → ℕ) (n c a : ℕ) → occ a (freeFrom f n c) ≤ 1
+from-once : (f : ℕ → ℕ) (n c : ℕ) → Once (freeFrom f n c)
 unfolding occ
 from-once f zero c a = rw free-nil (omega arith)
 from-once f (suc n) c a = elim (ℕ-discrete (f c) 0) [
@@ -67,38 +68,35 @@ pub mem-free : (G : Geometry) (f : ℕ → ℕ) (a : ℕ) → Link (G .last) a �
 unfolding freeClusters
 mem-free G f a l e = mem-from f (G .last - 1) 2 a (l .0) (omega arith) e
 
-pub free-once : (G : Geometry) (f : ℕ → ℕ) (a : ℕ) → occ a (freeClusters (G .last) f) ≤ 1
+pub free-once : (G : Geometry) (f : ℕ → ℕ) → Once (freeClusters (G .last) f)
 unfolding freeClusters
 free-once G f a = from-once f (G .last - 1) 2 a
 
 -- ---- the count of the table's zeros is the length of that list
 
-from-length : (f : ℕ → ℕ) (n c : ℕ) → length (freeFrom f n c) ≡ sum n (λ i. bit (freeb (f (i + c))))
-from-length f zero c = unfold sum freeFrom in refl
-from-length f (suc n) c =
-    let e : sum (suc n) (λ i. bit (freeb (f (i + c)))) ≡ bit (freeb (f (0 + c))) + sum n (λ i. bit (freeb (f (i + 1 + c)))) = sum-first n (λ i. bit (freeb (f (i + c)))) in
-    let q : sum n (λ i. bit (freeb (f (i + 1 + c)))) ≡ sum n (λ i. bit (freeb (f (i + suc c)))) = sum-cong n _ _ (λ i k. ap (λ (x : ℕ). bit (freeb (f x))) (omega arith)) in
-    let z : bit (freeb (f (0 + c))) ≡ bit (freeb (f c)) = ap (λ (x : ℕ). bit (freeb (f x))) (omega arith) in
-    elim (ℕ-discrete (f c) 0) [
-      | yes h ↦ omega (arith, e, q, z, ap length (free-yes f n c h), from-length f n (suc c), ap bit (eq-eqb (f c) 0 h))
-      | no h ↦ omega (arith, e, q, z, ap length (free-no f n c h), from-length f n (suc c), ap bit (ne-eqb (f c) 0 h))
-    ]
+from-length : (f : ℕ → ℕ) (n c : ℕ) → length (freeFrom f n c) ≡ tally (freeAt f) n c
+unfolding tally freeAt
+from-length f zero c = ap length (free-nil f c)
+from-length f (suc n) c = elim (ℕ-discrete (f c) 0) [
+  | yes h ↦ omega (arith, ap length (free-yes f n c h), from-length f n (suc c), free-one (f c) h)
+  | no h ↦ omega (arith, ap length (free-no f n c h), from-length f n (suc c), free-none (f c) h)
+]
 
 pub free-length : (G : Geometry) (f : ℕ → ℕ) → length (freeClusters (G .last) f) ≡ freeCount (G .last) f
-unfolding freeClusters
+unfolding freeClusters freeCount
 free-length G f = from-length f (G .last - 1) 2
 
 -- ---- the lowest free cluster is the head, and taking it leaves the rest
 
--- the lowest free cluster is the head, and taking it leaves the rest
-pub from-above : (f g : ℕ → ℕ) (n c : ℕ) → ((a : ℕ) → c ≤ a → g a ≡ f a) → freeFrom g n c ≡ freeFrom f n c
-from-above f g zero c h = free-nil g c ∙ sym (free-nil f c)
-from-above f g (suc n) c h =
-    let t : freeFrom g n (suc c) ≡ freeFrom f n (suc c) = from-above f g n (suc c) (λ a k. h a (omega arith)) in
-    let e : g c ≡ f c = h c (omega arith) in
+-- two tables that are 0 at the same clusters have the same list
+pub free-same : (f g : ℕ → ℕ) (n c : ℕ) → ((a : ℕ) → c ≤ a → (g a ≡ 0) ↔ (f a ≡ 0)) → freeFrom g n c ≡ freeFrom f n c
+free-same f g zero c h = free-nil g c ∙ sym (free-nil f c)
+free-same f g (suc n) c h =
+    let t : freeFrom g n (suc c) ≡ freeFrom f n (suc c) = free-same f g n (suc c) (λ a k. h a (omega arith)) in
+    let e : (g c ≡ 0) ↔ (f c ≡ 0) = h c (omega arith) in
     elim (ℕ-discrete (f c) 0) [
-      | yes z ↦ free-yes g n c (e ∙ z) ∙ ap (λ (r : List ℕ). c ∷ r) t ∙ sym (free-yes f n c z)
-      | no nz ↦ free-no g n c (λ z. nz (sym e ∙ z)) ∙ t ∙ sym (free-no f n c nz)
+      | yes z ↦ free-yes g n c (e .1 z) ∙ ap (λ (r : List ℕ). c ∷ r) t ∙ sym (free-yes f n c z)
+      | no nz ↦ free-no g n c (λ z. nz (e .0 z)) ∙ t ∙ sym (free-no f n c nz)
     ]
 
 from-next : (f : ℕ → ℕ) (n c d v : ℕ) (ds : List ℕ) → v ≢ 0 → freeFrom f n c ≡ d ∷ ds → freeFrom (put f d v) n c ≡ ds
@@ -109,7 +107,7 @@ from-next f (suc n) c d v ds nv e = elim (ℕ-discrete (f c) 0) [
       let q : c ≡ d = cc in
       let r : freeFrom f n (suc c) ≡ ds = cc in
       free-no (put f d v) n c (λ k. nv (sym (put-same f d v c q) ∙ k))
-      ∙ from-above f (put f d v) n (suc c) (λ a k. put-other f d v a (omega arith)) ∙ r
+      ∙ free-same f (put f d v) n (suc c) (λ a k. let o : put f d v a ≡ f a = put-other f d v a (omega arith) in (λ y. sym o ∙ y, λ y. o ∙ y)) ∙ r
   | no nz ↦
       let p : freeFrom f n (suc c) ≡ d ∷ ds = sym (free-no f n c nz) ∙ e in
       let m : suc c ≤ d = from-mem f n (suc c) d (rw p (inl refl)) .0 in
@@ -119,6 +117,37 @@ from-next f (suc n) c d v ds nv e = elim (ℕ-discrete (f c) 0) [
 pub free-next : (G : Geometry) (f : ℕ → ℕ) (d v : ℕ) (ds : List ℕ) → v ≢ 0 → freeClusters (G .last) f ≡ d ∷ ds → freeClusters (G .last) (put f d v) ≡ ds
 unfolding freeClusters
 free-next G f d v ds nv e = from-next f (G .last - 1) 2 d v ds nv e
+
+-- ---- the head is the lowest
+
+from-head : (f : ℕ → ℕ) (n c d : ℕ) (ds : List ℕ) → freeFrom f n c ≡ d ∷ ds → (a : ℕ) → c ≤ a → a < d → f a ≢ 0
+from-head f zero c d ds e a k l = absurd (let z : _≡_ {A = ℕ} 0 1 = cc (free-nil f c) in omega arith)
+from-head f (suc n) c d ds e a k l = elim (ℕ-discrete (f c) 0) [
+  | yes z ↦
+      let p : c ∷ freeFrom f n (suc c) ≡ d ∷ ds = sym (free-yes f n c z) ∙ e in
+      let q : c ≡ d = cc in
+      absurd (omega arith)
+  | no nz ↦ elim (ℕ-discrete a c) [
+    | yes q ↦ λ z. nz (ap f (sym q) ∙ z)
+    | no q ↦ from-head f n (suc c) d ds (sym (free-no f n c nz) ∙ e) a (omega arith) l
+  ]
+]
+
+pub free-lowest : (G : Geometry) (f : ℕ → ℕ) → 0 < length (freeClusters (G .last) f) → Lowest ltb (λ c. Link (G .last) c × (f c ≡ 0)) (startOf (freeClusters (G .last) f))
+unfolding freeClusters
+free-lowest G f k = go (freeClusters (G .last) f) refl
+  where
+    go : (ds : List ℕ) → freeClusters (G .last) f ≡ ds → Lowest ltb (λ c. Link (G .last) c × (f c ≡ 0)) (startOf ds)
+    go [] e = absurd (omega (arith, ap length e))
+    go (d ∷ ds) e = (free-mem G f d (rw e (inl refl)), λ a l b. from-head f (G .last - 1) 2 d ds e a (b .0 .0) (ltb-true a d l) (b .1))
+
+-- no cluster has the number 0: where that is found, none is free
+pub free-none-left : (G : Geometry) (f : ℕ → ℕ) → startOf (freeClusters (G .last) f) ≡ 0 → freeClusters (G .last) f ≡ []
+free-none-left G f = go (freeClusters (G .last) f) refl
+  where
+    go : (ds : List ℕ) → freeClusters (G .last) f ≡ ds → startOf ds ≡ 0 → ds ≡ []
+    go [] e z = refl
+    go (d ∷ ds) e z = absurd (let m : Link (G .last) d × (f d ≡ 0) = free-mem G f d (rw e (inl refl)) in omega arith)
 
 -- ---- what may be taken
 

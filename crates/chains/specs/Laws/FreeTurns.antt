@@ -1,10 +1,9 @@
--- The loops over the free clusters, turn by turn: the loop stands at cluster c, and last + 1 - c clusters are left.
+-- The loop that finds the lowest free cluster, 0 where there is none: it stands at cluster c, and last + 1 - c clusters are left.
 use Prim.Native.Nat.{ℕ, suc, _+_, _-_, _≤_, _<_}
 use native.Mathlib.Omega.{arith}
 use mathlib.Core.Path.{_≡_, refl, sym, ap, _∙_}
 use mathlib.Core.Logic.{_≢_}
 use mathlib.Core.List.{[], _∷_}
-use lib.ListN.{length}
 use Rattle.chains.specs.Lists.{startOf}
 use Rattle.chains.specs.Free.{freeClusters, freeFrom}
 use Rattle.chains.specs.Laws.Free.{free-nil, free-no, free-yes}
@@ -21,30 +20,15 @@ left-hit f last c h e = let z : suc c ≡ c + 1 = omega arith in rw (left-suc la
 left-miss : (f : ℕ → ℕ) (last c : ℕ) → c ≤ last → f c ≢ 0 → freeFrom f (last + 1 - c) c ≡ freeFrom f (last + 1 - (c + 1)) (c + 1)
 left-miss f last c h e = let z : suc c ≡ c + 1 = omega arith in rw (left-suc last c h, sym z) (free-no f (last + 1 - (suc c)) c e)
 
--- all are left where the loop begins
-pub left-all : (f : ℕ → ℕ) (last : ℕ) → 1 ≤ last → freeFrom f (last + 1 - 2) 2 ≡ freeClusters last f
+pub lowest-start : (f : ℕ → ℕ) (last : ℕ) → startOf (freeFrom f (last + 1 - 2) 2) ≡ startOf (freeClusters last f)
 unfolding freeClusters
-left-all f last h = let z : last + 1 - 2 ≡ last - 1 = omega arith in rw z refl
-
--- ---- how many: n were counted
-
-pub count-hit : (f : ℕ → ℕ) (last c v n m d : ℕ) (whole : ℕ) → c ≤ last → v ≡ f c → v ≡ 0 → m ≡ n + 1 → d ≡ c + 1
-    → n + length (freeFrom f (last + 1 - c) c) ≡ whole → m + length (freeFrom f (last + 1 - d) d) ≡ whole
-count-hit f last c v n m d whole h e z y x w = rw (x, y) (omega (arith, ap length (left-hit f last c h (sym e ∙ z))))
-
-pub count-miss : (f : ℕ → ℕ) (last c v n d : ℕ) (whole : ℕ) → c ≤ last → v ≡ f c → v ≢ 0 → d ≡ c + 1 → n + length (freeFrom f (last + 1 - c) c) ≡ whole → n + length (freeFrom f (last + 1 - d) d) ≡ whole
-count-miss f last c v n d whole h e z x w = rw x (omega (arith, ap length (left-miss f last c h (λ y. z (e ∙ y)))))
-
-pub count-end : (f : ℕ → ℕ) (last c n : ℕ) (whole : ℕ) → last < c → n + length (freeFrom f (last + 1 - c) c) ≡ whole → n ≡ whole
-count-end f last c n whole h w = omega (arith, ap length (left-none f last c h))
-
--- ---- the lowest, 0 where there is none
+lowest-start f last = let z : last + 1 - 2 ≡ last - 1 = omega arith in rw z refl
 
 pub lowest-hit : (f : ℕ → ℕ) (last c v : ℕ) (whole : ℕ) → c ≤ last → v ≡ f c → v ≡ 0 → startOf (freeFrom f (last + 1 - c) c) ≡ whole → c ≡ whole
 lowest-hit f last c v whole h e z w = sym (ap startOf (left-hit f last c h (sym e ∙ z))) ∙ w
 
-pub lowest-miss : (f : ℕ → ℕ) (last c v d : ℕ) (whole : ℕ) → c ≤ last → v ≡ f c → v ≢ 0 → d ≡ c + 1 → startOf (freeFrom f (last + 1 - c) c) ≡ whole → startOf (freeFrom f (last + 1 - d) d) ≡ whole
-lowest-miss f last c v d whole h e z x w = rw x (sym (ap startOf (left-miss f last c h (λ y. z (e ∙ y)))) ∙ w)
+pub lowest-miss : (f : ℕ → ℕ) (last c v : ℕ) (whole : ℕ) → c ≤ last → v ≡ f c → v ≢ 0 → startOf (freeFrom f (last + 1 - c) c) ≡ whole → startOf (freeFrom f (last + 1 - (c + 1)) (c + 1)) ≡ whole
+lowest-miss f last c v whole h e z w = sym (ap startOf (left-miss f last c h (λ y. z (e ∙ y)))) ∙ w
 
 pub lowest-end : (f : ℕ → ℕ) (last c : ℕ) (whole : ℕ) → last < c → startOf (freeFrom f (last + 1 - c) c) ≡ whole → 0 ≡ whole
 lowest-end f last c whole h w = sym (ap startOf (left-none f last c h)) ∙ w

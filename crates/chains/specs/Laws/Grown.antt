@@ -10,12 +10,12 @@ use Rattle.chains.specs.Put.{put}
 use Rattle.chains.specs.Lists.{_∈_, lastOf, startOf}
 use Rattle.chains.specs.Sizes.{Geometry}
 use Rattle.chains.specs.Values.{Link}
-use Rattle.chains.specs.Free.{freeClusters, freeFrom}
+use Rattle.chains.specs.Free.{freeClusters}
 use Rattle.chains.specs.Growth.{extended, laid}
 use Rattle.chains.specs.Steps.{grown}
 use Rattle.chains.specs.Laws.Put.{put-cases, put-other, put-same}
 use Rattle.chains.specs.Laws.Lists.{mem-take}
-use Rattle.chains.specs.Laws.Free.{free-mem, free-next, free-nil, free-no, free-yes}
+use Rattle.chains.specs.Laws.Free.{free-mem, free-next, free-same}
 use Rattle.chains.specs.Laws.Growth.{laid-other}
 
 -- the table below does not matter on the chain that is laid
@@ -33,15 +33,6 @@ laid-same f g c (d ∷ ds) a h = elim (ℕ-discrete a c) [
 ]
 
 -- a store of no 0 into an entry that is no 0 frees and takes nothing
-free-same : (f g : ℕ → ℕ) (n c : ℕ) → ((a : ℕ) → (g a ≡ 0) ↔ (f a ≡ 0)) → freeFrom g n c ≡ freeFrom f n c
-free-same f g zero c h = free-nil g c ∙ sym (free-nil f c)
-free-same f g (suc n) c h =
-    let t : freeFrom g n (suc c) ≡ freeFrom f n (suc c) = free-same f g n (suc c) h in
-    elim (ℕ-discrete (f c) 0) [
-      | yes z ↦ free-yes g n c (h c .1 z) ∙ ap (λ (r : List ℕ). c ∷ r) t ∙ sym (free-yes f n c z)
-      | no nz ↦ free-no g n c (λ z. nz (h c .0 z)) ∙ t ∙ sym (free-no f n c nz)
-    ]
-
 put-used : (f : ℕ → ℕ) (c v : ℕ) → f c ≢ 0 → v ≢ 0 → (a : ℕ) → (put f c v a ≡ 0) ↔ (f a ≡ 0)
 put-used f c v p q a = elim (put-cases f c v a) [
   | inl h ↦ (λ e. absurd (q (sym (h .1) ∙ e)), λ e. absurd (p (ap f (sym (h .0)) ∙ e)))
@@ -54,7 +45,7 @@ unfolding freeClusters
 turn-free G f c d ds u e =
     let m : Link (G .last) d × (f d ≡ 0) = free-mem G f d (rw e (inl refl)) in
     let g : put f d 0xfff c ≡ f c = put-other f d 0xfff c (λ q. u (ap f q ∙ m .1)) in
-    free-same (put f d 0xfff) (put (put f d 0xfff) c d) (G .last - 1) 2 (put-used (put f d 0xfff) c d (λ z. u (sym g ∙ z)) (omega arith))
+    free-same (put f d 0xfff) (put (put f d 0xfff) c d) (G .last - 1) 2 (λ a k. put-used (put f d 0xfff) c d (λ z. u (sym g ∙ z)) (omega arith) a)
     ∙ free-next G f d 0xfff ds (omega arith) e
 
 -- what is laid from the next cluster on, over the table of one turn, is what is laid from this one

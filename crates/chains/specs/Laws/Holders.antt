@@ -10,7 +10,7 @@ use borrow.Author.Tests.{eq-eqb}
 use Rattle.chains.specs.Lists.{Once, _∈_, joined, occ}
 use Rattle.chains.specs.Sizes.{Geometry, clustersFor, fits}
 use Rattle.chains.specs.Values.{Link, Used}
-use Rattle.chains.specs.Holders.{Holder, Owns, Sound, fileHolder, nobody}
+use Rattle.chains.specs.Holders.{Holder, Names, Owns, Sound, fileHolder, nobody}
 use Rattle.chains.specs.Laws.Lists.{dec-mem, hit-same, mem-joined, mem-occ, occ-append, occ-not}
 use Rattle.chains.specs.Laws.Sizes.{clusters-hold, fits-least}
 use Rattle.chains.specs.Laws.Chain.{chain-mem, chain-once, chain-same}
@@ -64,3 +64,10 @@ module _ (G : Geometry) (f : ℕ → ℕ) (h : ℕ → Holder) (χ : ℕ → Lis
         omega (arith, e i, hit-same i i refl, mem-occ i is (subst (λ (x : ℕ). x ∈ is) (sym q) (r .1)))) in
         omega (arith, occ-append c (χ i) (joined χ is), once i c)
   ]
+
+  -- a list outside of which nobody is names every holder that has clusters
+  pub sound-listed : (is : List ℕ) → ((i : ℕ) → ¬ (i ∈ is) → h i ≡ nobody) → (i c : ℕ) → c ∈ χ i → i ∈ is
+  sound-listed is out i c m = elim (dec-mem i is) [ yes q ↦ q | no k ↦ absurd (rw (owns-nobody G f (h i) (χ i) (out i k) (v .owns i)) at m) ]
+
+  pub sound-names : (is : List ℕ) → ((i : ℕ) → ¬ (i ∈ is) → h i ≡ nobody) → Once is → Names χ is
+  sound-names is out e = record { each = e; all = sound-listed is out }

@@ -28,35 +28,35 @@ counted-turn : (last : ℕ) (f : ℕ → ℕ) (n v : ℕ) → n ≤ last → end
 unfolding counted
 counted-turn last f n v h e l = rw (counted-suc last n h, e, l, counted) refl
 
-length-none : (last : ℕ) (f : ℕ → ℕ) (c : ℕ) → c ≡ 0 → some 0 ≡ chainLength last f c
+pub length-zero : (last : ℕ) (f : ℕ → ℕ) (c : ℕ) → c ≡ 0 → some 0 ≡ chainLength last f c
 unfolding chainLength
-length-none last f c e = rw (eq-eqb c 0 e, chainLength) refl
+length-zero last f c e = rw (eq-eqb c 0 e, chainLength) refl
 
-length-out : (last : ℕ) (f : ℕ → ℕ) (c : ℕ) → c ≢ 0 → linkb last c ≡ false → none ≡ chainLength last f c
+no-link-out : (last : ℕ) (f : ℕ → ℕ) (c : ℕ) → c ≢ 0 → linkb last c ≡ false → none ≡ chainLength last f c
 unfolding chainLength
-length-out last f c n l = rw (ne-eqb c 0 n, l, chainLength) refl
+no-link-out last f c n l = rw (ne-eqb c 0 n, l, chainLength) refl
 
-length-from : (last : ℕ) (f : ℕ → ℕ) (c : ℕ) → c ≢ 0 → linkb last c ≡ true → counted last f (last + 1 - 1) 1 (f c) ≡ chainLength last f c
+link-from : (last : ℕ) (f : ℕ → ℕ) (c : ℕ) → c ≢ 0 → linkb last c ≡ true → counted last f (last + 1 - 1) 1 (f c) ≡ chainLength last f c
 unfolding chainLength
-length-from last f c n l = let e : last + 1 - 1 ≡ last = omega arith in rw (e, ne-eqb c 0 n, l, chainLength) refl
+link-from last f c n l = let e : last + 1 - 1 ≡ last = omega arith in rw (e, ne-eqb c 0 n, l, chainLength) refl
 
 -- ---- the turns in the shape of the needs of a loop: b is what the test answered
 
-pub met-no-link : (last : ℕ) (f : ℕ → ℕ) (c : ℕ) (b : Bool) → c ≢ 0 → b ≡ linkb last c → not b ≡ true → none ≡ chainLength last f c
-met-no-link last f c b n e t = length-out last f c n (sym e ∙ not-true b t)
+pub length-bad-start : (last : ℕ) (f : ℕ → ℕ) (c : ℕ) (b : Bool) → c ≢ 0 → b ≡ linkb last c → not b ≡ true → none ≡ chainLength last f c
+length-bad-start last f c b n e t = no-link-out last f c n (sym e ∙ not-true b t)
 
-pub met-first : (last : ℕ) (f : ℕ → ℕ) (c v : ℕ) (b : Bool) → c ≢ 0 → b ≡ linkb last c → not b ≡ false → v ≡ f c → counted last f (last + 1 - 1) 1 v ≡ chainLength last f c
-met-first last f c v b n e t w = ap (counted last f (last + 1 - 1) 1) w ∙ length-from last f c n (sym e ∙ not-false b t)
+pub length-start : (last : ℕ) (f : ℕ → ℕ) (c v : ℕ) (b : Bool) → c ≢ 0 → b ≡ linkb last c → not b ≡ false → v ≡ f c → counted last f (last + 1 - 1) 1 v ≡ chainLength last f c
+length-start last f c v b n e t w = ap (counted last f (last + 1 - 1) 1) w ∙ link-from last f c n (sym e ∙ not-false b t)
 
-pub met-end : (last : ℕ) (f : ℕ → ℕ) (n v : ℕ) (b : Bool) (whole : Option ℕ) → n ≤ last → b ≡ endb v → b ≡ true → counted last f (last + 1 - n) n v ≡ whole → some n ≡ whole
-met-end last f n v b whole h e t w = counted-end last f n v h (sym e ∙ t) ∙ w
+pub length-end : (last : ℕ) (f : ℕ → ℕ) (n v : ℕ) (b : Bool) (whole : Option ℕ) → n ≤ last → b ≡ endb v → b ≡ true → counted last f (last + 1 - n) n v ≡ whole → some n ≡ whole
+length-end last f n v b whole h e t w = counted-end last f n v h (sym e ∙ t) ∙ w
 
-pub met-other : (last : ℕ) (f : ℕ → ℕ) (n v : ℕ) (a b : Bool) (whole : Option ℕ) → n ≤ last → a ≡ endb v → a ≡ false → b ≡ linkb last v → not b ≡ true → counted last f (last + 1 - n) n v ≡ whole → none ≡ whole
-met-other last f n v a b whole h e t d u w = counted-stop last f n v h (sym e ∙ t) (sym d ∙ not-true b u) ∙ w
+pub length-broken : (last : ℕ) (f : ℕ → ℕ) (n v : ℕ) (a b : Bool) (whole : Option ℕ) → n ≤ last → a ≡ endb v → a ≡ false → b ≡ linkb last v → not b ≡ true → counted last f (last + 1 - n) n v ≡ whole → none ≡ whole
+length-broken last f n v a b whole h e t d u w = counted-stop last f n v h (sym e ∙ t) (sym d ∙ not-true b u) ∙ w
 
-pub met-link : (last : ℕ) (f : ℕ → ℕ) (n v m x : ℕ) (a b : Bool) (whole : Option ℕ) → n ≤ last → a ≡ endb v → a ≡ false → b ≡ linkb last v → not b ≡ false → x ≡ f v → m ≡ n + 1
+pub length-turn : (last : ℕ) (f : ℕ → ℕ) (n v m x : ℕ) (a b : Bool) (whole : Option ℕ) → n ≤ last → a ≡ endb v → a ≡ false → b ≡ linkb last v → not b ≡ false → x ≡ f v → m ≡ n + 1
     → counted last f (last + 1 - n) n v ≡ whole → counted last f (last + 1 - m) m x ≡ whole
-met-link last f n v m x a b whole h e t d u y z w = rw (y, z) (sym (counted-turn last f n v h (sym e ∙ t) (sym d ∙ not-false b u)) ∙ w)
+length-turn last f n v m x a b whole h e t d u y z w = rw (y, z) (sym (counted-turn last f n v h (sym e ∙ t) (sym d ∙ not-false b u)) ∙ w)
 
-pub met-none : (last : ℕ) (f : ℕ → ℕ) (n v : ℕ) (whole : Option ℕ) → last < n → counted last f (last + 1 - n) n v ≡ whole → none ≡ whole
-met-none last f n v whole h w = counted-out last f n v h ∙ w
+pub length-spent : (last : ℕ) (f : ℕ → ℕ) (n v : ℕ) (whole : Option ℕ) → last < n → counted last f (last + 1 - n) n v ≡ whole → none ≡ whole
+length-spent last f n v whole h w = counted-out last f n v h ∙ w

@@ -7,7 +7,6 @@ use mathlib.Core.List.{List, [], _∷_, _++_}
 use lib.ListN.{length, getD, set, replicate, length-set, length-replicate, getD-replicate}
 use lib.Seq.{getD-set-same, getD-set-other, set-out}
 use Rattle.chains.specs.Lists.{InTwoOf, Once, _∈_, hit, joined, occ}
-use Rattle.chains.specs.Sizes.{Geometry}
 use Rattle.chains.specs.Marks.{mark, marks, marksOf}
 use Rattle.chains.specs.Laws.Lists.{dec-mem, hit-cases, hit-same, joined-mem, mem-joined, mem-occ, occ-append, occ-mem, occ-not, once-head, once-tail}
 
@@ -42,10 +41,9 @@ marks-at m [] a t l e = omega arith
 marks-at m (c ∷ cs) a t l e =
     omega (arith, marks-at (mark m c) cs a (t + hit a c) (omega (arith, mark-length m c)) (mark-at m c a t l e))
 
-pub marks-of-at : (G : Geometry) (all : List ℕ) (c : ℕ) → c ≤ G .last → getD (marksOf (G .last) all) c 0 ≡ min 2 (occ c all)
+pub marks-of-at : (size : ℕ) (all : List ℕ) (c : ℕ) → c < size → getD (marksOf size all) c 0 ≡ min 2 (occ c all)
 unfolding marksOf
-marks-of-at G all c l =
-    marks-at (replicate (G .last + 1) 0) all c 0 (omega (arith, length-replicate {A = ℕ} (G .last + 1) 0)) (getD-replicate (G .last + 1) c 0 0 (omega arith)) ∙ omega arith
+marks-of-at size all c l = marks-at (replicate size 0) all c 0 (omega (arith, length-replicate {A = ℕ} size 0)) (getD-replicate size c 0 0 l) ∙ omega arith
 
 -- ---- 2 is in two of the lists
 
@@ -75,13 +73,13 @@ occ-in-two χ (i ∷ is) c e o h = elim (dec-mem c (χ i)) [
       (r .0, r .1, r .2, inr (r .3), inr (r .4), r .5, r .6)
 ]
 
-pub two-in-two : (G : Geometry) (χ : ℕ → List ℕ) (is : List ℕ) (c : ℕ) → c ≤ G .last → Once is → ((i : ℕ) → i ∈ is → occ c (χ i) ≤ 1) → (getD (marksOf (G .last) (joined χ is)) c 0 ≡ 2) ↔ InTwoOf χ is c
-two-in-two G χ is c l e o = (λ q. occ-in-two χ is c e o (omega (arith, marks-of-at G (joined χ is) c l)), λ s. omega (arith, marks-of-at G (joined χ is) c l, in-two-occ χ is c s))
+pub two-in-two : (size : ℕ) (χ : ℕ → List ℕ) (is : List ℕ) (c : ℕ) → c < size → Once is → ((i : ℕ) → i ∈ is → occ c (χ i) ≤ 1) → (getD (marksOf size (joined χ is)) c 0 ≡ 2) ↔ InTwoOf χ is c
+two-in-two size χ is c l e o = (λ q. occ-in-two χ is c e o (omega (arith, marks-of-at size (joined χ is) c l)), λ s. omega (arith, marks-of-at size (joined χ is) c l, in-two-occ χ is c s))
 
 -- ---- 0 is in none
 
-pub zero-none : (G : Geometry) (all : List ℕ) (c : ℕ) → c ≤ G .last → (getD (marksOf (G .last) all) c 0 ≡ 0) ↔ (¬ (c ∈ all))
-zero-none G all c l = (λ e m. omega (arith, marks-of-at G all c l, mem-occ c all m), λ n. omega (arith, marks-of-at G all c l, occ-not c all n))
+pub zero-none : (size : ℕ) (all : List ℕ) (c : ℕ) → c < size → (getD (marksOf size all) c 0 ≡ 0) ↔ (¬ (c ∈ all))
+zero-none size all c l = (λ e m. omega (arith, marks-of-at size all c l, mem-occ c all m), λ n. omega (arith, marks-of-at size all c l, occ-not c all n))
 
 -- ---- one mark, in the shape of the code's tests
 

@@ -14,7 +14,7 @@ use Rattle.chains.specs.Holders.{Holder, Sound}
 use Rattle.chains.specs.Replace.{Replaced}
 use Rattle.chains.specs.Laws.Lists.{dec-mem, mem-occ, occ-not}
 use Rattle.chains.specs.Laws.Sums.{occ-clusters, sum-add, sum-cong}
-use Rattle.chains.specs.Laws.Values.{free-no-aside, free-one, used-no-aside, used-no-free}
+use Rattle.chains.specs.Laws.Values.{aside-sum, free-no-aside, free-one, free-sum, used-no-aside, used-no-free}
 use Rattle.chains.specs.Laws.Chain.{chain-mem, chain-once}
 use Rattle.chains.specs.Laws.Holders.{in-range, in-use, once}
 
@@ -36,7 +36,7 @@ module _ (G : Geometry) (f g : ℕ → ℕ) (h : ℕ → Holder) (χ : ℕ → L
   ]
 
   pub replace-aside : asideCount (G .last) g ≡ asideCount (G .last) f
-  replace-aside = sum-cong (G .last - 1) (λ j. bit (asideb (g (j + 2)))) (λ j. bit (asideb (f (j + 2)))) (λ j k. same (j + 2) (omega arith))
+  replace-aside = aside-sum (G .last) g ∙ sum-cong (G .last - 1) (λ j. bit (asideb (g (j + 2)))) (λ j. bit (asideb (f (j + 2)))) (λ j k. same (j + 2) (omega arith)) ∙ sym (aside-sum (G .last) f)
 
   -- free: cluster by cluster, so that no list of holders is asked for
   one-more : (c : ℕ) → Link (G .last) c → bit (freeb (g c)) + occ c ds ≡ bit (freeb (f c)) + occ c (χ i)
@@ -65,6 +65,8 @@ module _ (G : Geometry) (f g : ℕ → ℕ) (h : ℕ → Holder) (χ : ℕ → L
         e,
         a,
         b,
+        free-sum (G .last) f,
+        free-sum (G .last) g,
         sum-add n (λ j. bit (freeb (g (j + 2)))) (λ j. occ (j + 2) ds),
         sum-add n (λ j. bit (freeb (f (j + 2)))) (λ j. occ (j + 2) (χ i)),
       )

@@ -2,11 +2,12 @@
 use Prim.Native.Nat.{ℕ, zero, suc, _+_, _≤_, _<_}
 use native.Mathlib.Omega.{arith}
 use native.Mathlib.Decide.{ℕ-discrete}
-use mathlib.Core.Path.{_≡_, sym, ap, _∙_, subst}
+use mathlib.Core.Path.{_≡_, refl, sym, ap, _∙_, subst}
 use mathlib.Core.Logic.{inl, inr}
 use mathlib.Core.Bool.{not}
 use lib.Dec.{ltb}
 use Rattle.chains.specs.Lists.{Once, _∈_, occ}
+use Rattle.chains.specs.Sums.{sum, sumOver}
 use Rattle.chains.specs.Sizes.{Geometry}
 use Rattle.chains.specs.Holders.{Holder, Owns}
 use Rattle.chains.specs.Verdict.{Found, first}
@@ -15,6 +16,7 @@ use Rattle.chains.specs.Check.{ownsb}
 use Rattle.chains.specs.Rows.{rows}
 use Rattle.chains.specs.Laws.Tests.{says-map, says-not}
 use Rattle.chains.specs.Laws.Lists.{hit-cases, occ-not}
+use Rattle.chains.specs.Laws.Sums.{sum-cong, sum-first}
 use Rattle.chains.specs.Laws.Verdict.{first-found}
 use Rattle.chains.specs.Laws.Check.{holders-in, in-holders, says-owned}
 
@@ -60,6 +62,15 @@ rows-once way inj k (suc n) a = elim (hit-cases a (way k)) [
         omega (arith, r .1)),
   )
 ]
+
+-- a sum over the holders is a sum over the slots
+pub rows-sum : (way : ℕ → ℕ) (g : ℕ → ℕ) (k n : ℕ) → sumOver (holdersOf (rows way k n)) g ≡ sum n (λ s. g (way (s + k)))
+unfolding rows holdersOf sumOver
+rows-sum way g k zero = unfold sum in refl
+rows-sum way g k (suc n) =
+    let q : sum n (λ s. g (way (s + 1 + k))) ≡ sum n (λ s. g (way (s + suc k))) = sum-cong n _ _ (λ s l. ap (λ (x : ℕ). g (way x)) (omega arith)) in
+    let z : g (way (0 + k)) ≡ g (way k) = ap (λ (x : ℕ). g (way x)) (omega arith) in
+    omega (arith, sum-first n (λ s. g (way (s + k))), q, z, rows-sum way g (suc k) n)
 
 -- finding 5 by a loop over the slots from below
 pub found-bad-chain : (G : Geometry) (f : ℕ → ℕ) (h : ℕ → Holder) (way : ℕ → ℕ) (n : ℕ) → Found ltb (BadChain (G .last) f h (rows way 0 n)) (first (λ s. not (ownsb (G .last) f (h (way s)))) n 0)

@@ -4,19 +4,40 @@ use native.Mathlib.Omega.{arith}
 use mathlib.Core.Path.{_≡_, refl, sym, _∙_}
 use mathlib.Core.Bool.{Bool, true, false}
 use mathlib.Core.Option.{Option, none, some}
+use Rattle.chains.specs.Tests.{pick}
 use Rattle.chains.specs.Verdict.{first}
 
-pub first-hit : (t : ℕ → Bool) (end c : ℕ) (whole : Option ℕ) → c < end → t c ≡ true → first t (end - c) c ≡ whole → some c ≡ whole
+first-one : (t : ℕ → Bool) (end c : ℕ) → c < end → first t (end - c) c ≡ pick (t c) (some c) (first t (end - (c + 1)) (c + 1))
 unfolding first
-first-hit t end c whole l e w = let z : end - c ≡ suc (end - suc c) = omega arith in sym (rw (z, e, first) refl) ∙ w
+first-one t end c l =
+    let z : end - c ≡ suc (end - (c + 1)) = omega arith in
+    let y : suc c ≡ c + 1 = omega arith in
+    rw (z, first, sym y) refl
 
-pub first-miss : (t : ℕ → Bool) (end c d : ℕ) (whole : Option ℕ) → c < end → t c ≡ false → d ≡ c + 1 → first t (end - c) c ≡ whole → first t (end - d) d ≡ whole
-unfolding first
-first-miss t end c d whole l e q w =
-    let z : end - c ≡ suc (end - suc c) = omega arith in
-    let y : d ≡ suc c = omega arith in
-    rw y (sym (rw (z, e, first) refl) ∙ w)
+pub first-hit : (t : ℕ → Bool) (end c : ℕ) (whole : Option ℕ) → c < end → t c ≡ true → first t (end - c) c ≡ whole → some c ≡ whole
+first-hit t end c whole l e w = sym (first-one t end c l ∙ (rw e refl)) ∙ w
+
+pub first-miss : (t : ℕ → Bool) (end c : ℕ) (whole : Option ℕ) → c < end → t c ≡ false → first t (end - c) c ≡ whole → first t (end - (c + 1)) (c + 1) ≡ whole
+first-miss t end c whole l e w = sym (first-one t end c l ∙ (rw e refl)) ∙ w
 
 pub first-end : (t : ℕ → Bool) (end c : ℕ) (whole : Option ℕ) → end ≤ c → first t (end - c) c ≡ whole → none ≡ whole
-unfolding first
-first-end t end c whole l w = let z : end - c ≡ 0 = omega arith in sym (rw (z, first) refl) ∙ w
+first-end t end c whole l w = let z : end - c ≡ 0 = omega arith in let y : none ≡ first t (end - c) c = rw z (unfold first in refl) in y ∙ w
+
+-- ---- over n slots, from 0 on
+
+pub slots-start : (t : ℕ → Bool) (n : ℕ) → first t (n - 0) 0 ≡ first t n 0
+slots-start t n = let z : n - 0 ≡ n = omega arith in rw z refl
+
+-- ---- over the clusters of a volume, from 2 on, as long as c ≤ last
+
+pub clusters-start : (t : ℕ → Bool) (last : ℕ) → first t (last + 1 - 2) 2 ≡ first t (last - 1) 2
+clusters-start t last = let z : last + 1 - 2 ≡ last - 1 = omega arith in rw z refl
+
+pub clusters-hit : (t : ℕ → Bool) (last c : ℕ) (whole : Option ℕ) → c ≤ last → t c ≡ true → first t (last + 1 - c) c ≡ whole → some c ≡ whole
+clusters-hit t last c whole l e w = first-hit t (last + 1) c whole (omega arith) e w
+
+pub clusters-miss : (t : ℕ → Bool) (last c : ℕ) (whole : Option ℕ) → c ≤ last → t c ≡ false → first t (last + 1 - c) c ≡ whole → first t (last + 1 - (c + 1)) (c + 1) ≡ whole
+clusters-miss t last c whole l e w = first-miss t (last + 1) c whole (omega arith) e w
+
+pub clusters-end : (t : ℕ → Bool) (last c : ℕ) (whole : Option ℕ) → last < c → first t (last + 1 - c) c ≡ whole → none ≡ whole
+clusters-end t last c whole l w = first-end t (last + 1) c whole (omega arith) w

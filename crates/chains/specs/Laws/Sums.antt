@@ -3,10 +3,12 @@ use Prim.Native.Nat.{ℕ, zero, suc, _+_, _-_, _≤_, _<_}
 use native.Mathlib.Omega.{arith}
 use mathlib.Core.Path.{_≡_, refl, sym, ap, _∙_}
 use mathlib.Core.Logic.{inl, inr}
+use mathlib.Core.Bool.{Bool}
 use mathlib.Core.List.{List, [], _∷_}
 use lib.ListN.{length, length-append}
+use Rattle.chains.specs.Tests.{bit}
 use Rattle.chains.specs.Lists.{Once, _∈_, hit, joined, occ}
-use Rattle.chains.specs.Sums.{sum, sumClusters, sumOver}
+use Rattle.chains.specs.Sums.{sum, sumClusters, sumOver, tally}
 use Rattle.chains.specs.Sizes.{Geometry}
 use Rattle.chains.specs.Values.{Link}
 use Rattle.chains.specs.Laws.Lists.{hit-cases, hit-other, hit-same}
@@ -47,6 +49,15 @@ sum-first (suc n) g = omega (arith, sum-first n g, ap g (one n))
   where
     one : (k : ℕ) → k + 1 ≡ suc k
     one k = omega arith
+
+-- a count is a sum
+pub tally-sum : (t : ℕ → Bool) (n c : ℕ) → tally t n c ≡ sum n (λ i. bit (t (i + c)))
+unfolding tally
+tally-sum t zero c = unfold sum in refl
+tally-sum t (suc n) c =
+    let q : sum n (λ i. bit (t (i + 1 + c))) ≡ sum n (λ i. bit (t (i + suc c))) = sum-cong n _ _ (λ i k. ap (λ (x : ℕ). bit (t x)) (omega arith)) in
+    let z : bit (t (0 + c)) ≡ bit (t c) = ap (λ (x : ℕ). bit (t x)) (omega arith) in
+    omega (arith, sum-first n (λ i. bit (t (i + c))), q, z, tally-sum t n (suc c))
 
 -- ---- over lists
 

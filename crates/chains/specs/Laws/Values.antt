@@ -1,13 +1,15 @@
 -- The tests of a table value say what it is; free is not used.
-use Prim.Native.Nat.{ℕ}
+use Prim.Native.Nat.{ℕ, _-_}
 use native.Mathlib.Omega.{arith}
 use mathlib.Core.Path.{_≡_, ap}
 use mathlib.Core.Logic.{_≢_, _⊎_, inl, inr}
 use mathlib.Core.Bool.{false, _||_}
 use Rattle.chains.specs.Tests.{Says, bit}
+use Rattle.chains.specs.Sums.{sumClusters}
 use Rattle.chains.specs.Sizes.{Geometry}
-use Rattle.chains.specs.Values.{Aside, End, Link, Used, Valid, aside, asideb, endb, free, freeb, linkb, used}
+use Rattle.chains.specs.Values.{Aside, End, Link, Used, Valid, aside, asideAt, asideCount, asideb, endb, free, freeAt, freeCount, freeb, linkb, used}
 use Rattle.chains.specs.Laws.Tests.{false-says, says-and, says-eq, says-le, says-map, says-or, true-says}
+use Rattle.chains.specs.Laws.Sums.{tally-sum}
 
 pub says-link : (last v : ℕ) → Says (linkb last v) (Link last v)
 unfolding linkb
@@ -67,3 +69,13 @@ used-no-aside G v (inr u) = aside-none v (λ a. omega arith)
 
 pub free-no-aside : (v : ℕ) → v ≡ 0 → bit (asideb v) ≡ 0
 free-no-aside v e = aside-none v (λ a. omega arith)
+
+-- ---- the counts as sums over the clusters
+
+pub free-sum : (last : ℕ) (f : ℕ → ℕ) → freeCount last f ≡ sumClusters last (λ c. bit (freeb (f c)))
+unfolding freeCount freeAt
+free-sum last f = tally-sum (freeAt f) (last - 1) 2
+
+pub aside-sum : (last : ℕ) (f : ℕ → ℕ) → asideCount last f ≡ sumClusters last (λ c. bit (asideb (f c)))
+unfolding asideCount asideAt
+aside-sum last f = tally-sum (asideAt f) (last - 1) 2
