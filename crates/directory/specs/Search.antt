@@ -1,33 +1,13 @@
 -- A slot found in a directory of count slots, the first of which stands at byte root.
-use Prim.Native.Nat.{ℕ, zero, suc, _+_, _*_, _<_}
-use mathlib.Core.Bool.{Bool, true, cond, _&&_}
+use Prim.Native.Nat.{ℕ, zero, suc, _+_, _*_}
+use mathlib.Core.Bool.{Bool, true, _&&_}
 use mathlib.Core.List.{List}
 use lib.Dec.{eqb}
 use lib.ListN.{getD}
+use Rattle.search.specs.Search.{lowest}
+use Rattle.search.specs.declared.Found.{Found}
 use Rattle.directory.specs.Fields.{nameOf}
 use Rattle.directory.specs.Slots.{standingOf, isOpen, isPlain}
-use Rattle.directory.specs.declared.Found.{Found}
-use Rattle.directory.specs.declared.Found.the-variants.{At, Nothing}
-
--- the lowest of the n numbers from s on that passes
-unfoldable pub lowestFrom : (ℕ → Bool) → ℕ → ℕ → Found
-lowestFrom p s zero = Nothing
-lowestFrom p s (suc n) = cond (p s) (At s) (lowestFrom p (s + 1) n)
-
--- the lowest number below count that passes
-unfoldable pub lowest : (ℕ → Bool) → ℕ → Found
-lowest p count = lowestFrom p 0 count
-
--- ---- what an answer means: it passes and none below does; or none does
-
-pub record LowestBelow (P : ℕ → Type 0) (count s : ℕ) : Type 0 where
-  pub below : s < count
-  pub passes : P s
-  pub none-lower : (q : ℕ) → q < s → ¬ P q
-
-abbrev pub Answers : (ℕ → Type 0) → ℕ → Found → Type 0
-Answers P count (At s) = LowestBelow P count s
-Answers P count Nothing = (q : ℕ) → q < count → ¬ P q
 
 -- ---- names
 
@@ -59,8 +39,8 @@ namedSlot l root name s = isNamed l (slotFrom root s) name
 
 -- the lowest erased or never-used slot
 unfoldable pub lowestOpenSlot : List ℕ → ℕ → ℕ → Found
-lowestOpenSlot l root count = lowest (openSlot l root) count
+lowestOpenSlot l root count = lowest (openSlot l root) 0 count
 
 -- the slot of the plain file with these 11 name bytes
 unfoldable pub slotNamed : List ℕ → ℕ → ℕ → List ℕ → Found
-slotNamed l root count name = lowest (namedSlot l root name) count
+slotNamed l root count name = lowest (namedSlot l root name) 0 count

@@ -1,4 +1,5 @@
 // The 32 bytes of a directory entry, by the address a of the first: fields read and stored, what a slot stands for, slots found.
+use search::Found;
 ghost use mathlib.Core.Path.{_≡_};
 ghost use Prim.Native.Nat.{_+_, _*_, _≤_, _<_};
 ghost use lib.ListN.{length};
@@ -36,11 +37,6 @@ impl Standing {
             Standing::Plain => true,
         }
     }
-}
-
-pub enum Found {
-    At(usize),
-    Nothing,
 }
 
 pub fn name_at(img: &[u8], a: usize) -> [u8; 11]

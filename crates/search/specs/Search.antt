@@ -1,5 +1,5 @@
 -- Of the n numbers from s on: the lowest that passes a test, and how many do.
-use Prim.Native.Nat.{ℕ, zero, suc, _+_}
+use Prim.Native.Nat.{ℕ, zero, suc, _+_, _<_}
 use mathlib.Core.Bool.{Bool, cond}
 use Rattle.search.specs.declared.Found.{Found}
 use Rattle.search.specs.declared.Found.the-variants.{At, Nothing}
@@ -11,3 +11,14 @@ lowest p s (suc n) = cond (p s) (At s) (lowest p (s + 1) n)
 unfoldable pub count : (ℕ → Bool) → ℕ → ℕ → ℕ
 count p s zero = 0
 count p s (suc n) = cond (p s) 1 0 + count p (s + 1) n
+
+-- ---- what an answer means, of the numbers below count: it passes and none below does; or none does
+
+pub record LowestBelow (P : ℕ → Type 0) (count s : ℕ) : Type 0 where
+  pub below : s < count
+  pub passes : P s
+  pub none-lower : (q : ℕ) → q < s → ¬ P q
+
+abbrev pub Answers : (ℕ → Type 0) → ℕ → Found → Type 0
+Answers P count (At s) = LowestBelow P count s
+Answers P count Nothing = (q : ℕ) → q < count → ¬ P q

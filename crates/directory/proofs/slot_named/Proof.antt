@@ -2,13 +2,14 @@
 use borrow.Author.Needs.{needs}
 use mathlib.Core.Path.{_≡_}
 use Prim.Native.Nat.{_-_, _≤_}
-use Rattle.directory.specs.Search.{lowestFrom, namedSlot, slotNamed}
+use Rattle.search.specs.Search.{lowest}
+use Rattle.directory.specs.Search.{namedSlot, slotNamed}
 use Rattle.directory.specs.Laws.Search.{lowest-all, lowest-hit, lowest-miss, lowest-end}
 use Rattle.directory.proofs.slot_named.Statement.{statement}
 use Rattle.directory.proofs.slot_named.Tie as tie
 
 abbrev Inv-loop : tie.InvT-loop
-Inv-loop img root count name slot₀ slot = (slot ≤ count) × (lowestFrom (namedSlot img root name) slot (count - slot) ≡ slotNamed img root count name)
+Inv-loop img root count name slot₀ slot = (slot ≤ count) × (lowest (namedSlot img root name) slot (count - slot) ≡ slotNamed img root count name)
 
 abbrev μ-loop : tie.MeasureT-loop
 μ-loop img root count name slot₀ slot = count - slot

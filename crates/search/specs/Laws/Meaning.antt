@@ -37,21 +37,21 @@ count-bound p s (suc f) = by (p s) (count-bound p (s + 1) f)
     by false h = omega arith
 
 -- what an answer says of the f numbers from s on
-abbrev pub Answers : (ℕ → Bool) → ℕ → ℕ → Found → Type 0
-Answers p s f (At i) = (s ≤ i) × (i < s + f) × (p i ≡ true) × ((j : ℕ) → s ≤ j → j < i → p j ≡ false)
-Answers p s f Nothing = (j : ℕ) → s ≤ j → j < s + f → p j ≡ false
+abbrev pub LowestIs : (ℕ → Bool) → ℕ → ℕ → Found → Type 0
+LowestIs p s f (At i) = (s ≤ i) × (i < s + f) × (p i ≡ true) × ((j : ℕ) → s ≤ j → j < i → p j ≡ false)
+LowestIs p s f Nothing = (j : ℕ) → s ≤ j → j < s + f → p j ≡ false
 
 module _ (p : ℕ → Bool) (s f : ℕ) (e : p s ≡ false) where
-  one-more : (r : Found) → Answers p (s + 1) f r → Answers p s (suc f) r
+  one-more : (r : Found) → LowestIs p (s + 1) f r → LowestIs p s (suc f) r
   one-more (At i) x = (omega arith, omega arith, x .2, λ j h k. elim (ℕ-discrete j s) [ yes q ↦ rw q e | no q ↦ x .3 j (omega arith) k ])
   one-more Nothing x = λ j h k. elim (ℕ-discrete j s) [ yes q ↦ rw q e | no q ↦ x j (omega arith) (omega arith) ]
 
-pub lowest-answers : (p : ℕ → Bool) (s f : ℕ) → Answers p s f (lowest p s f)
+pub lowest-is : (p : ℕ → Bool) (s f : ℕ) → LowestIs p s f (lowest p s f)
 unfolding lowest
-lowest-answers p s zero = λ j h k. absurd (omega arith)
-lowest-answers p s (suc f) = by (p s) refl (lowest-answers p (s + 1) f)
+lowest-is p s zero = λ j h k. absurd (omega arith)
+lowest-is p s (suc f) = by (p s) refl (lowest-is p (s + 1) f)
   where
-    by : (b : Bool) → p s ≡ b → Answers p (s + 1) f (lowest p (s + 1) f) → Answers p s (suc f) (cond b (At s) (lowest p (s + 1) f))
+    by : (b : Bool) → p s ≡ b → LowestIs p (s + 1) f (lowest p (s + 1) f) → LowestIs p s (suc f) (cond b (At s) (lowest p (s + 1) f))
     by true e x = (omega arith, omega arith, e, λ j h k. absurd (omega arith))
     by false e x = one-more p s f e (lowest p (s + 1) f) x
 

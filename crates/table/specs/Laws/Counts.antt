@@ -14,7 +14,7 @@ use Rattle.chains.specs.Values.{freeCount, asideCount}
 use Rattle.chains.specs.Laws.Sums.{sum-cong}
 use Rattle.search.specs.Search.{lowest, count}
 use Rattle.search.specs.Laws.Turns as turns
-use Rattle.search.specs.Laws.Meaning.{Answers, lowest-answers, lowest-same}
+use Rattle.search.specs.Laws.Meaning.{LowestIs, lowest-is, lowest-same}
 use Rattle.search.specs.Laws.Theory.{count-sum}
 use Rattle.search.specs.declared.Found.{Found}
 use Rattle.search.specs.declared.Found.the-variants.{At, Nothing}
@@ -88,9 +88,9 @@ module _ (l : List ℕ) (i after : ℕ) (answer : Found) (inv : lowest (freeAt l
 -- ---- what the lowest free is
 
 module _ (last : ℕ) (l : List ℕ) where
-  answers-free : (r : Found) → lowestFree last l ≡ r → Answers (freeAt l) 2 (last + 1 - 2) r
+  answers-free : (r : Found) → lowestFree last l ≡ r → LowestIs (freeAt l) 2 (last + 1 - 2) r
   unfolding lowestFree
-  answers-free r e = subst (Answers (freeAt l) 2 (last + 1 - 2)) e (lowest-answers (freeAt l) 2 (last + 1 - 2))
+  answers-free r e = subst (LowestIs (freeAt l) 2 (last + 1 - 2)) e (lowest-is (freeAt l) 2 (last + 1 - 2))
 
   pub lowest-free-at : (n : ℕ) → lowestFree last l ≡ At n → LowestFree last l n
   lowest-free-at n e =
