@@ -1,3 +1,3 @@
--- Searching and counting over a range of numbers, from the front, as a loop goes.
+-- Searching a range of numbers, from the front, as a loop goes.
 pub mod Search
 pub mod Laws

@@ -6,7 +6,7 @@ ghost use mathlib.Core.Path.{_≡_};
 ghost use Prim.Native.Nat.{_+_, _-_, _≤_, _<_};
 ghost use lib.ListN.{length};
 ghost use Rattle.chains.specs.Values.{freeCount, asideCount};
-ghost use Rattle.search.specs.Search.{count};
+ghost use Rattle.chains.specs.Sums.{tally};
 ghost use Rattle.table.specs.Entries.{wordAt, even, taken, kept, entryAt, entryOf, setAt, setBoth, Reaches, tableOf};
 ghost use Rattle.table.specs.Values.{meaningOf};
 ghost use Rattle.table.specs.Counts.{among, amongAt, lowestFree};
@@ -113,7 +113,7 @@ fn is_among(v: u16, low: u16, high: u16) -> bool
 fn count_among(img: &[u8], after: usize, low: u16, high: u16) -> usize
     requires { ⌜ after ≤ 4080 ⌝ }
     requires { ⌜ wordAt 512 (after - 1) + 2 ≤ length (now img) ⌝ }
-    ensures { λ r. ⌜ r ≡ count (amongAt low high (now (img .entry))) 2 (after - 2) ⌝ }
+    ensures { λ r. ⌜ r ≡ tally (amongAt low high (now (img .entry))) (after - 2) 2 ⌝ }
 {
     let mut found: usize = 0;
     let mut n: usize = 2;

@@ -3,7 +3,7 @@ use Prim.Native.Nat.{ℕ, suc, _+_, _-_, _≤_, _<_}
 use native.Mathlib.Omega.{arith}
 use mathlib.Core.Bool.{Bool, true, false, cond}
 use mathlib.Core.Path.{_≡_, sym, _∙_}
-use Rattle.search.specs.Search.{lowest, count}
+use Rattle.search.specs.Search.{lowest}
 use Rattle.search.specs.declared.Found.{Found}
 use Rattle.search.specs.declared.Found.the-variants.{At, Nothing}
 
@@ -11,10 +11,6 @@ module _ (p : ℕ → Bool) (i end : ℕ) where
   lowest-step : i < end → lowest p i (end - i) ≡ cond (p i) (At i) (lowest p (i + 1) (end - (i + 1)))
   unfolding lowest
   lowest-step h = let e : end - i ≡ suc (end - (i + 1)) = omega arith in rw e
-
-  count-step : i < end → count p i (end - i) ≡ cond (p i) 1 0 + count p (i + 1) (end - (i + 1))
-  unfolding count
-  count-step h = let e : end - i ≡ suc (end - (i + 1)) = omega arith in rw e
 
   module _ (answer : Found) (inv : lowest p i (end - i) ≡ answer) where
     pub lowest-hit : i < end → p i ≡ true → At i ≡ answer
@@ -26,14 +22,3 @@ module _ (p : ℕ → Bool) (i end : ℕ) where
     pub lowest-done : end ≤ i → Nothing ≡ answer
     unfolding lowest
     lowest-done h = let e : end - i ≡ 0 = omega arith in rw e at inv
-
-  module _ (n total : ℕ) (inv : n + count p i (end - i) ≡ total) where
-    pub count-hit : (m : ℕ) → i < end → p i ≡ true → m ≡ n + 1 → m + count p (i + 1) (end - (i + 1)) ≡ total
-    count-hit m h t s = omega (arith, rw t at (count-step h))
-
-    pub count-miss : (m : ℕ) → i < end → p i ≡ false → m ≡ n → m + count p (i + 1) (end - (i + 1)) ≡ total
-    count-miss m h t s = omega (arith, rw t at (count-step h))
-
-    pub count-done : end ≤ i → n ≡ total
-    unfolding count
-    count-done h = let e : end - i ≡ 0 = omega arith in omega (arith, rw e at inv)

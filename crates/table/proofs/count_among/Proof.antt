@@ -3,14 +3,14 @@ use borrow.Author.Needs.{needs}
 use Prim.Native.Nat.{_+_, _-_, _≤_}
 use mathlib.Core.Path.{_≡_}
 use mathlib.Core.Logic.{⊎-elim}
-use Rattle.search.specs.Search.{count}
+use Rattle.chains.specs.Sums.{tally}
 use Rattle.table.specs.Counts.{amongAt}
 use Rattle.table.specs.Laws.Counts.{count-hit, count-miss, count-done}
 use Rattle.table.proofs.count_among.Statement.{statement}
 use Rattle.table.proofs.count_among.Tie as tie
 
 abbrev Inv-loop : tie.InvT-loop
-Inv-loop img after low high found₀ n₀ found n = (2 ≤ n) × (found ≤ n) × (found + count (amongAt low high img) n (after - n) ≡ count (amongAt low high img) 2 (after - 2))
+Inv-loop img after low high found₀ n₀ found n = (2 ≤ n) × (found ≤ n) × (found + tally (amongAt low high img) (after - n) n ≡ tally (amongAt low high img) (after - 2) 2)
 
 abbrev μ-loop : tie.MeasureT-loop
 μ-loop img after low high found₀ n₀ found n = after - n

@@ -9,13 +9,14 @@ use mathlib.Core.Path.{_≡_, refl, sym, _∙_, ap, subst}
 use lib.Dec.{eqb, leb}
 use borrow.Author.Tests.{eq-eqb, ne-eqb, eqb-true, eqb-false, le-leb, lt-leb, leb-true}
 use Rattle.chains.specs.Tests.{bit}
-use Rattle.chains.specs.Sums.{sum}
+use Rattle.chains.specs.Sums.{tally}
 use Rattle.chains.specs.Values.{freeCount, asideCount}
-use Rattle.chains.specs.Laws.Sums.{sum-cong}
-use Rattle.search.specs.Search.{lowest, count}
+use Rattle.chains.specs.Values as theory
+use Rattle.chains.specs.Laws.Sums.{sum-cong, tally-sum}
+use Rattle.chains.specs.Laws.TallyTurns.{tally-hit, tally-miss, tally-end}
+use Rattle.search.specs.Search.{lowest}
 use Rattle.search.specs.Laws.Turns as turns
 use Rattle.search.specs.Laws.Meaning.{LowestIs, lowest-is, lowest-same}
-use Rattle.search.specs.Laws.Theory.{count-sum}
 use Rattle.search.specs.declared.Found.{Found}
 use Rattle.search.specs.declared.Found.the-variants.{At, Nothing}
 use Rattle.table.specs.Entries.{entryOf, tableOf}
@@ -24,16 +25,16 @@ use Rattle.table.specs.Laws.View.{table-inside}
 
 -- ---- the count loop: e is the entry that was read, b the test's answer
 
-module _ (l : List ℕ) (low high i after total n : ℕ) (inv : n + count (amongAt low high l) i (after - i) ≡ total) where
+module _ (l : List ℕ) (low high i after total n : ℕ) (inv : n + tally (amongAt low high l) (after - i) i ≡ total) where
   module _ (e : ℕ) (b : Bool) (h : i < after) (r : e ≡ entryOf l i) (t : b ≡ among low high e) (m : ℕ) where
-    pub count-hit : b ≡ true → m ≡ n + 1 → m + count (amongAt low high l) (i + 1) (after - (i + 1)) ≡ total
-    count-hit y s = turns.count-hit (amongAt low high l) i after n total inv m h (ap (among low high) (sym r) ∙ sym t ∙ y) s
+    pub count-hit : b ≡ true → m ≡ n + 1 → m + tally (amongAt low high l) (after - (i + 1)) (i + 1) ≡ total
+    count-hit y s = tally-hit (amongAt low high l) after i n m total h (ap (among low high) (sym r) ∙ sym t ∙ y) s inv
 
-    pub count-miss : b ≡ false → m ≡ n → m + count (amongAt low high l) (i + 1) (after - (i + 1)) ≡ total
-    count-miss y s = turns.count-miss (amongAt low high l) i after n total inv m h (ap (among low high) (sym r) ∙ sym t ∙ y) s
+    pub count-miss : b ≡ false → m ≡ n → m + tally (amongAt low high l) (after - (i + 1)) (i + 1) ≡ total
+    count-miss y s = tally-miss (amongAt low high l) after i n m total h (ap (among low high) (sym r) ∙ sym t ∙ y) s inv
 
   pub count-done : after ≤ i → n ≡ total
-  count-done h = turns.count-done (amongAt low high l) i after n total inv h
+  count-done h = tally-end (amongAt low high l) after i n total h inv
 
 -- the leaf that tests a value
 pub among-high : (low high v : ℕ) → low ≤ v → leb v high ≡ among low high v
@@ -54,24 +55,27 @@ among-means low high v = (to, λ h. rw (le-leb low v (h .0), le-leb v high (h .1
 
 -- ---- what the counts are, in the words of the theory
 
--- a count of entries is the sum over the table's values, where the tests agree
-counted : (last : ℕ) (l : List ℕ) (p q : ℕ → Bool) → ((v : ℕ) → p v ≡ q v) → count (λ n. p (entryOf l n)) 2 (last + 1 - 2) ≡ sum (last - 1) (λ i. bit (q (tableOf last l (i + 2))))
-counted last l p q h =
+-- a count of entries is the count of the table's values, where the tests agree
+counted : (last : ℕ) (p q : ℕ → Bool) → ((c : ℕ) → 2 ≤ c → c ≤ last → p c ≡ q c) → tally p (last + 1 - 2) 2 ≡ tally q (last - 1) 2
+counted last p q h =
     let e : last + 1 - 2 ≡ last - 1 = omega arith in
-    count-sum (λ n. p (entryOf l n)) 2 (last + 1 - 2)
-    ∙ ap (λ (n : ℕ). sum n (λ i. bit (p (entryOf l (i + 2))))) e
-    ∙ sum-cong (last - 1) _ _ (λ i k. ap bit (h (entryOf l (i + 2)) ∙ ap q (sym (table-inside last l (i + 2) (omega arith) (omega arith)))))
+    ap (λ (n : ℕ). tally p n 2) e
+    ∙ tally-sum p (last - 1) 2
+    ∙ sum-cong (last - 1) (λ i. bit (p (i + 2))) (λ i. bit (q (i + 2))) (λ i k. ap bit (h (i + 2) (omega arith) (omega arith)))
+    ∙ sym (tally-sum q (last - 1) 2)
 
 zero-among : (v : ℕ) → among 0 0 v ≡ eqb v 0
 zero-among v = elim (ℕ-discrete v 0) [ yes q ↦ rw q | no q ↦ rw (ne-eqb v 0 q, lt-leb v 0 (omega arith), le-leb 0 v (omega arith)) ]
 
 module _ (last : ℕ) (l : List ℕ) (r : ℕ) where
   -- 000 is the one value from 0 to 0
-  pub count-free : r ≡ count (amongAt 0 0 l) 2 (last + 1 - 2) → r ≡ freeCount last (tableOf last l)
-  count-free e = e ∙ counted last l (among 0 0) (λ v. eqb v 0) zero-among
+  pub count-free : r ≡ tally (amongAt 0 0 l) (last + 1 - 2) 2 → r ≡ freeCount last (tableOf last l)
+  unfolding freeCount theory.freeAt
+  count-free e = e ∙ counted last (amongAt 0 0 l) (theory.freeAt (tableOf last l)) (λ c h k. zero-among (entryOf l c) ∙ ap (λ (v : ℕ). eqb v 0) (sym (table-inside last l c h k)))
 
-  pub count-aside : r ≡ count (amongAt 0xFF0 0xFF7 l) 2 (last + 1 - 2) → r ≡ asideCount last (tableOf last l)
-  count-aside e = e ∙ counted last l (among 0xFF0 0xFF7) (among 0xFF0 0xFF7) (λ v. refl)
+  pub count-aside : r ≡ tally (amongAt 0xFF0 0xFF7 l) (last + 1 - 2) 2 → r ≡ asideCount last (tableOf last l)
+  unfolding asideCount theory.asideAt
+  count-aside e = e ∙ counted last (amongAt 0xFF0 0xFF7 l) (theory.asideAt (tableOf last l)) (λ c h k. ap (among 0xFF0 0xFF7) (sym (table-inside last l c h k)))
 
 -- ---- the loop to the lowest free
 
