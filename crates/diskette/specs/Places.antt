@@ -29,9 +29,12 @@ copyOne = 512
 abbrev pub copyTwo : Kind → ℕ
 copyTwo k = 512 * (1 + k .fat)
 
--- the byte at which the 32 bytes of a root slot start
+-- the byte at which the root starts, and at which the 32 bytes of its slot s do
+abbrev pub rootAt : Kind → ℕ
+rootAt k = 512 * (1 + 2 * k .fat)
+
 abbrev pub slotAt : Kind → ℕ → ℕ
-slotAt k s = 512 * (1 + 2 * k .fat) + 32 * s
+slotAt k s = rootAt k + 32 * s
 
 -- Cluster n starts at sector (n - 2) times sectors per cluster plus first data sector.
 abbrev pub sectorOf : Kind → ℕ → ℕ

@@ -3,7 +3,7 @@ ghost use mathlib.Core.Path.{_≡_};
 ghost use Prim.Native.Nat.{ℕ, _≤_, _<_};
 ghost use lib.ListN.{length};
 ghost use Rattle.diskette.specs.Kinds.{named, Usable};
-ghost use Rattle.diskette.specs.Places.{firstData, clusterBytes, clusters, lastCluster, rootEntries, copyTwo, slotAt, sectorOf, clusterAt};
+ghost use Rattle.diskette.specs.Places.{firstData, clusterBytes, clusters, lastCluster, rootEntries, copyTwo, rootAt, slotAt, sectorOf, clusterAt};
 ghost use Rattle.chains.specs.Sizes.{clustersFor};
 ghost use Rattle.diskette.specs.Images.{kindOfImage, kindOfArea};
 
@@ -115,13 +115,21 @@ impl Kind {
         512 * (1 + self.fat)
     }
 
+    // The byte at which the root starts.
+    pub fn root_at(self) -> usize
+        requires { ⌜ Usable self ⌝ }
+        ensures { λ r. ⌜ r ≡ rootAt self ⌝ }
+    {
+        512 * (1 + 2 * self.fat)
+    }
+
     // The byte at which the 32 bytes of a root slot start.
     pub fn slot_at(self, slot: usize) -> usize
         requires { ⌜ Usable self ⌝ }
         requires { ⌜ slot ≤ rootEntries self ⌝ }
         ensures { λ r. ⌜ r ≡ slotAt self slot ⌝ }
     {
-        512 * (1 + 2 * self.fat) + 32 * slot
+        self.root_at() + 32 * slot
     }
 
     // The sector at which cluster n starts.

@@ -1,0 +1,8 @@
+-- When a volume is sound. Read Files, Findings, Sound, Counts and Answer; Judged and the laws are for the proofs.
+pub mod Files
+pub mod Findings
+pub mod Sound
+pub mod Counts
+pub mod Answer
+pub mod Judged
+pub mod Visits

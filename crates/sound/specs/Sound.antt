@@ -1,0 +1,23 @@
+-- Sound means that none of the seven holds, stated without any walk: some list of clusters for each file meets them.
+use Prim.Native.Nat.{ℕ}
+use mathlib.Core.List.{List}
+use mathlib.Core.Path.{_≡_}
+use Rattle.chains.specs.Lists.{_∈_}
+use Rattle.chains.specs.Values.{Link, Used}
+use Rattle.chains.specs.Verdict.{None}
+use Rattle.diskette.specs.Places.{lastCluster}
+use Rattle.diskette.specs.declared.Kind.{Kind}
+use Rattle.sound.specs.Files.{valueOf, IsFile, ChainOf}
+use Rattle.sound.specs.Findings.{TablesDiffer, BadValue, BadSlot}
+
+-- lists s is the list of clusters of the file in slot s
+pub record SoundBy (k : Kind) (l : List ℕ) (lists : ℕ → List ℕ) : Type 0 where
+  pub tables : None (TablesDiffer k l)
+  pub values : None (BadValue k l)
+  pub slots : None (BadSlot k l)
+  pub chains : (s : ℕ) → IsFile k l s → ChainOf k l s (lists s)
+  pub apart : (s t c : ℕ) → IsFile k l s → IsFile k l t → c ∈ lists s → c ∈ lists t → s ≡ t
+  pub covered : (c : ℕ) → Link (lastCluster k) c → Used (lastCluster k) (valueOf k l c) → (s : ℕ) × IsFile k l s × (c ∈ lists s)
+
+abbrev pub Sound : Kind → List ℕ → Type 0
+Sound k l = (lists : ℕ → List ℕ) × SoundBy k l lists

@@ -1,0 +1,121 @@
+// Finding 4: the slots of a directory. A directory stands at byte root and has count slots.
+use directory::Standing;
+use search::Found;
+ghost use mathlib.Core.Bool.{_||_};
+ghost use mathlib.Core.Path.{_≡_};
+ghost use Prim.Native.Nat.{_+_, _*_, _≤_, _<_};
+ghost use lib.ListN.{length};
+ghost use Rattle.chains.specs.Verdict.{first};
+ghost use Rattle.search.specs.Laws.Theory.{optional};
+ghost use Rattle.sound.specs.Judged.{neverUsedSlot, labelSlot, strange, strangeSlot, nameTwiceSlot, badSlotBy, badSlotAt};
+
+fn either(a: bool, b: bool) -> bool
+    ensures { λ r. ⌜ r ≡ (a || b) ⌝ }
+{
+    if a { true } else { b }
+}
+
+// A first byte 2E, or an attribute with bit 10, 40 or 80.
+fn is_strange(first: u8, attr: u8) -> bool
+    ensures { λ r. ⌜ r ≡ strange first attr ⌝ }
+{
+    if first == 0x2E {
+        return true;
+    }
+    if directory::has_bit(attr, 0x10) {
+        return true;
+    }
+    if directory::has_bit(attr, 0x40) {
+        return true;
+    }
+    directory::has_bit(attr, 0x80)
+}
+
+fn is_never_used(img: &[u8], root: usize, s: usize) -> bool
+    requires { ⌜ root + 32 * s + 32 ≤ length (now img) ⌝ }
+    ensures { λ r. ⌜ r ≡ neverUsedSlot (now (img .entry)) root s ⌝ }
+{
+    img[root + 32 * s] == 0x00
+}
+
+fn is_label(img: &[u8], root: usize, s: usize) -> bool
+    requires { ⌜ root + 32 * s + 32 ≤ length (now img) ⌝ }
+    ensures { λ r. ⌜ r ≡ labelSlot (now (img .entry)) root s ⌝ }
+{
+    match directory::standing_at(img, root + 32 * s) {
+        Standing::NeverUsed => false,
+        Standing::Erased => false,
+        Standing::Label => true,
+        Standing::Plain => false,
+    }
+}
+
+// A live entry whose first byte or attribute is strange.
+fn is_strange_slot(img: &[u8], root: usize, s: usize) -> bool
+    requires { ⌜ root + 32 * s + 32 ≤ length (now img) ⌝ }
+    ensures { λ r. ⌜ r ≡ strangeSlot (now (img .entry)) root s ⌝ }
+{
+    let a = root + 32 * s;
+    let odd = is_strange(img[a], directory::attr_at(img, a));
+    match directory::standing_at(img, a) {
+        Standing::NeverUsed => false,
+        Standing::Erased => false,
+        Standing::Label => odd,
+        Standing::Plain => odd,
+    }
+}
+
+// A plain file whose name one in a lower slot has.
+fn is_name_twice(img: &[u8], root: usize, s: usize) -> bool
+    requires { ⌜ root + 32 * s + 32 ≤ length (now img) ⌝ }
+    ensures { λ r. ⌜ r ≡ nameTwiceSlot (now (img .entry)) root s ⌝ }
+{
+    let a = root + 32 * s;
+    if !directory::plain_at(img, a) {
+        return false;
+    }
+    match directory::slot_named(img, root, s, directory::name_at(img, a)) {
+        Found::At(_) => true,
+        Found::Nothing => false,
+    }
+}
+
+// Whether slot s is bad; never and label say what was met in lower slots.
+fn is_bad(img: &[u8], root: usize, s: usize, never: bool, label: bool) -> bool
+    requires { ⌜ root + 32 * s + 32 ≤ length (now img) ⌝ }
+    ensures { λ r. ⌜ r ≡ badSlotBy (now (img .entry)) root s never label ⌝ }
+{
+    if never {
+        if !is_never_used(img, root, s) {
+            return true;
+        }
+    }
+    if is_strange_slot(img, root, s) {
+        return true;
+    }
+    if label {
+        if is_label(img, root, s) {
+            return true;
+        }
+    }
+    is_name_twice(img, root, s)
+}
+
+// The lowest bad slot.
+pub fn first_bad(img: &[u8], root: usize, count: usize) -> Found
+    requires { ⌜ root + 32 * count ≤ length (now img) ⌝ }
+    ensures { λ r. ⌜ optional r ≡ first (badSlotAt (now (img .entry)) root) count 0 ⌝ }
+{
+    let mut never = false;
+    let mut label = false;
+    let mut s: usize = 0;
+    while s < count {
+        if is_bad(img, root, s, never, label) {
+            return Found::At(s);
+        }
+        never = either(never, is_never_used(img, root, s));
+        label = either(label, is_label(img, root, s));
+        s += 1;
+    }
+    Found::Nothing
+}
