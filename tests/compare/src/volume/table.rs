@@ -20,7 +20,7 @@ pub const fn is_end(value: u16) -> bool {
 pub fn value(copy: &[u8], n: usize) -> u16 {
     let at = n * 3 / 2;
     let word = u16::from_le_bytes([copy[at], copy[at + 1]]);
-    if n % 2 == 0 {
+    if n.is_multiple_of(2) {
         word & 0x0FFF
     } else {
         word >> 4
@@ -30,7 +30,7 @@ pub fn value(copy: &[u8], n: usize) -> u16 {
 /// Stores entry `n` of a copy and keeps the neighbour's four bits.
 pub fn set_value(copy: &mut [u8], n: usize, value: u16) {
     let at = n * 3 / 2;
-    if n % 2 == 0 {
+    if n.is_multiple_of(2) {
         copy[at] = value as u8;
         copy[at + 1] = copy[at + 1] & 0xF0 | (value >> 8) as u8 & 0x0F;
     } else {
