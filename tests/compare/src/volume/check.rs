@@ -1,11 +1,11 @@
 //! When a volume is sound: the seven findings in their order, and the counts.
 
 use super::answer::{packed, put_words, Refusal};
-use super::directory::{
-    attribute, entries, is_label, is_live, is_plain_file, name, size, start, Entry, NEVER_USED,
-};
-use super::kind::{Kind, MOST_CLUSTERS, MOST_SLOTS};
+use super::directory::{attribute, entries, is_label, is_live, name, Entry, NEVER_USED};
+use super::kind::Kind;
+use super::name_set::NameSet;
 use super::table::{is_aside, is_end, values, Values};
+use super::walks::Walks;
 
 /// The first finding that holds, and its place.
 #[derive(Clone, Copy, Debug, PartialEq, Eq)]
@@ -30,7 +30,7 @@ pub struct Sound {
     pub counts: Counts,
 }
 
-fn finding(number: u32, place: usize) -> Finding {
+pub fn finding(number: u32, place: usize) -> Finding {
     Finding {
         number,
         place: place as u32,
@@ -148,131 +148,4 @@ fn look_at_slots(entries: &[Entry]) -> Result<(), Finding> {
         }
     }
     Ok(())
-}
-
-/// The names of plain files seen so far, found by a hash.
-struct NameSet {
-    names: [u128; MOST_SLOTS],
-    count: usize,
-    /// For each hash the number of a name, counted from 1; 0 is none.
-    places: [u8; 256],
-}
-
-impl NameSet {
-    fn new() -> NameSet {
-        NameSet {
-            names: [0; MOST_SLOTS],
-            count: 0,
-            places: [0; 256],
-        }
-    }
-
-    /// Takes a name up, or tells by `false` that it is here already.
-    fn insert(&mut self, bytes: &[u8]) -> bool {
-        let mut padded = [0; 16];
-        padded[..bytes.len()].copy_from_slice(bytes);
-        let name = u128::from_le_bytes(padded);
-        let folded = (name as u64) ^ ((name >> 64) as u64).rotate_left(29);
-        let mut hash = (folded.wrapping_mul(0x9E37_79B9_7F4A_7C15) >> 56) as u8;
-        loop {
-            match self.places[usize::from(hash)] {
-                0 => break,
-                taken if self.names[usize::from(taken) - 1] == name => return false,
-                _ => hash = hash.wrapping_add(1),
-            }
-        }
-        self.names[self.count] = name;
-        self.count += 1;
-        self.places[usize::from(hash)] = self.count as u8;
-        true
-    }
-}
-
-/// The walks over all files' chains. Each cluster is visited twice at most.
-struct Walks<'a> {
-    kind: &'a Kind,
-    values: &'a Values,
-    /// How many clusters a chain has from this one on; 0: in no chain.
-    left: [u16; MOST_CLUSTERS + 2],
-    /// Clusters in two files' chains.
-    shared: [bool; MOST_CLUSTERS + 2],
-    lowest_shared: Option<u16>,
-}
-
-impl<'a> Walks<'a> {
-    fn over(kind: &'a Kind, values: &'a Values) -> Walks<'a> {
-        Walks {
-            kind,
-            values,
-            left: [0; MOST_CLUSTERS + 2],
-            shared: [false; MOST_CLUSTERS + 2],
-            lowest_shared: None,
-        }
-    }
-
-    /// Findings 5, 6 and 7; how many files there are and what they hold.
-    fn walk_files(mut self, entries: &[Entry]) -> Result<(u32, u32), Finding> {
-        let (mut files, mut held) = (0, 0);
-        for (slot, entry) in entries.iter().enumerate() {
-            if !is_plain_file(entry) {
-                continue;
-            }
-            let needed = self.kind.clusters_for(size(entry));
-            if !self.walk(start(entry), needed) {
-                return Err(finding(5, slot));
-            }
-            files += 1;
-            held += needed;
-        }
-        if let Some(cluster) = self.lowest_shared {
-            return Err(finding(6, usize::from(cluster)));
-        }
-        match self.lowest_lost() {
-            Some(cluster) => Err(finding(7, cluster)),
-            None => Ok((files, held)),
-        }
-    }
-
-    /// Whether exactly the needed clusters follow each other from `start`.
-    fn walk(&mut self, start: u16, needed: u32) -> bool {
-        if needed == 0 {
-            return start == 0;
-        }
-        if needed as usize > self.kind.clusters() {
-            return false;
-        }
-        let mut cluster = start;
-        for left in (1..=needed as u16).rev() {
-            if !self.kind.has_cluster(cluster) {
-                return false;
-            }
-            let here = usize::from(cluster);
-            if self.left[here] != 0 {
-                // From here on it is a chain walked before, or this one again.
-                self.share_from(cluster);
-                return self.left[here] == left;
-            }
-            self.left[here] = left;
-            cluster = self.values[here];
-        }
-        is_end(cluster)
-    }
-
-    /// Marks the rest of a chain as shared, up to where it is marked already.
-    fn share_from(&mut self, start: u16) {
-        let mut cluster = start;
-        while self.kind.has_cluster(cluster) && !self.shared[usize::from(cluster)] {
-            self.shared[usize::from(cluster)] = true;
-            self.lowest_shared = self.lowest_shared.into_iter().chain([cluster]).min();
-            cluster = self.values[usize::from(cluster)];
-        }
-    }
-
-    /// Finding 7: a link or an end in no chain.
-    fn lowest_lost(&self) -> Option<usize> {
-        (2..=self.kind.last_cluster()).find(|&cluster| {
-            let value = self.values[cluster];
-            self.left[cluster] == 0 && value != 0 && !is_aside(value)
-        })
-    }
 }

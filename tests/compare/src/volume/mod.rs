@@ -17,11 +17,13 @@ mod entry;
 mod format;
 mod free_space;
 mod mode;
+mod name_set;
 mod open;
 mod read;
 mod rename;
 mod seek;
 mod view;
+mod walks;
 mod write;
 
 pub use check::{check, check_system};

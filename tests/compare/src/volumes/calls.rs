@@ -3,6 +3,7 @@
 use super::random::Random;
 use super::texts::{callers_form, good_name, stamp, varied};
 use crate::volume::kind::{Kind, KINDS};
+use crate::volume::names::is_name_byte;
 
 /// What a call works on: the volume, the open table, and a buffer that serves
 /// as `out` too.
@@ -119,57 +120,86 @@ performer!(
 
 /// A call that has a fair chance to end well on a scene of this kind.
 pub fn random_call(kind: &Kind, scene: &Scene, random: &mut Random) -> Call {
-    let name = some_name(kind, scene, random);
-    let handle = some_handle(scene, random);
-    match random.below(40) {
-        0 => Call::Check,
-        1 => Call::CheckSystem,
-        2 => Call::FreeSpace,
-        3 => Call::Entry {
-            slot: rarely_any(random.below(120) as u32, random),
-        },
-        4..=7 => Call::Open {
-            name,
-            access: rarely_any(random.below(3) as u32, random),
-        },
-        8..=12 => Call::Create {
-            name,
-            attribute: some_attribute(random),
-            stamp: stamp(random),
-        },
-        13..=17 => Call::Read { handle },
-        18..=24 => Call::Write {
-            handle,
-            data: some_data(kind, random),
-        },
-        25..=28 => some_seek(handle, random),
-        29..=31 => Call::Close {
-            handle,
-            stamp: stamp(random),
-        },
-        32 | 33 => Call::Delete { name },
-        34 | 35 => Call::Rename {
-            old: name,
-            new: some_name(kind, scene, random),
-        },
-        36 | 37 => {
-            let function = rarely_any(random.below(2) as u32, random);
-            Call::Mode {
-                name,
-                function,
-                attribute: some_attribute(random),
-            }
-        }
-        38 => Call::ViewNumber {
-            name,
-            offset: random.below(3000) as u32,
-        },
-        _ if random.one_in(20) => some_format(kind, random),
+    let places = likely_places(scene);
+    let handle = rarely_any(random.choose(&places).unwrap_or(0), random);
+    // Where nothing is open, most calls are to open or create.
+    if places.is_empty() && !random.one_in(4) {
+        return beginning_call(kind, scene, random);
+    }
+    match random.below(8) {
+        0 => volume_call(kind, random),
+        1 => beginning_call(kind, scene, random),
+        2 | 3 => name_call(kind, scene, random),
+        _ => handle_call(kind, handle, random),
+    }
+}
+
+/// A call on the volume as a whole.
+fn volume_call(kind: &Kind, random: &mut Random) -> Call {
+    let slot = rarely_any(random.below(120) as u32, random);
+    match random.below(16) {
+        0 => some_format(kind, random),
+        1..=3 => Call::CheckSystem,
+        4..=7 => Call::FreeSpace,
+        8..=11 => Call::Entry { slot },
         _ => Call::Check,
     }
 }
 
-/// The number, but one time in sixteen any other.
+/// A call that opens a file.
+fn beginning_call(kind: &Kind, scene: &Scene, random: &mut Random) -> Call {
+    let name = some_name(kind, scene, random);
+    let access = rarely_any(random.below(3) as u32, random);
+    let attribute = some_attribute(random);
+    match random.one_in(2) {
+        true => Call::Open { name, access },
+        false => Call::Create {
+            name,
+            attribute,
+            stamp: stamp(random),
+        },
+    }
+}
+
+/// A call on a file by its name.
+fn name_call(kind: &Kind, scene: &Scene, random: &mut Random) -> Call {
+    let name = some_name(kind, scene, random);
+    let new = match random.one_in(4) {
+        true => some_name(kind, scene, random),
+        false => good_name(random),
+    };
+    let function = rarely_any(random.below(2) as u32, random);
+    let attribute = some_attribute(random);
+    let offset = random.below(3000) as u32;
+    match random.below(4) {
+        0 => Call::Delete { name },
+        1 => Call::Rename { old: name, new },
+        2 => Call::Mode {
+            name,
+            function,
+            attribute,
+        },
+        _ => Call::ViewNumber { name, offset },
+    }
+}
+
+/// A call on an open file.
+fn handle_call(kind: &Kind, handle: u32, random: &mut Random) -> Call {
+    match random.below(20) {
+        0..=4 => Call::Read { handle },
+        5..=11 => Call::Write {
+            handle,
+            data: some_data(kind, random),
+        },
+        12..=15 => some_seek(handle, random),
+        _ => Call::Close {
+            handle,
+            stamp: stamp(random),
+        },
+    }
+}
+
+/// The number, but one time in sixteen another.
 fn rarely_any(number: u32, random: &mut Random) -> u32 {
     match random.below(48) {
         0 => random.word() as u32,
@@ -179,26 +209,27 @@ fn rarely_any(number: u32, random: &mut Random) -> u32 {
     }
 }
 
-/// Mostly the name at some slot, as a caller may write it.
+/// Mostly the name of some live entry, as a caller may write it.
 fn some_name(kind: &Kind, scene: &Scene, random: &mut Random) -> Vec<u8> {
-    // Low slots come up more often, as they are more often used.
-    let slots = random.between(1, kind.root_entries());
-    let slot = random.below(slots);
-    let at = kind.root_at() + 32 * slot;
-    let name = match scene.image.get(at..at + 11) {
+    let root = scene
+        .image
+        .get(kind.root_at()..kind.system_bytes())
+        .unwrap_or(&[]);
+    let in_reach = |byte: &u8| *byte == b' ' || is_name_byte(*byte);
+    let names = root.chunks_exact(32).map(|entry| &entry[..11]);
+    let names: Vec<&[u8]> = names.filter(|name| name.iter().all(in_reach)).collect();
+    let name = match random.choose(&names) {
         Some(stored) if !random.one_in(4) => callers_form(stored),
         _ => good_name(random),
     };
     varied(random, &name)
 }
 
-/// Mostly the handle of a used place.
-fn some_handle(scene: &Scene, random: &mut Random) -> u32 {
+/// The places that look as if they could be live.
+fn likely_places(scene: &Scene) -> Vec<u32> {
     let records = scene.table.chunks_exact(16).enumerate();
-    let used = records.filter(|(_, record)| record[0] != 0);
-    let used: Vec<u32> = used.map(|(place, _)| place as u32).collect();
-    let handle = random.choose(&used).unwrap_or(0);
-    rarely_any(handle, random)
+    let likely = records.filter(|(_, record)| record[0] != 0 && record[1] <= 2);
+    likely.map(|(place, _)| place as u32).collect()
 }
 
 fn some_attribute(random: &mut Random) -> u32 {

@@ -86,13 +86,18 @@ impl Plan {
         bytes
     }
 
+    /// The bytes from the first copy to the end of the root.
+    pub fn tables_and_root(&self) -> Vec<u8> {
+        [self.copy(), self.copy(), self.slots.concat()].concat()
+    }
+
     /// The image of the volume.
     pub fn image(&self) -> Vec<u8> {
         let mut image = vec![0; self.kind.image_bytes()];
         if self.noise != 0 {
             Random::new(self.noise).fill(&mut image);
         }
-        let system = [self.copy(), self.copy(), self.slots.concat()].concat();
+        let system = self.tables_and_root();
         image[SECTOR..SECTOR + system.len()].copy_from_slice(&system);
         for file in &self.files {
             let pieces = file.content.chunks(self.kind.cluster_bytes());

@@ -37,7 +37,7 @@ impl Volume<'_> {
     fn entry(&self, n: usize) -> usize {
         let at = 3 * n / 2;
         let word = usize::from(self.first[at]) + 256 * usize::from(self.first[at + 1]);
-        if n % 2 == 0 {
+        if n.is_multiple_of(2) {
             word % 4096
         } else {
             word / 16

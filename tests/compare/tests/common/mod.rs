@@ -2,6 +2,7 @@
 #![allow(dead_code)]
 
 pub mod letter;
+pub mod model;
 
 use compare::volume::answer::{number, value};
 use compare::volume::kind::Kind;
