@@ -156,6 +156,14 @@ fn starts_and_sizes() {
     for size in [0, 1, 512, 1024, 1537, 0xFFFF_FE01, u32::MAX] {
         assert_eq!(after(|desk| put_size(desk, 0, size)), (5, 0));
     }
+    // As many clusters again, were they counted in 16 bits.
+    assert_eq!(after(|desk| put_size(desk, 0, (65536 + 3) * 512)), (5, 0));
+    // No clusters, were the rounding up to wrap.
+    let wrapped = |desk: &mut Desk| {
+        put_size(desk, 0, u32::MAX);
+        put_start(desk, 0, 0);
+    };
+    assert_eq!(after(wrapped), (5, 0));
     for size in [1025, 1536] {
         assert_eq!(after(|desk| put_size(desk, 0, size)), (0, 0));
     }

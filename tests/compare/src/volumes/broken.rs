@@ -130,15 +130,12 @@ fn spoil_chain(plan: &mut Plan, random: &mut Random) -> Option<usize> {
         return None;
     }
     let index = random.below(plan.files.len());
-    if plan.files[index].clusters.is_empty() {
-        let start = random.between(1, 0xFFFF) as u16;
-        set_start(plan, index, start);
-    } else {
-        match random.below(3) {
-            0 => spoil_start(plan, index, random),
-            1 => spoil_size(plan, index, random),
-            _ => spoil_link(plan, index, random),
-        }
+    let empty = plan.files[index].clusters.is_empty();
+    match random.below(3) {
+        0 => spoil_size(plan, index, random),
+        _ if empty => set_start(plan, index, random.between(1, 0xFFFF) as u16),
+        1 => spoil_start(plan, index, random),
+        _ => spoil_link(plan, index, random),
     }
     Some(plan.files[index].slot)
 }
@@ -169,18 +166,14 @@ fn spoil_start(plan: &mut Plan, index: usize, random: &mut Random) {
     set_start(plan, index, *random.pick(&starts));
 }
 
-/// A size of one cluster more or less, or far too large.
+/// A size of one cluster more or less, or one that is right only if its
+/// clusters are counted in too few bits.
 fn spoil_size(plan: &mut Plan, index: usize, random: &mut Random) {
     let file = &plan.files[index];
-    let bytes = plan.kind.cluster_bytes();
-    let held = (file.clusters.len() * bytes) as u32;
-    let sizes = [
-        held + 1,
-        held - bytes as u32,
-        held + bytes as u32,
-        0x8000_0000,
-        u32::MAX,
-    ];
+    let bytes = plan.kind.cluster_bytes() as u32;
+    let held = file.clusters.len() as u32 * bytes;
+    let mut sizes = vec![held + 1, held + bytes, held + 0x1_0000 * bytes, u32::MAX];
+    sizes.extend(held.checked_sub(bytes));
     let size = random.pick(&sizes);
     plan.slots[file.slot][28..32].copy_from_slice(&size.to_le_bytes());
 }
