@@ -63,6 +63,48 @@ fn sound_volumes_of_each_kind_are_sound_with_their_counts() {
     }
 }
 
+/// The features of a plan that a sound volume may or may not have.
+fn features(plan: &Plan) -> [bool; 13] {
+    let is_live = |slot: &&[u8; 32]| slot[0] != 0 && slot[0] != 0xE5;
+    let any_live = |test: fn(&[u8; 32]) -> bool| plan.slots.iter().filter(is_live).any(test);
+    let any_value = |low, high| plan.values.iter().any(|value| (low..=high).contains(value));
+    let jumps = |pair: &[u16]| pair[1] != pair[0] + 1;
+    let last = plan.kind.last_cluster() + 1;
+    [
+        plan.files
+            .iter()
+            .any(|file| file.clusters.windows(2).any(jumps)),
+        any_live(|slot| slot[11] & 0x08 != 0),
+        plan.slots.iter().any(|slot| slot[0] == 0xE5),
+        any_live(|slot| slot[11] & 0x09 == 0x01),
+        any_live(|slot| slot[11] & 0x0E == 0x06),
+        any_value(0xFF8, 0xFFE),
+        any_value(0xFF0, 0xFF7),
+        plan.table_rest[last * 3 / 2 + 1..]
+            .iter()
+            .any(|&byte| byte != 0),
+        any_live(|slot| slot[..11].iter().any(|byte| !byte.is_ascii_graphic())),
+        any_live(|slot| slot[11] & 0x08 == 0 && slot[24] & 0x1F == 0),
+        plan.slots.iter().all(|slot| slot[0] != 0),
+        plan.files.is_empty(),
+        plan.free_clusters().is_empty(),
+    ]
+}
+
+#[test]
+fn sound_volumes_show_all_features() {
+    for kind in &KINDS {
+        let mut times = [0; 13];
+        for seed in 0..ROUNDS {
+            let features = features(&sound_plan_of(kind, &mut Random::new(seed)));
+            for (times, shown) in times.iter_mut().zip(features) {
+                *times += u32::from(shown);
+            }
+        }
+        assert!(times.iter().all(|&times| times >= 10), "{times:?}");
+    }
+}
+
 #[test]
 fn volumes_of_no_kind_are_finding_1() {
     for seed in 0..ROUNDS {
@@ -157,6 +199,20 @@ fn flipped_bytes_show_what_the_letter_says() {
                 _ => flip_table_byte(plan.kind, &mut image, &mut random),
             }
             assert_as_by_the_letter(&image, seed);
+        }
+    }
+}
+
+#[test]
+fn each_byte_of_a_system_area_flipped() {
+    for (seed, kind) in (0..).zip(&KINDS) {
+        let mut random = Random::new(seed);
+        let mut image = sound_plan_of(kind, &mut random).image();
+        for at in 0..kind.system_bytes() {
+            let bits = random.between(1, 255) as u8;
+            image[at] ^= bits;
+            assert_as_by_the_letter(&image, seed);
+            image[at] ^= bits;
         }
     }
 }
