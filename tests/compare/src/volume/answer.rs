@@ -1,0 +1,67 @@
+//! Answers: the refusal number above, the value below.
+
+/// The reasons to refuse, by their numbers.
+#[derive(Clone, Copy, Debug, PartialEq, Eq)]
+#[repr(u32)]
+pub enum Refusal {
+    /// Seek method above 2, file mode function above 1, or a seek's result
+    /// outside 32 bits.
+    BadFunction = 1,
+    NoSuchFile = 2,
+    NoPlace = 4,
+    Denied = 5,
+    NotLive = 6,
+    BadAccess = 12,
+    NotOfAKind = 40,
+    NotSound = 41,
+    BadName = 42,
+    BadStamp = 43,
+}
+
+/// Packs a number and a value.
+pub const fn packed(number: u32, value: u32) -> u64 {
+    (number as u64) << 32 | value as u64
+}
+
+/// The upper half: refusal number or finding.
+pub const fn number(answer: u64) -> u32 {
+    (answer >> 32) as u32
+}
+
+/// The lower half: value or place.
+pub const fn value(answer: u64) -> u32 {
+    answer as u32
+}
+
+/// A call's answer. A refusal's value is 0.
+pub fn answer(outcome: Result<u32, Refusal>) -> u64 {
+    match outcome {
+        Ok(value) => packed(0, value),
+        Err(refusal) => packed(refusal as u32, 0),
+    }
+}
+
+/// Refuses unless `allowed`.
+pub fn unless(allowed: bool, refusal: Refusal) -> Result<(), Refusal> {
+    if allowed {
+        Ok(())
+    } else {
+        Err(refusal)
+    }
+}
+
+/// Puts `bytes` at the front of `out`, or nothing where they don't fit.
+pub fn put(out: &mut [u8], bytes: &[u8]) {
+    if let Some(front) = out.get_mut(..bytes.len()) {
+        front.copy_from_slice(bytes);
+    }
+}
+
+/// Puts four 32-bit words, low byte first.
+pub fn put_words(out: &mut [u8], words: [u32; 4]) {
+    let mut bytes = [0; 16];
+    for (place, word) in bytes.chunks_exact_mut(4).zip(words) {
+        place.copy_from_slice(&word.to_le_bytes());
+    }
+    put(out, &bytes);
+}

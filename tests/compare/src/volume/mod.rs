@@ -1,0 +1,42 @@
+//! The volume's calls, with the arguments and answers of the C interface.
+
+pub mod answer;
+pub mod chain;
+pub mod check;
+pub mod directory;
+pub mod kind;
+pub mod names;
+pub mod open_table;
+pub mod stamps;
+pub mod table;
+
+mod close;
+mod create;
+mod delete;
+mod entry;
+mod format;
+mod free_space;
+mod mode;
+mod name_set;
+mod open;
+mod read;
+mod rename;
+mod seek;
+mod view;
+mod walks;
+mod write;
+
+pub use check::{check, check_system};
+pub use close::close;
+pub use create::create;
+pub use delete::delete;
+pub use entry::entry;
+pub use format::format;
+pub use free_space::free_space;
+pub use mode::mode;
+pub use open::open;
+pub use read::read;
+pub use rename::rename;
+pub use seek::seek;
+pub use view::{view, view_number};
+pub use write::write;

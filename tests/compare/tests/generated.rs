@@ -1,0 +1,249 @@
+//! Generated volumes: what check finds is known from how they were made.
+
+mod common;
+
+use common::{halves, letter, words};
+use compare::volume::check::{examined_image, examined_system_area, Counts, Sound};
+use compare::volume::kind::{Kind, KINDS};
+use compare::volume::{check, check_system};
+use compare::volumes::broken::{break_copies, break_kind, break_plan};
+use compare::volumes::damage::{flip_byte, flip_root_byte, flip_table_byte, lengths};
+use compare::volumes::plan::Plan;
+use compare::volumes::random::Random;
+use compare::volumes::sound::{sound_plan, sound_plan_of};
+
+const ROUNDS: u64 = 400;
+
+/// What the plan says that check must count.
+fn planned_counts(plan: &Plan) -> Counts {
+    let aside = plan
+        .values
+        .iter()
+        .filter(|value| (0xFF0..=0xFF7).contains(*value));
+    Counts {
+        files: plan.files.len() as u32,
+        free: plan.free_clusters().len() as u32,
+        held: plan
+            .files
+            .iter()
+            .map(|file| file.clusters.len() as u32)
+            .sum(),
+        aside: aside.count() as u32,
+    }
+}
+
+/// Check's answer on the image and on its system area, which must agree.
+fn found(kind: &Kind, image: &[u8]) -> (u32, u32) {
+    let whole = check(image, &mut []);
+    assert_eq!(check_system(image, &mut []), whole);
+    assert_eq!(check_system(&image[..kind.system_bytes()], &mut []), whole);
+    halves(whole)
+}
+
+#[test]
+fn sound_volumes_of_each_kind_are_sound_with_their_counts() {
+    for kind in &KINDS {
+        for seed in 0..ROUNDS {
+            let plan = sound_plan_of(kind, &mut Random::new(seed));
+            let image = plan.image();
+            let counts = planned_counts(&plan);
+            let mut out = [0xAA; 18];
+            assert_eq!(found(kind, &image), (0, 0), "seed {seed}");
+            assert_eq!(check(&image, &mut out), 0);
+            let Counts {
+                files,
+                free,
+                held,
+                aside,
+            } = counts;
+            assert_eq!(words(&out[..16]), [files, free, held, aside]);
+            assert_eq!(out[16..], [0xAA; 2]);
+            assert_eq!(letter::check_area(kind, &image), Ok(counts));
+        }
+    }
+}
+
+/// The features of a plan that a sound volume may or may not have.
+fn features(plan: &Plan) -> [bool; 13] {
+    let is_live = |slot: &&[u8; 32]| slot[0] != 0 && slot[0] != 0xE5;
+    let any_live = |test: fn(&[u8; 32]) -> bool| plan.slots.iter().filter(is_live).any(test);
+    let any_value = |low, high| plan.values.iter().any(|value| (low..=high).contains(value));
+    let jumps = |pair: &[u16]| pair[1] != pair[0] + 1;
+    let last = plan.kind.last_cluster() + 1;
+    [
+        plan.files
+            .iter()
+            .any(|file| file.clusters.windows(2).any(jumps)),
+        any_live(|slot| slot[11] & 0x08 != 0),
+        plan.slots.iter().any(|slot| slot[0] == 0xE5),
+        any_live(|slot| slot[11] & 0x09 == 0x01),
+        any_live(|slot| slot[11] & 0x0E == 0x06),
+        any_value(0xFF8, 0xFFE),
+        any_value(0xFF0, 0xFF7),
+        plan.table_rest[last * 3 / 2 + 1..]
+            .iter()
+            .any(|&byte| byte != 0),
+        any_live(|slot| slot[..11].iter().any(|byte| !byte.is_ascii_graphic())),
+        any_live(|slot| slot[11] & 0x08 == 0 && slot[24] & 0x1F == 0),
+        plan.slots.iter().all(|slot| slot[0] != 0),
+        plan.files.is_empty(),
+        plan.free_clusters().is_empty(),
+    ]
+}
+
+#[test]
+fn sound_volumes_show_all_features() {
+    for kind in &KINDS {
+        let mut times = [0; 13];
+        for seed in 0..ROUNDS {
+            let features = features(&sound_plan_of(kind, &mut Random::new(seed)));
+            for (times, shown) in times.iter_mut().zip(features) {
+                *times += u32::from(shown);
+            }
+        }
+        assert!(times.iter().all(|&times| times >= 10), "{times:?}");
+    }
+}
+
+#[test]
+fn volumes_of_no_kind_are_finding_1() {
+    for seed in 0..ROUNDS {
+        let mut random = Random::new(seed);
+        let mut image = sound_plan(&mut random).image();
+        break_kind(&mut image, &mut random);
+        assert_eq!(halves(check(&image, &mut [])), (1, 0), "seed {seed}");
+    }
+}
+
+#[test]
+fn copies_that_differ_are_finding_2() {
+    for seed in 0..ROUNDS {
+        let mut random = Random::new(seed);
+        let plan = sound_plan(&mut random);
+        let mut image = plan.image();
+        let place = break_copies(plan.kind, &mut image, &mut random);
+        assert_eq!(found(plan.kind, &image), (2, place as u32), "seed {seed}");
+    }
+}
+
+#[test]
+fn broken_volumes_show_their_finding_and_place() {
+    for finding in 3..=7 {
+        let mut tried = 0;
+        for seed in 0..3 * ROUNDS {
+            let mut random = Random::new(seed);
+            let mut plan = sound_plan(&mut random);
+            if let Some(place) = break_plan(&mut plan, finding, &mut random) {
+                let found = found(plan.kind, &plan.image());
+                assert_eq!(found, (finding, place as u32), "seed {seed}");
+                tried += 1;
+            }
+        }
+        assert!(tried >= ROUNDS, "finding {finding} was tried {tried} times");
+    }
+}
+
+/// A later break first, then an earlier one: the earlier is found.
+#[test]
+fn the_first_finding_wins() {
+    let pairs = [
+        (3, 4),
+        (3, 5),
+        (3, 6),
+        (3, 7),
+        (4, 5),
+        (4, 6),
+        (4, 7),
+        (5, 7),
+        (6, 7),
+    ];
+    for (earlier, later) in pairs {
+        for seed in 0..ROUNDS {
+            let mut random = Random::new(seed);
+            let mut plan = sound_plan(&mut random);
+            break_plan(&mut plan, later, &mut random);
+            if let Some(place) = break_plan(&mut plan, earlier, &mut random) {
+                let mut image = plan.image();
+                let expected = (earlier, place as u32);
+                assert_eq!(found(plan.kind, &image), expected, "seed {seed}");
+                let place = break_copies(plan.kind, &mut image, &mut random);
+                assert_eq!(found(plan.kind, &image), (2, place as u32), "seed {seed}");
+            }
+        }
+    }
+}
+
+/// Check as each finding's sentence has it, on an image of a kind.
+fn assert_as_by_the_letter(image: &[u8], seed: u64) {
+    let by_letter = match Kind::of_image(image) {
+        Some(kind) => letter::check_area(kind, image),
+        None => Err((1, 0)),
+    };
+    let ours = examined_image(image);
+    let ours = ours
+        .map(|Sound { counts, .. }| counts)
+        .map_err(|f| (f.number, f.place));
+    assert_eq!(ours, by_letter, "seed {seed}");
+}
+
+#[test]
+fn flipped_bytes_show_what_the_letter_says() {
+    for seed in 0..10 * ROUNDS {
+        let mut random = Random::new(seed);
+        let plan = sound_plan(&mut random);
+        let mut image = plan.image();
+        for _ in 0..random.between(1, 4) {
+            match random.below(4) {
+                0 => flip_byte(plan.kind, &mut image, &mut random),
+                1 => flip_root_byte(plan.kind, &mut image, &mut random),
+                _ => flip_table_byte(plan.kind, &mut image, &mut random),
+            }
+            assert_as_by_the_letter(&image, seed);
+        }
+    }
+}
+
+#[test]
+fn each_byte_of_a_system_area_flipped() {
+    for (seed, kind) in (0..).zip(&KINDS) {
+        let mut random = Random::new(seed);
+        let mut image = sound_plan_of(kind, &mut random).image();
+        for at in 0..kind.system_bytes() {
+            let bits = random.between(1, 255) as u8;
+            image[at] ^= bits;
+            assert_as_by_the_letter(&image, seed);
+            image[at] ^= bits;
+        }
+    }
+}
+
+/// Many breaks at once, whatever comes of them.
+#[test]
+fn broken_heaps_show_what_the_letter_says() {
+    for seed in 0..5 * ROUNDS {
+        let mut random = Random::new(seed);
+        let mut plan = sound_plan(&mut random);
+        for _ in 0..random.between(1, 6) {
+            let finding = random.between(5, 7) as u32;
+            break_plan(&mut plan, finding, &mut random);
+            assert_as_by_the_letter(&plan.image(), seed);
+        }
+    }
+}
+
+#[test]
+fn lengths_decide_the_kind() {
+    for kind in &KINDS {
+        let plan = sound_plan_of(kind, &mut Random::new(7));
+        let mut image = plan.image();
+        image.push(0);
+        for length in lengths(kind) {
+            let area = &image[..length];
+            let whole = if length == kind.image_bytes() { 0 } else { 1 };
+            let system = if length >= kind.system_bytes() { 0 } else { 1 };
+            assert_eq!(halves(check(area, &mut [])), (whole, 0));
+            assert_eq!(halves(check_system(area, &mut [])), (system, 0));
+            assert_eq!(examined_system_area(area).is_ok(), system == 0);
+        }
+    }
+}

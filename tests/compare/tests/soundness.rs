@@ -1,0 +1,243 @@
+//! Points of check that are easily missed.
+
+mod common;
+
+use common::{halves, Desk};
+use compare::volume::{check, check_system};
+
+/// Two files: LONG of three clusters in slot 0, SHORT of one in slot 1.
+fn desk() -> Desk {
+    let mut desk = Desk::new(0xFE);
+    desk.put("LONG", &[1; 1025]);
+    desk.put("SHORT", &[2; 512]);
+    desk
+}
+
+/// Check's answer after a change of the two files' volume.
+fn after(change: impl FnOnce(&mut Desk)) -> (u32, u32) {
+    let mut desk = desk();
+    change(&mut desk);
+    desk.check()
+}
+
+fn put_start(desk: &mut Desk, slot: usize, start: u16) {
+    desk.slot(slot)[26..28].copy_from_slice(&start.to_le_bytes());
+}
+
+fn put_size(desk: &mut Desk, slot: usize, size: u32) {
+    desk.slot(slot)[28..32].copy_from_slice(&size.to_le_bytes());
+}
+
+#[test]
+fn marks_and_copies_together() {
+    let first = 512;
+    let second = 1024;
+    assert_eq!(after(|desk| desk.image[first + 1] = 0), (2, 1));
+    assert_eq!(after(|desk| desk.image[second + 2] = 0), (2, 2));
+    assert_eq!(after(|desk| desk.image[second] = 0xFF), (2, 0));
+    assert_eq!(after(|desk| desk.image[second + 511] = 1), (2, 511));
+    let both = |desk: &mut Desk| {
+        desk.image[first + 2] = 0xF0;
+        desk.image[second + 2] = 0xF0;
+    };
+    assert_eq!(after(both), (2, 2));
+    let mark_and_difference = |desk: &mut Desk| {
+        desk.image[first + 2] = 0;
+        desk.image[second] = 0;
+    };
+    assert_eq!(after(mark_and_difference), (2, 0));
+    let difference_above = |desk: &mut Desk| {
+        both(desk);
+        desk.image[second + 3] ^= 1;
+    };
+    assert_eq!(after(difference_above), (2, 2));
+}
+
+#[test]
+fn table_bytes_past_the_last_entry_may_hold_anything() {
+    // Entry 314 of FE ends in the low half of byte 472.
+    let junk = |desk: &mut Desk| {
+        for copy in [512, 1024] {
+            desk.image[copy + 472] |= 0x10;
+            desk.image[copy + 473..copy + 512].fill(0x01);
+        }
+    };
+    assert_eq!(after(junk), (0, 0));
+    let mut desk = desk();
+    junk(&mut desk);
+    let all = 512 * (313 - 4);
+    assert_eq!(desk.create("ALL", 0), (0, 0));
+    assert_eq!(desk.write(0, &vec![3; all + 1]), (0, all as u32));
+    assert_eq!(desk.image[512 + 472], 0x1F);
+    assert_eq!(desk.image[512 + 473..1024], [0x01; 39]);
+    assert_eq!(desk.check(), (0, 0));
+}
+
+#[test]
+fn values_that_mean_nothing() {
+    for value in [0x001, 0x13B, 0xFEF] {
+        assert_eq!(after(|desk| desk.set_value(200, value)), (3, 200));
+    }
+    assert_eq!(after(|desk| desk.set_value(314, 0x13B)), (3, 314));
+    for value in 0xFF0..=0xFF7 {
+        assert_eq!(after(|desk| desk.set_value(200, value)), (0, 0));
+        // Set aside is no end.
+        assert_eq!(after(|desk| desk.set_value(4, value)), (5, 0));
+    }
+    for value in 0xFF8..=0xFFF {
+        assert_eq!(after(|desk| desk.set_value(4, value)), (0, 0));
+        assert_eq!(after(|desk| desk.set_value(200, value)), (7, 200));
+    }
+    // A cluster that names itself is a link.
+    assert_eq!(after(|desk| desk.set_value(200, 200)), (7, 200));
+    assert_eq!(after(|desk| desk.set_value(4, 4)), (5, 0));
+}
+
+#[test]
+fn slots_after_a_never_used_one() {
+    assert_eq!(after(|desk| desk.slot(3)[0] = 0xE5), (4, 3));
+    assert_eq!(after(|desk| desk.slot(3)[0] = b'A'), (4, 3));
+    assert_eq!(after(|desk| desk.slot(2)[1..].fill(0xFF)), (0, 0));
+    let erased = |desk: &mut Desk| {
+        desk.slot(2).fill(0xFF);
+        desk.slot(2)[0] = 0xE5;
+    };
+    assert_eq!(after(erased), (0, 0));
+}
+
+#[test]
+fn forbidden_starts_and_bits_of_files_and_labels() {
+    let label = |desk: &mut Desk, first: u8, attribute: u8| {
+        desk.slot(2)[0] = first;
+        desk.slot(2)[11] = attribute;
+    };
+    assert_eq!(after(|desk| desk.slot(1)[0] = 0x2E), (4, 1));
+    assert_eq!(after(|desk| label(desk, 0x2E, 0x08)), (4, 2));
+    for bit in [0x10, 0x40, 0x80] {
+        assert_eq!(after(|desk| desk.slot(1)[11] |= bit), (4, 1));
+        assert_eq!(after(|desk| label(desk, b'L', 0x08 | bit)), (4, 2));
+    }
+    for attribute in [0x08, 0x0F, 0x2F] {
+        assert_eq!(after(|desk| label(desk, b'L', attribute)), (0, 0));
+    }
+    assert_eq!(after(|desk| desk.slot(1)[11] = 0x27), (0, 0));
+}
+
+#[test]
+fn second_labels_and_equal_names() {
+    let label = |desk: &mut Desk, slot: usize, name: &[u8; 11]| {
+        desk.slot(slot).fill(0xFF);
+        desk.slot(slot)[..11].copy_from_slice(name);
+        desk.slot(slot)[11] = 0x0F;
+    };
+    // The label may have a file's name; its other bytes mean nothing.
+    assert_eq!(after(|desk| label(desk, 2, b"LONG       ")), (0, 0));
+    let two = |desk: &mut Desk| {
+        label(desk, 2, b"ONE        ");
+        label(desk, 3, b"TWO        ");
+    };
+    assert_eq!(after(two), (4, 3));
+    let same = |desk: &mut Desk| desk.slot(1)[..11].copy_from_slice(b"LONG       ");
+    assert_eq!(after(same), (4, 1));
+    let small = |desk: &mut Desk| desk.slot(1)[..11].copy_from_slice(b"long       ");
+    assert_eq!(after(small), (0, 0));
+    let erased = |desk: &mut Desk| {
+        desk.slot(2)[..11].copy_from_slice(b"\xE5ONG       ");
+        desk.slot(3)[..11].copy_from_slice(b"\xE5ONG       ");
+    };
+    assert_eq!(after(erased), (0, 0));
+}
+
+#[test]
+fn starts_and_sizes() {
+    for start in [0, 1, 3, 5, 6, 315, 0x1002, 0xFFFF] {
+        assert_eq!(after(|desk| put_start(desk, 0, start)), (5, 0));
+    }
+    for size in [0, 1, 512, 1024, 1537, 0xFFFF_FE01, u32::MAX] {
+        assert_eq!(after(|desk| put_size(desk, 0, size)), (5, 0));
+    }
+    // As many clusters again, were they counted in 16 bits.
+    assert_eq!(after(|desk| put_size(desk, 0, (65536 + 3) * 512)), (5, 0));
+    // No clusters, were the rounding up to wrap.
+    let wrapped = |desk: &mut Desk| {
+        put_size(desk, 0, u32::MAX);
+        put_start(desk, 0, 0);
+    };
+    assert_eq!(after(wrapped), (5, 0));
+    for size in [1025, 1536] {
+        assert_eq!(after(|desk| put_size(desk, 0, size)), (0, 0));
+    }
+    let none = |desk: &mut Desk| {
+        put_size(desk, 1, 0);
+        put_start(desk, 1, 0);
+    };
+    assert_eq!(after(none), (7, 5));
+}
+
+#[test]
+fn shared_and_lost_clusters() {
+    assert_eq!(after(|desk| put_start(desk, 1, 4)), (6, 4));
+    // A lost cluster that names a file's cluster is lost, not shared.
+    assert_eq!(after(|desk| desk.set_value(200, 2)), (7, 200));
+    let two = |desk: &mut Desk| {
+        desk.set_value(200, 0xFFF);
+        desk.set_value(100, 200);
+    };
+    assert_eq!(after(two), (7, 100));
+    let first_shares = |desk: &mut Desk| {
+        desk.set_value(3, 5);
+        desk.set_value(4, 0);
+    };
+    assert_eq!(after(first_shares), (6, 5));
+}
+
+/// Three files whose chains run together at different clusters.
+#[test]
+fn the_lowest_of_all_shared_clusters() {
+    let mut desk = Desk::new(0xFE);
+    desk.put("A", &[1; 512 * 4]);
+    desk.put("B", &[1; 512 * 2]);
+    desk.put("C", &[1; 512 * 3]);
+    put_start(&mut desk, 1, 4);
+    assert_eq!(desk.check(), (6, 4));
+    put_start(&mut desk, 2, 3);
+    assert_eq!(desk.check(), (6, 3));
+    put_size(&mut desk, 2, 512 * 4);
+    assert_eq!(desk.check(), (5, 2));
+}
+
+#[test]
+fn system_areas() {
+    let desk = desk();
+    let short = (1, 0);
+    for length in [0, 1, 512, 513, 7 * 512 - 1] {
+        assert_eq!(halves(check_system(&desk.image[..length], &mut [])), short);
+        assert_eq!(halves(check(&desk.image[..length], &mut [])), short);
+    }
+    for length in [7 * 512, 7 * 512 + 1, 320 * 512 - 1, 320 * 512] {
+        assert_eq!(check_system(&desk.image[..length], &mut []), 0);
+    }
+    let mut unknown = desk.image.clone();
+    unknown[512] = 0xF9;
+    assert_eq!(halves(check_system(&unknown, &mut [])), short);
+    // An image of another kind's length is of no kind, its area is sound.
+    let mut long = desk.image.clone();
+    long.resize(360 * 512, 0);
+    assert_eq!(halves(check(&long, &mut [])), short);
+    assert_eq!(check_system(&long, &mut []), 0);
+}
+
+#[test]
+fn out_is_filled_only_where_it_is_long_enough_and_the_volume_sound() {
+    let mut desk = desk();
+    let mut out = [7; 20];
+    assert_eq!(check(&desk.image, &mut out[..15]), 0);
+    assert_eq!(out, [7; 20]);
+    assert_eq!(check(&desk.image, &mut out), 0);
+    assert_eq!(common::words(&out), [2, 309, 4, 0]);
+    assert_eq!(out[16..], [7; 4]);
+    desk.set_value(100, 0xFFF);
+    let mut out = [7; 16];
+    assert_eq!(halves(check(&desk.image, &mut out)), (7, 100));
+    assert_eq!(out, [7; 16]);
+}
