@@ -3,7 +3,7 @@ use search::Found;
 ghost use mathlib.Core.Path.{_≡_};
 ghost use Prim.Native.Nat.{_+_, _*_, _≤_, _<_};
 ghost use lib.ListN.{length};
-ghost use Rattle.directory.specs.Fields.{nameOf, attrOf, timeOf, dateOf, startOf, sizeOf, withName, withFirst, withAttr, withTime, withDate, withStart, withSize, headBytes, tailBytes, withEntry};
+ghost use Rattle.directory.specs.Fields.{nameOf, attrOf, reservedOf, timeOf, dateOf, startOf, sizeOf, withName, withFirst, withAttr, withReserved, withTime, withDate, withStart, withSize, headBytes, tailBytes, withEntry};
 ghost use Rattle.directory.specs.Slots.{hasBit, standingBy, standingOf, isOpen, isPlain};
 ghost use Rattle.directory.specs.Search.{sameName, isNamed, lowestOpenSlot, slotNamed};
 ghost use Rattle.image.specs.Store.{stored};
@@ -53,6 +53,16 @@ pub fn attr_at(img: &[u8], a: usize) -> u8
     ensures { λ r. ⌜ r ≡ attrOf (now (img .entry)) a ⌝ }
 {
     img[a + 11]
+}
+
+pub fn reserved_at(img: &[u8], a: usize) -> [u8; 10]
+    requires { ⌜ a + 32 ≤ length (now img) ⌝ }
+    ensures { λ r. ⌜ r ≡ reservedOf (now (img .entry)) a ⌝ }
+{
+    let from = a + 12;
+    let mut reserved: [u8; 10] = [0; 10];
+    image::copy_in(&mut reserved, 0, &img[from..from + 10]);
+    reserved
 }
 
 pub fn time_at(img: &[u8], a: usize) -> u16
@@ -105,6 +115,13 @@ pub fn put_attr(img: &mut [u8], a: usize, attr: u8)
     img[a + 11] = attr;
 }
 
+pub fn put_reserved(img: &mut [u8], a: usize, reserved: [u8; 10])
+    requires { ⌜ a + 32 ≤ length (now img) ⌝ }
+    ensures { λ _. ⌜ now (img .exit) ≡ withReserved (now (img .entry)) a reserved ⌝ }
+{
+    image::copy_in(img, a + 12, &reserved);
+}
+
 pub fn put_time(img: &mut [u8], a: usize, time: u16)
     requires { ⌜ a + 32 ≤ length (now img) ⌝ }
     ensures { λ _. ⌜ now (img .exit) ≡ withTime (now (img .entry)) a time ⌝ }
@@ -140,7 +157,7 @@ fn put_head(img: &mut [u8], a: usize, name: [u8; 11], attr: u8)
 {
     put_name(img, a, name);
     put_attr(img, a, attr);
-    image::fill(img, a + 12, 10, 0);
+    put_reserved(img, a, [0; 10]);
 }
 
 // Time, date, start and size.

@@ -10,11 +10,8 @@ put-name-requires c κs = search needs
 put-attr-requires : tie.Need-put-attr-requires
 put-attr-requires c κs = search needs
 
-add-fill : tie.Need-add-fill
-add-fill c = search needs
-
-fill-requires : tie.Need-fill-requires
-fill-requires c κs = search needs
+put-reserved-requires : tie.Need-put-reserved-requires
+put-reserved-requires c κs = search needs
 
 same-length : tie.Need-same-length
 same-length c = search needs
@@ -25,4 +22,4 @@ returns c = search (needs, head-stored)
 pub put-head-spec : {M : Type 1} → statement M
 put-head-spec =
     tie.close
-    (tie.spec put-name-requires put-attr-requires add-fill fill-requires same-length returns)
+    (tie.spec put-name-requires put-attr-requires put-reserved-requires same-length returns)

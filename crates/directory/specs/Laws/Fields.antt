@@ -1,16 +1,16 @@
 -- The bytes of a fresh entry: how many they are, that they are bytes, and that stores side by side make them.
 use Prim.Native.Nat.{ℕ, zero, suc, _+_, _-_, _≤_, _<_}
 use native.Mathlib.Omega.{arith}
-use mathlib.Core.Path.{_≡_, _∙_}
+use mathlib.Core.Path.{_≡_, _∙_, sym}
 use mathlib.Core.List.{List, [], _∷_, _++_}
-use lib.ListN.{length, replicate, take, drop, length-append}
+use lib.ListN.{length-replicate, length, replicate, take, drop, length-append}
 use lib.Seq.{ext-getD}
 use Rattle.image.specs.Bytes.{Bytes}
 use Rattle.image.specs.Store.{stored, part}
 use Rattle.image.specs.Numbers.{digits}
 use Rattle.image.specs.Laws.Store.{length-stored, stored-inside, stored-append, length-part}
 use Rattle.image.specs.Laws.Numbers.{length-digits, bytes-digits}
-use Rattle.directory.specs.Fields.{nameOf, headBytes, tailBytes, entryBytes}
+use Rattle.directory.specs.Fields.{nameOf, reservedOf, headBytes, tailBytes, entryBytes}
 
 pub length-head : (name : List ℕ) (attr : ℕ) → length name ≡ 11 → length (headBytes name attr) ≡ 22
 unfolding headBytes
@@ -49,12 +49,17 @@ stored-whole l s e =
     ext-getD 0 (stored l 0 s) s (length-stored l 0 s ∙ e)
     (λ i k. let z : 0 + i ≡ i = omega arith in rw z at (stored-inside l 0 s i (omega (arith, length-stored l 0 s)) (omega arith)))
 
-pub name-copied : (l r : List ℕ) (a : ℕ) → a + 32 ≤ length l
-    → r ≡ stored (replicate 11 0) 0 (take (a + 11 - a) (drop a l)) → r ≡ nameOf l a
-name-copied l r a h p =
-    let e : a + 11 - a ≡ 11 = omega arith in
-    let n : length (part l a 11) ≡ 11 = length-part l a 11 (omega arith) in
-    (rw e at p) ∙ stored-whole (replicate 11 0) (part l a 11) (omega arith)
+-- n bytes copied into an array of n
+copied : (l r : List ℕ) (at n : ℕ) → at + n ≤ length l → r ≡ stored (replicate n 0) 0 (take (at + n - at) (drop at l)) → r ≡ part l at n
+copied l r at n h p =
+    let e : at + n - at ≡ n = omega arith in
+    (rw e at p) ∙ stored-whole (replicate n 0) (part l at n) (length-replicate {A = ℕ} n 0 ∙ sym (length-part l at n h))
+
+pub name-copied : (l r : List ℕ) (a : ℕ) → a + 32 ≤ length l → r ≡ stored (replicate 11 0) 0 (take (a + 11 - a) (drop a l)) → r ≡ nameOf l a
+name-copied l r a h p = copied l r a 11 (omega arith) p
+
+pub reserved-copied : (l r : List ℕ) (a : ℕ) → a + 32 ≤ length l → r ≡ stored (replicate 10 0) 0 (take (a + 12 + 10 - (a + 12)) (drop (a + 12) l)) → r ≡ reservedOf l a
+reserved-copied l r a h p = copied l r (a + 12) 10 (omega arith) p
 
 -- a store that goes on where another ended
 and-then : (l m k : List ℕ) (a b : ℕ) (s t : List ℕ) → m ≡ stored l a s → k ≡ stored m b t → b ≡ a + length s → k ≡ stored l a (s ++ t)
