@@ -8,11 +8,16 @@ use lib.Dec.{eqb}
 use Rattle.chains.specs.Marks.{mark, marks}
 use Rattle.chains.specs.Sums.{sum, tally}
 use Rattle.chains.specs.Values.{endb, linkb, freeCount, asideCount}
-use Rattle.chains.specs.Verdict.{first}
-use Rattle.chains.specs.Check.{badValue}
+use Rattle.chains.specs.Verdict.{first, orElse}
+use Rattle.chains.specs.Check.{badValue, inTwo, lost}
+use Rattle.diskette.specs.Places.{clusterBytes, lastCluster, rootEntries, rootAt}
+use Rattle.diskette.specs.declared.Kind.{Kind}
 use Rattle.table.specs.Entries.{tableOf}
-use Rattle.sound.specs.Counts.{plainSlot, heldBy}
-use Rattle.sound.specs.Judged.{badChainSlot, chainsOf}
+use Rattle.sound.specs.Files.{valueOf}
+use Rattle.sound.specs.Counts.{plainSlot, heldBy, fileCount, heldOf}
+use Rattle.sound.specs.Judged.{badChainSlot, chainsOf, marksOfFiles}
+use Rattle.sound.specs.declared.Verdict.{Verdict}
+use Rattle.sound.specs.declared.Verdict.the-variants.{Sound, Finding}
 use Rattle.sound.specs.declared.Census.{Census}
 use Rattle.sound.specs.declared.Census.the-variants.{BadValue, Values}
 use Rattle.sound.specs.declared.Length.{Length}
@@ -76,3 +81,13 @@ marksIf (BadChain s) after all = Unit
 pub record FilesVisited (last cb : ℕ) (l : List ℕ) (root count : ℕ) (m : List ℕ) (r : Chains) (after : List ℕ) : Type 0 where
   pub is : r ≡ chainsFound last cb l root count
   pub marks-are : marksIf r after (marks m (chainsOf last cb l root count))
+
+-- ---- findings 6 and 7 by the marks m, and 5 to 7 together
+
+unfoldable pub marksJudged : ℕ → (ℕ → ℕ) → List ℕ → Verdict → Verdict
+marksJudged last f m fine = orElse (Finding 6) (first (inTwo m) (last - 1) 2) (orElse (Finding 7) (first (lost last f m) (last - 1) 2) fine)
+
+unfoldable pub chainsJudged : Kind → List ℕ → ℕ → ℕ → Verdict
+chainsJudged k l free aside =
+    orElse (Finding 5) (first (badChainSlot (lastCluster k) (clusterBytes k) l (rootAt k)) (rootEntries k) 0)
+    (marksJudged (lastCluster k) (valueOf k l) (marksOfFiles k l) (Sound (fileCount k l) free (heldOf k l) aside))

@@ -1,7 +1,20 @@
 // Check: whether a volume is sound, and if not, what is wrong with it and where.
-pub mod slots;
 pub mod tables;
+pub mod slots;
 pub mod visits;
+
+use diskette::Kind;
+use diskette::WhichKind;
+use search::Found;
+ghost use mathlib.Core.Path.{_≡_};
+ghost use Prim.Native.Nat.{_+_, _*_, _≤_, _<_};
+ghost use lib.ListN.{length};
+ghost use Rattle.diskette.specs.Kinds.{Usable};
+ghost use Rattle.diskette.specs.Places.{firstData};
+ghost use Rattle.table.specs.Entries.{wordAt, tableOf};
+ghost use Rattle.sound.specs.Answer.{Checked, CheckedArea};
+ghost use Rattle.sound.specs.Judged.{judged, judgedBy};
+ghost use Rattle.sound.specs.Visits.{marksJudged, chainsJudged};
 
 // What check answers: sound with the counts files, free, held, aside; or a finding and its place.
 pub enum Verdict {
@@ -25,4 +38,79 @@ pub enum Length {
 pub enum Chains {
     BadChain(usize),
     Held(usize, usize),
+}
+
+// Findings 6 and 7, by the marks of all chains; fine where there is none.
+fn judge_marks(img: &[u8], marks: &[u8], last: usize, fine: Verdict) -> Verdict
+    requires { ⌜ last ≤ 4079 ⌝ }
+    requires { ⌜ wordAt 512 last + 2 ≤ length (now img) ⌝ }
+    requires { ⌜ last < length (now marks) ⌝ }
+    ensures { λ r. ⌜ r ≡ marksJudged last (tableOf last (now (img .entry))) (now (marks .entry)) fine ⌝ }
+{
+    match visits::first_in_two(marks, last) {
+        Found::At(c) => Verdict::Finding(6, c),
+        Found::Nothing => match visits::first_lost(img, marks, last) {
+            Found::At(c) => Verdict::Finding(7, c),
+            Found::Nothing => fine,
+        },
+    }
+}
+
+// Findings 5 to 7 and the counts, of a volume whose table has good values.
+fn judge_chains(img: &[u8], k: Kind, free: usize, aside: usize) -> Verdict
+    requires { ⌜ Usable k ⌝ }
+    requires { ⌜ 512 * firstData k ≤ length (now img) ⌝ }
+    ensures { λ r. ⌜ r ≡ chainsJudged k (now (img .entry)) free aside ⌝ }
+{
+    let last = k.last_cluster();
+    let root = k.root_at();
+    let count = k.root_entries();
+    let bytes = k.cluster_bytes();
+    let mut marks = [0u8; 4080];
+    match visits::visit_files(img, &mut marks, root, count, last, bytes) {
+        Chains::BadChain(slot) => Verdict::Finding(5, slot),
+        Chains::Held(files, held) => {
+            judge_marks(img, &marks, last, Verdict::Sound(files, free, held, aside))
+        }
+    }
+}
+
+// All findings but the first, in their order.
+fn judge(img: &[u8], k: Kind) -> Verdict
+    requires { ⌜ Usable k ⌝ }
+    requires { ⌜ 512 * firstData k ≤ length (now img) ⌝ }
+    ensures { λ r. ⌜ r ≡ judged k (now (img .entry)) ⌝ }
+{
+    match tables::first_difference(img, k.copy_two(), 512 * k.fat) {
+        Found::At(offset) => Verdict::Finding(2, offset),
+        Found::Nothing => match tables::census(img, k.last_cluster()) {
+            Census::BadValue(c) => Verdict::Finding(3, c),
+            Census::Values(free, aside) => {
+                match slots::first_bad(img, k.root_at(), k.root_entries()) {
+                    Found::At(slot) => Verdict::Finding(4, slot),
+                    Found::Nothing => judge_chains(img, k, free, aside),
+                }
+            }
+        },
+    }
+}
+
+// Check of an image.
+pub fn check(img: &[u8]) -> Verdict
+    ensures { λ r. ⌜ Checked (now (img .entry)) r ⌝ }
+{
+    match diskette::kind_of_image(img) {
+        WhichKind::Known(k) => judge(img, k),
+        WhichKind::Unknown => Verdict::Finding(1, 0),
+    }
+}
+
+// Check of a system area alone.
+pub fn check_system(area: &[u8]) -> Verdict
+    ensures { λ r. ⌜ CheckedArea (now (area .entry)) r ⌝ }
+{
+    match diskette::kind_of_area(area) {
+        WhichKind::Known(k) => judge(area, k),
+        WhichKind::Unknown => Verdict::Finding(1, 0),
+    }
 }
