@@ -44,7 +44,9 @@ loop-less : tie.Need-loop-less Inv-loop μ-loop
 loop-less c = search needs
 
 loop-again : tie.Need-loop-again Inv-loop μ-loop
-loop-again c = (search needs, search any-more, search any-more, search bad-not-here)
+loop-again c =
+    let tested = c .before .before .before .before .before .is-bad .ensures in
+    (search needs, search any-more, search any-more, bad-not-here _ _ _ _ _ _ tested (search needs) (search needs) _ _ (search needs) (search needs) (search needs))
 
 returns-2 : tie.Need-returns-2 Inv-loop μ-loop
 returns-2 c = search first-end

@@ -1,0 +1,72 @@
+-- Finding 4: the test of a slot decides what document 01 says of it, and the search finds the lowest such slot.
+use Prim.Native.Nat.{ℕ, zero, suc, _+_, _*_, _≤_, _<_}
+use native.Mathlib.Omega.{arith}
+use native.Mathlib.Decide.{ℕ-discrete}
+use mathlib.Core.Bool.{Bool, true, false}
+use mathlib.Core.List.{List}
+use mathlib.Core.Logic.{_⊎_, inl, inr, _↔_}
+use mathlib.Core.Path.{_≡_, refl}
+use lib.Dec.{ltb}
+use lib.ListN.{length, getD}
+use Rattle.image.specs.Laws.Store.{length-part}
+use Rattle.chains.specs.Tests.{Says, aye, nay}
+use Rattle.chains.specs.Verdict.{Found, first}
+use Rattle.chains.specs.Laws.Tests.{says-eq, says-and, says-or, says-not, says-map, by-test, clash}
+use Rattle.chains.specs.Laws.Verdict.{first-found}
+use Rattle.diskette.specs.Places.{firstData, rootEntries, rootAt, slotAt}
+use Rattle.diskette.specs.declared.Kind.{Kind}
+use Rattle.directory.specs.Fields.{nameOf, attrOf}
+use Rattle.directory.specs.Slots.{hasBit, NeverUsedAt, LiveAt, LabelAt, PlainAt, standingOf, isOpen, isPlain}
+use Rattle.directory.specs.Search.{slotFrom, slotNamed}
+use Rattle.directory.specs.Laws.Slots.{standing-label, live-is, plain-is}
+use Rattle.directory.specs.Laws.Search.{slot-named-answers}
+use Rattle.directory.specs.declared.Standing.{Standing}
+use Rattle.directory.specs.declared.Standing.the-variants.{NeverUsed, Erased, Label, Plain}
+use Rattle.search.specs.Search.{Answers}
+use Rattle.search.specs.declared.Found.the-variants.{At, Nothing}
+use Rattle.search.specs.declared.Found as answer
+use Rattle.sound.specs.Findings.{AfterNeverUsed, StrangeEntry, SecondLabel, NameTwice, BadSlot}
+use Rattle.sound.specs.Judged.{anyBelow, isLabel, isLive, isFound, neverUsedSlot, labelSlot, strange, strangeSlot, nameTwiceSlot, badSlotBy, badSlotAt}
+
+-- ---- tests
+
+-- a test is true or not
+says-itself : (b : Bool) → Says b (b ≡ true)
+says-itself b = by-test b (λ t. aye t t) (λ f. nay f (λ t. clash t f))
+
+-- a test that is true exactly where P holds says so
+says-iff : {P : Type 0} (b : Bool) → (b ≡ true) ↔ P → Says b P
+says-iff b e = says-map (e .0) (e .1) (says-itself b)
+
+-- some number below s has what the test decides
+says-any : (p : ℕ → Bool) (P : ℕ → Type 0) → ((t : ℕ) → Says (p t) (P t)) → (s : ℕ) → Says (anyBelow p s) ((t : ℕ) × (t < s) × P t)
+unfolding anyBelow
+says-any p P d zero = nay refl (λ x. absurd (let h : x .0 < 0 = x .1 in omega arith))
+says-any p P d (suc s) = says-map to from (says-or (says-any p P d s) (d s))
+  where
+    to : ((t : ℕ) × (t < s) × P t) ⊎ P s → (t : ℕ) × (t < suc s) × P t
+    to (inl x) = let h : x .0 < s = x .1 in (x .0, omega arith, x .2)
+    to (inr x) = (s, omega arith, x)
+
+    from : ((t : ℕ) × (t < suc s) × P t) → ((t : ℕ) × (t < s) × P t) ⊎ P s
+    from x = let h : x .0 < suc s = x .1 in elim (ℕ-discrete (x .0) s) [
+      | yes e ↦ inr (rw e at (x .2))
+      | no n ↦ inl (x .0, omega arith, x .2)
+    ]
+
+-- ---- what a slot stands for
+
+module _ (l : List ℕ) (root s : ℕ) where
+  says-never-used : Says (neverUsedSlot l root s) (NeverUsedAt l (slotFrom root s))
+  unfolding neverUsedSlot
+  says-never-used = says-eq (getD l (slotFrom root s) 0) 0
+
+  says-label : Says (labelSlot l root s) (LabelAt l (slotFrom root s))
+  unfolding labelSlot
+  says-label = says-map (standing-label l (slotFrom root s) .0) (standing-label l (slotFrom root s) .1) (by (standingOf l (slotFrom root s)))
+    where
+      by : (st : Standing) → Says (isLabel st) (st ≡ Label)
+      by NeverUsed = nay refl (λ e. let z : _≡_ {A = ℕ} 0 1 = cc in omega arith)
+      by Erased = nay refl (λ e. let z : _≡_ {A = ℕ} 0 1 = cc in omega arith)
+      by Label = aye refl refl
+      by Plain = nay refl (λ e. let z : _≡_ {A = ℕ} 0 1 = cc in omega arith)
