@@ -2,7 +2,7 @@
 use Prim.Native.Nat.{ℕ, zero, suc, _+_, _*_, _≤_, _<_}
 use native.Mathlib.Omega.{arith}
 use native.Mathlib.Decide.{ℕ-discrete}
-use mathlib.Core.Bool.{Bool, true, false}
+use mathlib.Core.Bool.{Bool, true, false, _&&_, not}
 use mathlib.Core.List.{List}
 use mathlib.Core.Logic.{_⊎_, inl, inr, _↔_}
 use mathlib.Core.Path.{_≡_, refl}
@@ -70,3 +70,62 @@ module _ (l : List ℕ) (root s : ℕ) where
       by Erased = nay refl (λ e. let z : _≡_ {A = ℕ} 0 1 = cc in omega arith)
       by Label = aye refl refl
       by Plain = nay refl (λ e. let z : _≡_ {A = ℕ} 0 1 = cc in omega arith)
+
+  says-live : Says (isLive (standingOf l (slotFrom root s))) (LiveAt l (slotFrom root s))
+  says-live = says-map (live-is l (slotFrom root s) .0) (live-is l (slotFrom root s) .1) (by (standingOf l (slotFrom root s)))
+    where
+      by : (st : Standing) → Says (isLive st) (isOpen st ≡ false)
+      by NeverUsed = nay refl (λ e. clash refl e)
+      by Erased = nay refl (λ e. clash refl e)
+      by Label = aye refl refl
+      by Plain = aye refl refl
+
+  says-plain : Says (isPlain (standingOf l (slotFrom root s))) (PlainAt l (slotFrom root s))
+  says-plain = says-iff (isPlain (standingOf l (slotFrom root s))) (plain-is l (slotFrom root s))
+
+-- ---- the four parts
+
+-- the search below s found a plain file of that name
+says-found : (P : ℕ → Type 0) (count : ℕ) (f : answer.Found) → Answers P count f → Says (isFound f) ((t : ℕ) × (t < count) × P t)
+says-found P count (At t) a = aye refl (t, a .below, a .passes)
+says-found P count Nothing a = nay refl (λ x. a (x .0) (x .1) (x .2))
+
+module _ (k : Kind) (l : List ℕ) (s : ℕ) where
+  says-after : Says (not (neverUsedSlot l (rootAt k) s) && anyBelow (neverUsedSlot l (rootAt k)) s) (AfterNeverUsed k l s)
+  says-after =
+      says-and (says-not (says-never-used l (rootAt k) s))
+      (says-any (neverUsedSlot l (rootAt k)) (λ t. NeverUsedAt l (slotAt k t)) (says-never-used l (rootAt k)) s)
+
+  says-strange : Says (strangeSlot l (rootAt k) s) (StrangeEntry k l s)
+  unfolding strangeSlot strange
+  says-strange =
+      let a = slotAt k s in
+      says-and (says-live l (rootAt k) s)
+      (says-or (says-eq (getD l a 0) 0x2E)
+      (says-or (says-itself (hasBit (attrOf l a) 0x10)) (says-or (says-itself (hasBit (attrOf l a) 0x40)) (says-itself (hasBit (attrOf l a) 0x80)))))
+
+  says-second-label : Says (labelSlot l (rootAt k) s && anyBelow (labelSlot l (rootAt k)) s) (SecondLabel k l s)
+  says-second-label =
+      says-and (says-label l (rootAt k) s) (says-any (labelSlot l (rootAt k)) (λ t. LabelAt l (slotAt k t)) (says-label l (rootAt k)) s)
+
+  module _ (long : 512 * firstData k ≤ length l) (h : s < rootEntries k) where
+    says-name-twice : Says (nameTwiceSlot l (rootAt k) s) (NameTwice k l s)
+    unfolding nameTwiceSlot
+    says-name-twice =
+        let name = nameOf l (slotAt k s) in
+        says-and (says-plain l (rootAt k) s)
+        (says-map (λ x. (x .0, x .1, x .2 .0, x .2 .1)) (λ x. (x .0, x .1, (x .2, x .3)))
+        (says-found (λ t. PlainAt l (slotAt k t) × (nameOf l (slotAt k t) ≡ name)) s (slotNamed l (rootAt k) s name)
+        (slot-named-answers l (rootAt k) s (omega arith) name (length-part l (slotAt k s) 11 (omega arith)))))
+
+    -- the test of a slot decides finding 4
+    pub says-bad-slot : Says (badSlotAt l (rootAt k) s) (AfterNeverUsed k l s ⊎ (StrangeEntry k l s ⊎ (SecondLabel k l s ⊎ NameTwice k l s)))
+    unfolding badSlotAt badSlotBy
+    says-bad-slot = says-or says-after (says-or says-strange (says-or says-second-label says-name-twice))
+
+-- The search answers the lowest bad slot.
+pub found-bad-slot : (k : Kind) (l : List ℕ) → 512 * firstData k ≤ length l → Found ltb (BadSlot k l) (first (badSlotAt l (rootAt k)) (rootEntries k) 0)
+found-bad-slot k l long =
+    first-found (BadSlot k l) (badSlotAt l (rootAt k)) (rootEntries k) 0
+    (λ s b. let h : s < rootEntries k = b .0 in (omega arith, omega arith))
+    (λ s z h. let e : s < rootEntries k = omega arith in says-map (λ b. (e, b)) (λ b. b .1) (says-bad-slot k l s long e))
