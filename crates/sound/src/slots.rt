@@ -3,7 +3,7 @@ use directory::Standing;
 use search::Found;
 ghost use mathlib.Core.Bool.{_&&_, _||_};
 ghost use mathlib.Core.Path.{_≡_};
-ghost use Prim.Native.Nat.{_+_, _*_, _≤_, _<_};
+ghost use Prim.Native.Nat.{_+_, _*_, _≤_};
 ghost use lib.ListN.{length};
 ghost use Rattle.chains.specs.Verdict.{first};
 ghost use Rattle.search.specs.Laws.Theory.{optional};
