@@ -1,18 +1,55 @@
 // Finding 4: the slots of a directory. A directory stands at byte root and has count slots.
 use directory::Standing;
 use search::Found;
-ghost use mathlib.Core.Bool.{_||_};
+ghost use mathlib.Core.Bool.{_&&_, _||_};
 ghost use mathlib.Core.Path.{_≡_};
-ghost use Prim.Native.Nat.{_+_, _*_, _≤_, _<_};
+ghost use Prim.Native.Nat.{_+_, _*_, _≤_};
 ghost use lib.ListN.{length};
 ghost use Rattle.chains.specs.Verdict.{first};
 ghost use Rattle.search.specs.Laws.Theory.{optional};
-ghost use Rattle.sound.specs.Judged.{neverUsedSlot, labelSlot, strange, strangeSlot, nameTwiceSlot, badSlotBy, badSlotAt};
+ghost use Rattle.sound.specs.Judged.{isLabel, isLive, isFound, neverUsedSlot, labelSlot, strange, strangeSlot, nameTwiceSlot, badSlotBy, badSlotAt};
 
 fn either(a: bool, b: bool) -> bool
     ensures { λ r. ⌜ r ≡ (a || b) ⌝ }
 {
     if a { true } else { b }
+}
+
+fn both(a: bool, b: bool) -> bool
+    ensures { λ r. ⌜ r ≡ (a && b) ⌝ }
+{
+    if a { b } else { false }
+}
+
+fn stands_for_label(standing: Standing) -> bool
+    ensures { λ r. ⌜ r ≡ isLabel standing ⌝ }
+{
+    match standing {
+        Standing::NeverUsed => false,
+        Standing::Erased => false,
+        Standing::Label => true,
+        Standing::Plain => false,
+    }
+}
+
+fn stands_for_live(standing: Standing) -> bool
+    ensures { λ r. ⌜ r ≡ isLive standing ⌝ }
+{
+    match standing {
+        Standing::NeverUsed => false,
+        Standing::Erased => false,
+        Standing::Label => true,
+        Standing::Plain => true,
+    }
+}
+
+fn has_found(found: Found) -> bool
+    ensures { λ r. ⌜ r ≡ isFound found ⌝ }
+{
+    match found {
+        Found::At(_) => true,
+        Found::Nothing => false,
+    }
 }
 
 // A first byte 2E, or an attribute with bit 10, 40 or 80.
@@ -42,12 +79,7 @@ fn is_label(img: &[u8], root: usize, s: usize) -> bool
     requires { ⌜ root + 32 * s + 32 ≤ length (now img) ⌝ }
     ensures { λ r. ⌜ r ≡ labelSlot (now (img .entry)) root s ⌝ }
 {
-    match directory::standing_at(img, root + 32 * s) {
-        Standing::NeverUsed => false,
-        Standing::Erased => false,
-        Standing::Label => true,
-        Standing::Plain => false,
-    }
+    stands_for_label(directory::standing_at(img, root + 32 * s))
 }
 
 // A live entry whose first byte or attribute is strange.
@@ -56,12 +88,10 @@ fn is_strange_slot(img: &[u8], root: usize, s: usize) -> bool
     ensures { λ r. ⌜ r ≡ strangeSlot (now (img .entry)) root s ⌝ }
 {
     let a = root + 32 * s;
-    let odd = is_strange(img[a], directory::attr_at(img, a));
-    match directory::standing_at(img, a) {
-        Standing::NeverUsed => false,
-        Standing::Erased => false,
-        Standing::Label => odd,
-        Standing::Plain => odd,
+    if stands_for_live(directory::standing_at(img, a)) {
+        is_strange(img[a], directory::attr_at(img, a))
+    } else {
+        false
     }
 }
 
@@ -71,12 +101,10 @@ fn is_name_twice(img: &[u8], root: usize, s: usize) -> bool
     ensures { λ r. ⌜ r ≡ nameTwiceSlot (now (img .entry)) root s ⌝ }
 {
     let a = root + 32 * s;
-    if !directory::plain_at(img, a) {
-        return false;
-    }
-    match directory::slot_named(img, root, s, directory::name_at(img, a)) {
-        Found::At(_) => true,
-        Found::Nothing => false,
+    if directory::plain_at(img, a) {
+        has_found(directory::slot_named(img, root, s, directory::name_at(img, a)))
+    } else {
+        false
     }
 }
 
@@ -85,18 +113,14 @@ fn is_bad(img: &[u8], root: usize, s: usize, never: bool, label: bool) -> bool
     requires { ⌜ root + 32 * s + 32 ≤ length (now img) ⌝ }
     ensures { λ r. ⌜ r ≡ badSlotBy (now (img .entry)) root s never label ⌝ }
 {
-    if never {
-        if !is_never_used(img, root, s) {
-            return true;
-        }
+    if both(!is_never_used(img, root, s), never) {
+        return true;
     }
     if is_strange_slot(img, root, s) {
         return true;
     }
-    if label {
-        if is_label(img, root, s) {
-            return true;
-        }
+    if both(is_label(img, root, s), label) {
+        return true;
     }
     is_name_twice(img, root, s)
 }

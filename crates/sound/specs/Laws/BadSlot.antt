@@ -1,0 +1,131 @@
+-- Finding 4: the test of a slot decides what document 01 says of it, and the search finds the lowest such slot.
+use Prim.Native.Nat.{ℕ, zero, suc, _*_, _≤_, _<_}
+use native.Mathlib.Omega.{arith}
+use native.Mathlib.Decide.{ℕ-discrete}
+use mathlib.Core.Bool.{Bool, true, false, _&&_, not}
+use mathlib.Core.List.{List}
+use mathlib.Core.Logic.{_⊎_, inl, inr, _↔_}
+use mathlib.Core.Path.{_≡_, refl}
+use lib.Dec.{ltb}
+use lib.ListN.{length, getD}
+use Rattle.image.specs.Laws.Store.{length-part}
+use Rattle.chains.specs.Tests.{Says, aye, nay}
+use Rattle.chains.specs.Verdict.{Found, first}
+use Rattle.chains.specs.Laws.Tests.{says-eq, says-and, says-or, says-not, says-map, by-test, clash}
+use Rattle.chains.specs.Laws.Verdict.{first-found}
+use Rattle.diskette.specs.Places.{firstData, rootEntries, rootAt, slotAt}
+use Rattle.diskette.specs.declared.Kind.{Kind}
+use Rattle.directory.specs.Fields.{nameOf, attrOf}
+use Rattle.directory.specs.Slots.{hasBit, NeverUsedAt, LiveAt, LabelAt, PlainAt, standingOf, isOpen, isPlain}
+use Rattle.directory.specs.Search.{slotFrom, slotNamed}
+use Rattle.directory.specs.Laws.Slots.{standing-label, live-is, plain-is}
+use Rattle.directory.specs.Laws.Search.{slot-named-answers}
+use Rattle.directory.specs.declared.Standing.{Standing}
+use Rattle.directory.specs.declared.Standing.the-variants.{NeverUsed, Erased, Label, Plain}
+use Rattle.search.specs.Search.{Answers}
+use Rattle.search.specs.declared.Found.the-variants.{At, Nothing}
+use Rattle.search.specs.declared.Found as answer
+use Rattle.sound.specs.Findings.{AfterNeverUsed, StrangeEntry, SecondLabel, NameTwice, BadSlot}
+use Rattle.sound.specs.Judged.{anyBelow, isLabel, isLive, isFound, neverUsedSlot, labelSlot, strange, strangeSlot, nameTwiceSlot, badSlotBy, badSlotAt}
+
+-- ---- tests
+
+-- a test is true or not
+says-itself : (b : Bool) → Says b (b ≡ true)
+says-itself b = by-test b (λ t. aye t t) (λ f. nay f (λ t. clash t f))
+
+-- a test that is true exactly where P holds says so
+says-iff : {P : Type 0} (b : Bool) → (b ≡ true) ↔ P → Says b P
+says-iff b e = says-map (e .0) (e .1) (says-itself b)
+
+-- some number below s has what the test decides
+says-any : (p : ℕ → Bool) (P : ℕ → Type 0) → ((t : ℕ) → Says (p t) (P t)) → (s : ℕ) → Says (anyBelow p s) ((t : ℕ) × (t < s) × P t)
+unfolding anyBelow
+says-any p P d zero = nay refl (λ x. absurd (let h : x .0 < 0 = x .1 in omega arith))
+says-any p P d (suc s) = says-map to from (says-or (says-any p P d s) (d s))
+  where
+    to : ((t : ℕ) × (t < s) × P t) ⊎ P s → (t : ℕ) × (t < suc s) × P t
+    to (inl x) = let h : x .0 < s = x .1 in (x .0, omega arith, x .2)
+    to (inr x) = (s, omega arith, x)
+
+    from : ((t : ℕ) × (t < suc s) × P t) → ((t : ℕ) × (t < s) × P t) ⊎ P s
+    from x = let h : x .0 < suc s = x .1 in elim (ℕ-discrete (x .0) s) [
+      | yes e ↦ inr (rw e at (x .2))
+      | no n ↦ inl (x .0, omega arith, x .2)
+    ]
+
+-- ---- what a slot stands for
+
+module _ (l : List ℕ) (root s : ℕ) where
+  says-never-used : Says (neverUsedSlot l root s) (NeverUsedAt l (slotFrom root s))
+  unfolding neverUsedSlot
+  says-never-used = says-eq (getD l (slotFrom root s) 0) 0
+
+  says-label : Says (labelSlot l root s) (LabelAt l (slotFrom root s))
+  unfolding labelSlot
+  says-label = says-map (standing-label l (slotFrom root s) .0) (standing-label l (slotFrom root s) .1) (by (standingOf l (slotFrom root s)))
+    where
+      by : (st : Standing) → Says (isLabel st) (st ≡ Label)
+      by NeverUsed = nay refl (λ e. let z : _≡_ {A = ℕ} 0 1 = cc in omega arith)
+      by Erased = nay refl (λ e. let z : _≡_ {A = ℕ} 0 1 = cc in omega arith)
+      by Label = aye refl refl
+      by Plain = nay refl (λ e. let z : _≡_ {A = ℕ} 0 1 = cc in omega arith)
+
+  says-live : Says (isLive (standingOf l (slotFrom root s))) (LiveAt l (slotFrom root s))
+  says-live = says-map (live-is l (slotFrom root s) .0) (live-is l (slotFrom root s) .1) (by (standingOf l (slotFrom root s)))
+    where
+      by : (st : Standing) → Says (isLive st) (isOpen st ≡ false)
+      by NeverUsed = nay refl (λ e. clash refl e)
+      by Erased = nay refl (λ e. clash refl e)
+      by Label = aye refl refl
+      by Plain = aye refl refl
+
+  says-plain : Says (isPlain (standingOf l (slotFrom root s))) (PlainAt l (slotFrom root s))
+  says-plain = says-iff (isPlain (standingOf l (slotFrom root s))) (plain-is l (slotFrom root s))
+
+-- ---- the four parts
+
+-- the search below s found a plain file of that name
+says-found : (P : ℕ → Type 0) (count : ℕ) (f : answer.Found) → Answers P count f → Says (isFound f) ((t : ℕ) × (t < count) × P t)
+says-found P count (At t) a = aye refl (t, a .below, a .passes)
+says-found P count Nothing a = nay refl (λ x. a (x .0) (x .1) (x .2))
+
+module _ (k : Kind) (l : List ℕ) (s : ℕ) where
+  says-after : Says (not (neverUsedSlot l (rootAt k) s) && anyBelow (neverUsedSlot l (rootAt k)) s) (AfterNeverUsed k l s)
+  says-after =
+      says-and (says-not (says-never-used l (rootAt k) s))
+      (says-any (neverUsedSlot l (rootAt k)) (λ t. NeverUsedAt l (slotAt k t)) (says-never-used l (rootAt k)) s)
+
+  says-strange : Says (strangeSlot l (rootAt k) s) (StrangeEntry k l s)
+  unfolding strangeSlot strange
+  says-strange =
+      let a = slotAt k s in
+      says-and (says-live l (rootAt k) s)
+      (says-or (says-eq (getD l a 0) 0x2E)
+      (says-or (says-itself (hasBit (attrOf l a) 0x10)) (says-or (says-itself (hasBit (attrOf l a) 0x40)) (says-itself (hasBit (attrOf l a) 0x80)))))
+
+  says-second-label : Says (labelSlot l (rootAt k) s && anyBelow (labelSlot l (rootAt k)) s) (SecondLabel k l s)
+  says-second-label =
+      says-and (says-label l (rootAt k) s) (says-any (labelSlot l (rootAt k)) (λ t. LabelAt l (slotAt k t)) (says-label l (rootAt k)) s)
+
+  module _ (long : 512 * firstData k ≤ length l) (h : s < rootEntries k) where
+    says-name-twice : Says (nameTwiceSlot l (rootAt k) s) (NameTwice k l s)
+    unfolding nameTwiceSlot
+    says-name-twice =
+        let name = nameOf l (slotAt k s) in
+        says-and (says-plain l (rootAt k) s)
+        (says-map (λ x. (x .0, x .1, x .2 .0, x .2 .1)) (λ x. (x .0, x .1, (x .2, x .3)))
+        (says-found (λ t. PlainAt l (slotAt k t) × (nameOf l (slotAt k t) ≡ name)) s (slotNamed l (rootAt k) s name)
+        (slot-named-answers l (rootAt k) s (omega arith) name (length-part l (slotAt k s) 11 (omega arith)))))
+
+    -- the test of a slot decides finding 4
+    pub says-bad-slot : Says (badSlotAt l (rootAt k) s) (AfterNeverUsed k l s ⊎ (StrangeEntry k l s ⊎ (SecondLabel k l s ⊎ NameTwice k l s)))
+    unfolding badSlotAt badSlotBy
+    says-bad-slot = says-or says-after (says-or says-strange (says-or says-second-label says-name-twice))
+
+-- The search answers the lowest bad slot.
+pub found-bad-slot : (k : Kind) (l : List ℕ) → 512 * firstData k ≤ length l → Found ltb (BadSlot k l) (first (badSlotAt l (rootAt k)) (rootEntries k) 0)
+found-bad-slot k l long =
+    first-found (BadSlot k l) (badSlotAt l (rootAt k)) (rootEntries k) 0
+    (λ s b. let h : s < rootEntries k = b .0 in (omega arith, omega arith))
+    (λ s z h. let e : s < rootEntries k = omega arith in says-map (λ b. (e, b)) (λ b. b .1) (says-bad-slot k l s long e))
