@@ -6,3 +6,5 @@ pub mod Counts
 pub mod Answer
 pub mod Judged
 pub mod Visits
+pub mod Holders
+pub mod Laws

@@ -1,0 +1,5 @@
+-- The laws of the definitions beside this folder.
+pub mod Geometry
+pub mod SamePlaces
+pub mod Holders
+pub mod Chains
