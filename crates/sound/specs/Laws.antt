@@ -3,3 +3,6 @@ pub mod Geometry
 pub mod SamePlaces
 pub mod Holders
 pub mod Chains
+pub mod Copies
+pub mod Answer
+pub mod OneAnswer

@@ -7,4 +7,5 @@ pub mod Answer
 pub mod Judged
 pub mod Visits
 pub mod Holders
+pub mod FromFinding
 pub mod Laws

@@ -4,6 +4,9 @@ use mathlib.Core.Logic.{inl, inr, _↔_}
 use mathlib.Core.Option.{Option}
 use Rattle.chains.specs.Verdict.{Lowest, None, OrElse, Found, found, nowhere}
 
+pub turned : {P Q : Type 0} → P ↔ Q → Q ↔ P
+turned e = (e .1, e .0)
+
 pub none-as : {P : Type 0} (B C : P → Type 0) → ((p : P) → B p ↔ C p) → None B → None C
 none-as B C same n p c = n p (same p .1 c)
 
