@@ -3,9 +3,9 @@ use Prim.Native.Nat.{ℕ}
 use mathlib.Core.List.{List}
 use mathlib.Core.Path.{_≡_}
 use lib.Dec.{ltb}
-use Rattle.chains.specs.Verdict.{OrElse}
+use Rattle.chains.specs.Verdict.{OrElse, None}
 use Rattle.diskette.specs.declared.Kind.{Kind}
-use Rattle.sound.specs.Findings.{BadValue, BadSlot, BadChain, InTwoChains, Lost}
+use Rattle.sound.specs.Findings.{TablesDiffer, BadValue, BadSlot, BadChain, InTwoChains, Lost}
 use Rattle.sound.specs.Counts.{fileCount, freeOf, heldOf, asideOf}
 use Rattle.sound.specs.declared.Verdict.{Verdict}
 use Rattle.sound.specs.declared.Verdict.the-variants.{Sound, Finding}
@@ -33,3 +33,12 @@ FromSlots k l = OrElse ltb (BadSlot k l) (Finding 4) (FromChains k l)
 -- 3
 abbrev pub FromValues : Kind → List ℕ → Verdict → Type 0
 FromValues k l = OrElse ltb (BadValue k l) (Finding 3) (FromSlots k l)
+
+-- none of the findings 2 to 7 holds anywhere
+pub record NoFinding (k : Kind) (l : List ℕ) : Type 0 where
+  pub tables : None (TablesDiffer k l)
+  pub values : None (BadValue k l)
+  pub slots : None (BadSlot k l)
+  pub chains : None (BadChain k l)
+  pub two : None (InTwoChains k l)
+  pub lost : None (Lost k l)

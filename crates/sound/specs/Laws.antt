@@ -6,3 +6,5 @@ pub mod Chains
 pub mod Copies
 pub mod Answer
 pub mod OneAnswer
+pub mod Theory
+pub mod Sound

@@ -84,7 +84,7 @@ module _ (k : Kind) (u : Usable k) (l : List ℕ) (h : ℕ → Holder) (at : (s 
     | no n ↦ absurd (subst (λ (cs : List ℕ). c ∈ cs) (owns-nobody (geometry k u) f (h (slotAt k s)) (r .0) (slot-nobody s i n) (r .1)) (r .2))
   ]
 
-  listed-from : (a c : ℕ) → a ∈ rootList k → Theory.InChain last f h a c → (s : ℕ) × (a ≡ slotAt k s) × InChain k l s c
+  pub listed-from : (a c : ℕ) → a ∈ rootList k → Theory.InChain last f h a c → (s : ℕ) × (a ≡ slotAt k s) × InChain k l s c
   listed-from a c m r =
       let p = listed-slot k a m in
       (p .0, p .2, in-chain-from (p .0) c (p .1) (subst (λ (x : ℕ). Theory.InChain last f h x c) (p .2) r))
