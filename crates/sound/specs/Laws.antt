@@ -2,3 +2,12 @@
 pub mod Tables
 pub mod Slots
 pub mod BadSlot
+pub mod Geometry
+pub mod SamePlaces
+pub mod Holders
+pub mod Chains
+pub mod Copies
+pub mod Answer
+pub mod OneAnswer
+pub mod Theory
+pub mod Sound

@@ -6,4 +6,6 @@ pub mod Counts
 pub mod Answer
 pub mod Judged
 pub mod Visits
+pub mod Holders
+pub mod FromFinding
 pub mod Laws

@@ -1,0 +1,24 @@
+-- An aid to the proofs: the holders of chains as a family over all addresses, which is what the theory of chains takes.
+use Prim.Native.Nat.{ℕ}
+use mathlib.Core.Bool.{cond}
+use mathlib.Core.List.{List}
+use lib.Dec.{eqb}
+use Rattle.chains.specs.Check.{chainOf}
+use Rattle.chains.specs.Holders.{Holder, nobody}
+use Rattle.chains.specs.Lists.{occ}
+use Rattle.diskette.specs.Places.{clusterBytes, lastCluster, rootEntries, rootAt}
+use Rattle.diskette.specs.declared.Kind.{Kind}
+use Rattle.sound.specs.Files.{valueOf}
+use Rattle.sound.specs.Judged.{holderAt, entriesOf}
+
+-- the holders of the list alone, nobody elsewhere
+unfoldable pub among : List ℕ → (ℕ → Holder) → ℕ → Holder
+among is h a = cond (eqb (occ a is) 0) nobody (h a)
+
+-- who holds a chain by an entry of the root at byte a
+unfoldable pub rootHolders : Kind → List ℕ → ℕ → Holder
+rootHolders k l = among (entriesOf (rootAt k) (rootEntries k)) (holderAt (clusterBytes k) l)
+
+-- the clusters of that chain
+unfoldable pub rootChains : Kind → List ℕ → ℕ → List ℕ
+rootChains k l a = chainOf (lastCluster k) (valueOf k l) (rootHolders k l a)

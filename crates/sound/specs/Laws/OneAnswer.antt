@@ -1,0 +1,44 @@
+-- Only one answer fits: what check answers is settled by the bytes alone.
+use Prim.Native.Nat.{ℕ}
+use mathlib.Core.List.{List}
+use mathlib.Core.Path.{_≡_, sym, _∙_}
+use lib.Dec.{ltb}
+use Rattle.chains.specs.Laws.Verdict.{numbers, or-else-same}
+use Rattle.diskette.specs.Images.{kindOfImage, kindOfArea}
+use Rattle.diskette.specs.declared.Kind.{Kind}
+use Rattle.diskette.specs.declared.WhichKind.{WhichKind}
+use Rattle.diskette.specs.declared.WhichKind.the-variants.{Known, Unknown}
+use Rattle.sound.specs.Answer.{AnswersOf, AnswersBy, Checked, CheckedArea}
+use Rattle.sound.specs.Findings.{TablesDiffer, BadValue, BadSlot, BadChain, InTwoChains, Lost}
+use Rattle.sound.specs.FromFinding.{Counted, FromLost, FromTwo, FromChains, FromSlots, FromValues}
+use Rattle.sound.specs.Judged.{checkOf, checkOfArea}
+use Rattle.sound.specs.Laws.Answer.{SlotsSearched, check-answers, area-answers}
+use Rattle.sound.specs.declared.Verdict.{Verdict}
+use Rattle.sound.specs.declared.Verdict.the-variants.{Finding}
+
+pub answers-only : (k : Kind) (l : List ℕ) (v w : Verdict) → AnswersOf k l v → AnswersOf k l w → v ≡ w
+answers-only k l =
+    or-else-same ltb numbers (TablesDiffer k l) (Finding 2) (FromValues k l)
+    (or-else-same ltb numbers (BadValue k l) (Finding 3) (FromSlots k l)
+    (or-else-same ltb numbers (BadSlot k l) (Finding 4) (FromChains k l)
+    (or-else-same ltb numbers (BadChain k l) (Finding 5) (FromTwo k l)
+    (or-else-same ltb numbers (InTwoChains k l) (Finding 6) (FromLost k l)
+    (or-else-same ltb numbers (Lost k l) (Finding 7) (Counted k l) (λ v w x y. x ∙ sym y))))))
+
+only-by : (kind : WhichKind) (l : List ℕ) (v w : Verdict) → AnswersBy kind l v → AnswersBy kind l w → v ≡ w
+only-by (Known k) l v w x y = answers-only k l v w x y
+only-by Unknown l v w x y = x ∙ sym y
+
+pub checked-only : {img : List ℕ} {v w : Verdict} → Checked img v → Checked img w → v ≡ w
+checked-only {img} {v} {w} x y = only-by (kindOfImage img) img v w (x .is) (y .is)
+
+pub area-only : {area : List ℕ} {v w : Verdict} → CheckedArea area v → CheckedArea area w → v ≡ w
+area-only {area} {v} {w} x y = only-by (kindOfArea area) area v w (x .is) (y .is)
+
+-- so it is what is computed
+module _ {l : List ℕ} (slots : SlotsSearched l) {v : Verdict} where
+  pub checked-is : Checked l v → v ≡ checkOf l
+  checked-is x = checked-only x (check-answers l slots)
+
+  pub area-is : CheckedArea l v → v ≡ checkOfArea l
+  area-is x = area-only x (area-answers l slots)

@@ -1,0 +1,64 @@
+-- Sound exactly where none of the findings holds; the lists of a sound volume are the chains of its root.
+use Prim.Native.Nat.{ℕ}
+use mathlib.Core.List.{List}
+use mathlib.Core.Logic.{_↔_}
+use mathlib.Core.Path.{_≡_, subst}
+use Rattle.chains.specs.Holders.{fileHolder}
+use Rattle.chains.specs.Lists.{_∈_}
+use Rattle.chains.specs.Laws.Check.{owns-chain-of}
+use Rattle.chains.specs.Laws.Clusters.{file-owns}
+use Rattle.chains.specs.Laws.Holders.{owns-same}
+use Rattle.diskette.specs.Kinds.{Usable}
+use Rattle.diskette.specs.Places.{clusterBytes, lastCluster, slotAt}
+use Rattle.diskette.specs.declared.Kind.{Kind}
+use Rattle.directory.specs.Fields.{startOf, sizeOf}
+use Rattle.sound.specs.Files.{valueOf, IsFile, ChainOf}
+use Rattle.sound.specs.Findings.{InChain}
+use Rattle.sound.specs.FromFinding.{NoFinding}
+use Rattle.sound.specs.Holders.{rootHolders, rootChains}
+use Rattle.sound.specs.Sound.{SoundBy, Sound}
+use Rattle.sound.specs.Laws.Chains.{file-owns-chain}
+use Rattle.sound.specs.Laws.Geometry.{geometry}
+use Rattle.sound.specs.Laws.Holders.{root-holder}
+use Rattle.sound.specs.Laws.Theory.{no-finding-theory, theory-sound}
+use Rattle.chains.specs.Holders as Theory
+
+module _ (k : Kind) (u : Usable k) (l : List ℕ) where
+  -- a file has one chain only
+  pub chain-only : (s : ℕ) (cs ds : List ℕ) → ChainOf k l s cs → ChainOf k l s ds → cs ≡ ds
+  chain-only s cs ds x y =
+      let G = geometry k u in
+      let f = valueOf k l in
+      let a = slotAt k s in
+      owns-same G f (fileHolder (clusterBytes k) (startOf l a) (sizeOf l a)) cs ds (file-owns (lastCluster k) (clusterBytes k) (G .wide) f (startOf l a) (sizeOf l a) cs x)
+      (file-owns (lastCluster k) (clusterBytes k) (G .wide) f (startOf l a) (sizeOf l a) ds y)
+
+  module _ (lists : ℕ → List ℕ) (v : SoundBy k l lists) where
+    in-list : (s c : ℕ) → InChain k l s c → c ∈ lists s
+    in-list s c r = subst (λ (cs : List ℕ). c ∈ cs) (chain-only s (r .1 .0) (lists s) (r .1 .1) (v .chains s (r .0))) (r .1 .2)
+
+    pub sound-no-finding : NoFinding k l
+    sound-no-finding = record {
+      tables = v .tables;
+      values = v .values;
+      slots = v .slots;
+      chains = λ s b. b .1 (lists s) (v .chains s (b .0));
+      two = λ c b. b .2 (v .apart (b .0) (b .1) c (b .3 .0) (b .4 .0) (in-list (b .0) c (b .3)) (in-list (b .1) c (b .4)));
+      lost = λ c b. let o = v .covered c (b .0) (b .1) in b .2 (o .0) (o .1, (lists (o .0), v .chains (o .0) (o .1), o .2));
+    }
+
+    -- what the proofs of the calls start from
+    pub sound-theory : Theory.Sound (lastCluster k) (valueOf k l) (rootHolders k l) (rootChains k l)
+    sound-theory = no-finding-theory k u l sound-no-finding
+
+    pub lists-are : (s : ℕ) → IsFile k l s → lists s ≡ rootChains k l (slotAt k s)
+    unfolding rootChains
+    lists-are s i = owns-chain-of (geometry k u) (valueOf k l) (rootHolders k l (slotAt k s)) (lists s)
+        (file-owns-chain k u l (rootHolders k l) (root-holder k l) s (lists s) i .1 (v .chains s i))
+
+  -- Sound means that none of the seven holds (finding 1 is about the kind)
+  pub sound-exactly : Sound k l ↔ NoFinding k l
+  sound-exactly = (
+    λ v. sound-no-finding (v .0) (v .1),
+    λ n. (λ s. rootChains k l (slotAt k s), theory-sound k u l (rootChains k l) (no-finding-theory k u l n) (n .tables) (n .slots)),
+  )
