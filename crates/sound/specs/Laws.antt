@@ -8,3 +8,5 @@ pub mod Answer
 pub mod OneAnswer
 pub mod Theory
 pub mod Sound
+pub mod IsSound
+pub mod Total

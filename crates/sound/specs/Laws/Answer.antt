@@ -5,8 +5,7 @@ use mathlib.Core.List.{List}
 use mathlib.Core.Path.{_≡_, refl}
 use lib.Dec.{ltb}
 use lib.ListN.{length}
-use Rattle.chains.specs.Check.{checkChains}
-use Rattle.chains.specs.Verdict.{Found, OrElse, first}
+use Rattle.chains.specs.Verdict.{Found, first}
 use Rattle.chains.specs.Laws.Check.{found-bad-value}
 use Rattle.chains.specs.Laws.Findings.{check-chains}
 use Rattle.chains.specs.Laws.Rows.{found-bad-chain}
@@ -23,14 +22,15 @@ use Rattle.sound.specs.Answer.{AnswersOf, AnswersBy, Checked, CheckedAre
 use Rattle.sound.specs.Files.{valueOf}
 use Rattle.sound.specs.FromFinding.{Counted, FromLost, FromTwo, FromChains, FromSlots, FromValues}
 use Rattle.sound.specs.Findings.{TablesDiffer, BadValue, BadSlot, BadChain, InTwoChains, Lost}
+use Rattle.sound.specs.Holders.{rootRows}
 use Rattle.sound.specs.Judged.{judged, judgedBy, checkOf, checkOfArea, badSlotAt, badChainSlot, holderAt, marksOfFiles, voice}
-use Rattle.sound.specs.Laws.Chains.{rootRows, bad-chain-as, in-two-as, lost-as}
+use Rattle.sound.specs.Laws.Chains.{bad-chain-as, in-two-as, lost-as}
 use Rattle.sound.specs.Laws.Geometry.{geometry}
-use Rattle.sound.specs.Laws.Holders.{rootList, slots-once}
+use Rattle.sound.specs.Laws.Holders.{slots-once}
 use Rattle.sound.specs.Laws.SamePlaces.{or-else-as, turned}
 use Rattle.sound.specs.Laws.Copies.{found-difference}
 use Rattle.sound.specs.declared.Verdict.{Verdict}
-use Rattle.sound.specs.declared.Verdict.the-variants.{Sound, Finding}
+use Rattle.sound.specs.declared.Verdict.the-variants.{Finding}
 use Rattle.chains.specs.Findings as Theory
 
 -- the theory's answer from finding 5 on is document 01's

@@ -2,8 +2,7 @@
 use Prim.Native.Nat.{ℕ, _+_, _*_, _<_}
 use native.Mathlib.Omega.{arith}
 use mathlib.Core.List.{List}
-use mathlib.Core.Logic.{_⊎_, _≢_, inl, inr}
-use mathlib.Core.Path.{_≡_}
+use mathlib.Core.Logic.{inl, inr}
 use lib.Dec.{ltb}
 use lib.ListN.{getD}
 use Rattle.chains.specs.Tests.{Says}

@@ -1,7 +1,6 @@
 -- Who holds a chain: the plain file at an address, nobody where there is none.
 use Prim.Native.Nat.{ℕ, _<_}
 use native.Mathlib.Omega.{arith}
-use mathlib.Core.Bool.{true}
 use mathlib.Core.List.{List}
 use mathlib.Core.Path.{_≡_, refl, sym, ap, _∙_}
 use borrow.Author.Tests.{eq-eqb, ne-eqb}
@@ -13,12 +12,12 @@ use Rattle.diskette.specs.Places.{clusterBytes, rootEntries, rootAt, slotAt}
 use Rattle.diskette.specs.declared.Kind.{Kind}
 use Rattle.directory.specs.Fields.{startOf, sizeOf}
 use Rattle.directory.specs.Search.{slotFrom}
-use Rattle.directory.specs.Slots.{PlainAt, standingOf, isPlain}
+use Rattle.directory.specs.Slots.{PlainAt, standingOf}
 use Rattle.directory.specs.Laws.Slots.{standing-plain}
 use Rattle.directory.specs.declared.Standing.{Standing}
 use Rattle.directory.specs.declared.Standing.the-variants.{NeverUsed, Erased, Label, Plain}
-use Rattle.sound.specs.Judged.{holderBy, holderAt, entriesOf}
-use Rattle.sound.specs.Holders.{among, rootHolders}
+use Rattle.sound.specs.Judged.{holderBy, holderAt}
+use Rattle.sound.specs.Holders.{rootList, among, rootHolders}
 
 -- ---- at one address
 
@@ -46,9 +45,6 @@ module _ (is : List ℕ) (h : ℕ → Holder) (a : ℕ) where
   among-out n = rw (eq-eqb (occ a is) 0 (occ-not a is n))
 
 -- ---- the root's
-
-abbrev pub rootList : Kind → List ℕ
-rootList k = entriesOf (rootAt k) (rootEntries k)
 
 -- its addresses are those of its slots, each once
 pub listed-slot : (k : Kind) (a : ℕ) → a ∈ rootList k → (s : ℕ) × (s < rootEntries k) × (a ≡ slotAt k s)

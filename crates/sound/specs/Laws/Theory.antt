@@ -14,12 +14,12 @@ use Rattle.diskette.specs.declared.Kind.{Kind}
 use Rattle.sound.specs.Files.{valueOf, IsFile}
 use Rattle.sound.specs.Findings.{TablesDiffer, BadSlot, BadChain, InTwoChains, Lost}
 use Rattle.sound.specs.FromFinding.{NoFinding}
-use Rattle.sound.specs.Holders.{rootHolders, rootChains}
+use Rattle.sound.specs.Holders.{rootList, rootRows, rootHolders, rootChains}
 use Rattle.sound.specs.Judged.{voice}
 use Rattle.sound.specs.Sound.{SoundBy}
-use Rattle.sound.specs.Laws.Chains.{rootRows, bad-chain-as, in-two-as, lost-as, file-owns-chain, listed-from}
+use Rattle.sound.specs.Laws.Chains.{bad-chain-as, in-two-as, lost-as, file-owns-chain, listed-from}
 use Rattle.sound.specs.Laws.Geometry.{geometry}
-use Rattle.sound.specs.Laws.Holders.{rootList, root-holder, root-nobody, slot-same, slots-once}
+use Rattle.sound.specs.Laws.Holders.{root-holder, root-nobody, slot-same, slots-once}
 use Rattle.sound.specs.Laws.SamePlaces.{none-as}
 use Rattle.chains.specs.Holders as Theory
 
@@ -54,7 +54,7 @@ module _ (k : Kind) (u : Usable k) (l : List ℕ) where
       chains = λ s i. file-owns-chain k u l (rootHolders k l) (root-holder k l) s (χ (slotAt k s)) i .0 (v .owns (slotAt k s));
       apart = λ s t c i j m n. slot-same k s t (v .apart (slotAt k s) (slotAt k t) c m n);
       covered = λ c i w.
-        let o = v .cover c i w in
-        let r = owner-file (o .0) c (o .1) in
-        (r .0, r .2, subst (λ (x : ℕ). c ∈ χ x) (r .1) (o .1));
+          let o = v .cover c i w in
+          let r = owner-file (o .0) c (o .1) in
+          (r .0, r .2, subst (λ (x : ℕ). c ∈ χ x) (r .1) (o .1));
     }
