@@ -10,3 +10,4 @@ pub mod Theory
 pub mod Sound
 pub mod IsSound
 pub mod Total
+pub mod Change

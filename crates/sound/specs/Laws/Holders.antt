@@ -10,6 +10,7 @@ use Rattle.chains.specs.Laws.Lists.{mem-occ, occ-not, dec-mem}
 use Rattle.chains.specs.Laws.Rows.{row-holder, holder-row, rows-once}
 use Rattle.diskette.specs.Places.{clusterBytes, rootEntries, rootAt, slotAt}
 use Rattle.diskette.specs.declared.Kind.{Kind}
+use Rattle.directory.specs.Entries.{SameFields}
 use Rattle.directory.specs.Fields.{startOf, sizeOf}
 use Rattle.directory.specs.Search.{slotFrom}
 use Rattle.directory.specs.Slots.{PlainAt, standingOf}
@@ -71,9 +72,18 @@ module _ (k : Kind) (l : List ℕ) where
   unfolding rootHolders
   root-nobody a n = among-out (rootList k) (holderAt (clusterBytes k) l) a n
 
--- the same holder where the slot's entry gives the same: so the replacement of one holder asks for it
-pub root-holders-as : (k : Kind) (m l : List ℕ) (a : ℕ) → ((s : ℕ) → s < rootEntries k → a ≡ slotAt k s → holderAt (clusterBytes k) m a ≡ holderAt (clusterBytes k) l a) → rootHolders k m a ≡ rootHolders k l a
+-- ---- of two volumes
+
+-- the same holder where start, size and standing are the same
+pub holder-as : (cb : ℕ) (m l : List ℕ) (a b : ℕ) → SameFields m a l b → holderAt cb m a ≡ holderAt cb l b
+holder-as cb m l a b e = ap (λ (x : ℕ). holderBy cb x (sizeOf m a) (standingOf m a)) (e .start) ∙ ap (λ (x : ℕ). holderBy cb (startOf l b) x (standingOf m a)) (e .size) ∙ ap (holderBy cb (startOf l b) (sizeOf l b)) (e .standing)
+
+-- at an address that is no slot there is nobody in either
+pub root-holders-as : (k : Kind) (m l : List ℕ) (a : ℕ) → ((s : ℕ) → s < rootEntries k → a ≡ slotAt k s → holderAt (clusterBytes k) m (slotAt k s) ≡ holderAt (clusterBytes k) l (slotAt k s)) → rootHolders k m a ≡ rootHolders k l a
 root-holders-as k m l a e = elim (dec-mem a (rootList k)) [
-  | yes i ↦ let r = listed-slot k a i in root-listed k m a i ∙ e (r .0) (r .1) (r .2) ∙ sym (root-listed k l a i)
+  | yes i ↦
+      let r = listed-slot k a i in
+      let at : (x : List ℕ) → rootHolders k x a ≡ holderAt (clusterBytes k) x (slotAt k (r .0)) = λ x. ap (rootHolders k x) (r .2) ∙ root-holder k x (r .0) (r .1) in
+      at m ∙ e (r .0) (r .1) (r .2) ∙ sym (at l)
   | no n ↦ root-nobody k m a n ∙ sym (root-nobody k l a n)
 ]
