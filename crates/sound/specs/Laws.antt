@@ -11,3 +11,5 @@ pub mod Sound
 pub mod IsSound
 pub mod Total
 pub mod Change
+pub mod Area
+pub mod AreaAnswer
