@@ -63,7 +63,7 @@ answers-by Unknown l a = refl
 
 -- the search of the slots finds what finding 4 says
 abbrev pub SlotsSearched : List ℕ → Type 0
-SlotsSearched l = (k : Kind) → Usable k → 512 * firstData k ≤ length l → Found ltb (BadSlot k l) (first (badSlotAt l (rootAt k)) (rootEntries k) 0)
+SlotsSearched l = (k : Kind) → 512 * firstData k ≤ length l → Found ltb (BadSlot k l) (first (badSlotAt l (rootAt k)) (rootEntries k) 0)
 
 module _ (l : List ℕ) (slots : SlotsSearched l) where
   pub check-answers : Checked l (checkOf l)
@@ -71,7 +71,7 @@ module _ (l : List ℕ) (slots : SlotsSearched l) where
   check-answers = record {
     is = answers-by (kindOfImage l) l (λ k e.
         let u = image-usable l k e in
-        judged-answers k l u (slots k u (image-has-area l k (image-of-kind l k .0 e) u)));
+        judged-answers k l u (slots k (image-has-area l k (image-of-kind l k .0 e) u)));
   }
 
   pub area-answers : CheckedArea l (checkOfArea l)
@@ -79,5 +79,5 @@ module _ (l : List ℕ) (slots : SlotsSearched l) where
   area-answers = record {
     is = answers-by (kindOfArea l) l (λ k e.
         let u = area-usable l k e in
-        judged-answers k l u (slots k u (area-of-kind l k .0 e .long)));
+        judged-answers k l u (slots k (area-of-kind l k .0 e .long)));
   }

@@ -1,4 +1,5 @@
--- Findings 5 to 7 as document 01 has them, by slot, and as the theory of chains has them, by the holders at the slots' addresses: they hold at the same places.
+-- Findings 5 to 7 as document 01 has them, by slot, and as the theory of chains has them, by the holders at the slots'
+-- addresses: they hold at the same places.
 use Prim.Native.Nat.{ℕ, _<_}
 use native.Mathlib.Omega.{arith}
 use mathlib.Core.List.{List, []}

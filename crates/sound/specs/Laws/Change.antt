@@ -1,4 +1,5 @@
--- A sound volume of which one slot changed, or none: the theory's lemma on one holder replaced, by slot and by the bytes of two volumes.
+-- A sound volume of which one slot changed, or none: the theory's lemma on one holder replaced, by slot and by the
+-- bytes of two volumes.
 use Prim.Native.Nat.{ℕ, _<_}
 use mathlib.Core.List.{List}
 use mathlib.Core.Logic.{_≢_}

@@ -1,4 +1,5 @@
--- Finding 2: the search over the bytes of the copies finds what there is; none of it means that the copies agree and that bytes 1 and 2 are FF.
+-- Finding 2: the search over the bytes of the copies finds what there is; none of it means that the copies agree and
+-- that bytes 1 and 2 are FF.
 use Prim.Native.Nat.{ℕ, _+_, _*_, _<_}
 use native.Mathlib.Omega.{arith}
 use native.Mathlib.Decide.{ℕ-discrete}

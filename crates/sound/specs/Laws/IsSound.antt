@@ -4,7 +4,7 @@ use native.Mathlib.Omega.{arith}
 use mathlib.Core.Bool.{true, false}
 use mathlib.Core.List.{List}
 use mathlib.Core.Logic.{_↔_, inl, inr}
-use mathlib.Core.Path.{_≡_, refl, ap, subst}
+use mathlib.Core.Path.{_≡_, refl, sym, ap, _∙_, subst}
 use lib.Dec.{ltb}
 use Rattle.chains.specs.Tests.{Says, aye, nay}
 use Rattle.chains.specs.Verdict.{None, OrElse}
@@ -53,6 +53,13 @@ module _ (l : List ℕ) (slots : SlotsSearched l) where
   unfolding isSound
   says-sound = says-map (λ r. (r .0, image-of-kind l (r .0) .0 (r .1), r .2)) (λ r. (r .0, image-of-kind l (r .0) .1 (r .1), r .2))
       (says-by (kindOfImage l) l (checkOf l) (image-usable l) (check-answers l slots .is))
+
+  -- in the form of the calls' need: the kind is known already
+  pub known-says : (k : Kind) → kindOfImage l ≡ Known k → Says (isSound l) (Sound k l)
+  known-says k e = says-map (λ r. subst (λ (x : Kind). Sound x l) (same (r .0) (r .1)) (r .2)) (λ v. (k, image-of-kind l k .0 e, v)) says-sound
+    where
+      same : (x : Kind) → OfKind l x → x ≡ k
+      same x o = let q : Known x ≡ Known k = sym (image-of-kind l x .1 o) ∙ e in cc
 
   pub is-sound : (isSound l ≡ true) ↔ ((k : Kind) × OfKind l k × Sound k l)
   is-sound = (says-true says-sound, true-says says-sound)

@@ -1,4 +1,5 @@
--- None of the findings is sound in the sense of the theory of chains, with the holders of the root; and that is what Sound asks for, the tables and the slots being as they must.
+-- None of the findings is sound in the sense of the theory of chains, with the holders of the root; and that is what
+-- Sound asks for, the tables and the slots being as they must.
 use Prim.Native.Nat.{ℕ}
 use mathlib.Core.List.{List}
 use mathlib.Core.Path.{_≡_, subst}
