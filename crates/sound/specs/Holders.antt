@@ -6,10 +6,20 @@ use lib.Dec.{eqb}
 use Rattle.chains.specs.Check.{chainOf}
 use Rattle.chains.specs.Holders.{Holder, nobody}
 use Rattle.chains.specs.Lists.{occ}
+use Rattle.chains.specs.Rows.{rows}
 use Rattle.diskette.specs.Places.{clusterBytes, lastCluster, rootEntries, rootAt}
 use Rattle.diskette.specs.declared.Kind.{Kind}
+use Rattle.directory.specs.Search.{slotFrom}
 use Rattle.sound.specs.Files.{valueOf}
 use Rattle.sound.specs.Judged.{holderAt, entriesOf}
+
+-- the addresses of the root's entries
+abbrev pub rootList : Kind → List ℕ
+rootList k = entriesOf (rootAt k) (rootEntries k)
+
+-- the same with their slots
+abbrev pub rootRows : Kind → List (ℕ × ℕ)
+rootRows k = rows (slotFrom (rootAt k)) 0 (rootEntries k)
 
 -- the holders of the list alone, nobody elsewhere
 unfoldable pub among : List ℕ → (ℕ → Holder) → ℕ → Holder
@@ -17,7 +27,7 @@ among is h a = cond (eqb (occ a is) 0) nobody (h a)
 
 -- who holds a chain by an entry of the root at byte a
 unfoldable pub rootHolders : Kind → List ℕ → ℕ → Holder
-rootHolders k l = among (entriesOf (rootAt k) (rootEntries k)) (holderAt (clusterBytes k) l)
+rootHolders k l = among (rootList k) (holderAt (clusterBytes k) l)
 
 -- the clusters of that chain
 unfoldable pub rootChains : Kind → List ℕ → ℕ → List ℕ

@@ -11,3 +11,8 @@ pub mod Answer
 pub mod OneAnswer
 pub mod Theory
 pub mod Sound
+pub mod IsSound
+pub mod Total
+pub mod Change
+pub mod Area
+pub mod AreaAnswer

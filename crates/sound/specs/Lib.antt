@@ -8,4 +8,5 @@ pub mod Judged
 pub mod Visits
 pub mod Holders
 pub mod FromFinding
+pub mod Area
 pub mod Laws

@@ -1,15 +1,14 @@
--- Findings 5 to 7 as document 01 has them, by slot, and as the theory of chains has them, by the holders at the slots' addresses: they hold at the same places.
-use Prim.Native.Nat.{ℕ, _<_, _+_}
+-- Findings 5 to 7 as document 01 has them, by slot, and as the theory of chains has them, by the holders at the slots'
+-- addresses: they hold at the same places.
+use Prim.Native.Nat.{ℕ, _<_}
 use native.Mathlib.Omega.{arith}
-use mathlib.Core.Bool.{true, false}
 use mathlib.Core.List.{List, []}
 use mathlib.Core.Logic.{_↔_}
-use mathlib.Core.Path.{_≡_, refl, sym, ap, _∙_, subst}
+use mathlib.Core.Path.{_≡_, sym, ap, _∙_, subst}
 use Rattle.chains.specs.Holders.{Holder, Owns, nobody, fileHolder}
 use Rattle.chains.specs.Lists.{_∈_}
-use Rattle.chains.specs.Rows.{rows}
 use Rattle.chains.specs.Laws.Clusters.{owns-file, file-owns}
-use Rattle.chains.specs.Laws.Holders.{nobody-owns, owns-nobody, owns-same}
+use Rattle.chains.specs.Laws.Holders.{nobody-owns, owns-nobody}
 use Rattle.chains.specs.Laws.Rows.{rows-in, in-rows}
 use Rattle.chains.specs.Laws.Tests.{by-test, clash}
 use Rattle.diskette.specs.Kinds.{Usable}
@@ -21,13 +20,11 @@ use Rattle.directory.specs.Slots.{PlainAt, standingOf, isPlain}
 use Rattle.directory.specs.Laws.Slots.{plain-is}
 use Rattle.sound.specs.Files.{valueOf, IsFile, ChainOf}
 use Rattle.sound.specs.Findings.{BadChain, InChain, InTwoChains, Lost}
+use Rattle.sound.specs.Holders.{rootList, rootRows}
 use Rattle.sound.specs.Judged.{holderAt}
 use Rattle.sound.specs.Laws.Geometry.{geometry}
-use Rattle.sound.specs.Laws.Holders.{plain-holder, no-holder, rootList, listed-slot, slot-listed, slot-same}
+use Rattle.sound.specs.Laws.Holders.{plain-holder, no-holder, listed-slot, slot-listed, slot-same}
 use Rattle.chains.specs.Findings as Theory
-
-abbrev pub rootRows : Kind → List (ℕ × ℕ)
-rootRows k = rows (slotFrom (rootAt k)) 0 (rootEntries k)
 
 dec-plain : (l : List ℕ) (a : ℕ) → Dec (PlainAt l a)
 dec-plain l a = by-test (isPlain (standingOf l a)) (λ e. yes (plain-is l a .0 e)) (λ e. no (λ p. clash (plain-is l a .1 p) e))
@@ -103,9 +100,9 @@ module _ (k : Kind) (u : Usable k) (l : List ℕ) (h : ℕ → Holder) (at : (s 
       in-chain-to (b .1) c (b .4),
     ),
     λ b.
-      let x = listed-from (b .0) c (b .3) (b .5) in
-      let y = listed-from (b .1) c (b .4) (b .6) in
-      (x .0, y .0, λ e. b .2 (x .1 ∙ ap (slotAt k) e ∙ sym (y .1)), x .2, y .2),
+        let x = listed-from (b .0) c (b .3) (b .5) in
+        let y = listed-from (b .1) c (b .4) (b .6) in
+        (x .0, y .0, λ e. b .2 (x .1 ∙ ap (slotAt k) e ∙ sym (y .1)), x .2, y .2),
   )
 
   -- ---- finding 7

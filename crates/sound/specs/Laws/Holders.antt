@@ -1,7 +1,6 @@
 -- Who holds a chain: the plain file at an address, nobody where there is none.
 use Prim.Native.Nat.{ℕ, _<_}
 use native.Mathlib.Omega.{arith}
-use mathlib.Core.Bool.{true}
 use mathlib.Core.List.{List}
 use mathlib.Core.Path.{_≡_, refl, sym, ap, _∙_}
 use borrow.Author.Tests.{eq-eqb, ne-eqb}
@@ -11,14 +10,15 @@ use Rattle.chains.specs.Laws.Lists.{mem-occ, occ-not, dec-mem}
 use Rattle.chains.specs.Laws.Rows.{row-holder, holder-row, rows-once}
 use Rattle.diskette.specs.Places.{clusterBytes, rootEntries, rootAt, slotAt}
 use Rattle.diskette.specs.declared.Kind.{Kind}
+use Rattle.directory.specs.Entries.{SameFields}
 use Rattle.directory.specs.Fields.{startOf, sizeOf}
 use Rattle.directory.specs.Search.{slotFrom}
-use Rattle.directory.specs.Slots.{PlainAt, standingOf, isPlain}
+use Rattle.directory.specs.Slots.{PlainAt, standingOf}
 use Rattle.directory.specs.Laws.Slots.{standing-plain}
 use Rattle.directory.specs.declared.Standing.{Standing}
 use Rattle.directory.specs.declared.Standing.the-variants.{NeverUsed, Erased, Label, Plain}
-use Rattle.sound.specs.Judged.{holderBy, holderAt, entriesOf}
-use Rattle.sound.specs.Holders.{among, rootHolders}
+use Rattle.sound.specs.Judged.{holderBy, holderAt}
+use Rattle.sound.specs.Holders.{rootList, among, rootHolders}
 
 -- ---- at one address
 
@@ -47,9 +47,6 @@ module _ (is : List ℕ) (h : ℕ → Holder) (a : ℕ) where
 
 -- ---- the root's
 
-abbrev pub rootList : Kind → List ℕ
-rootList k = entriesOf (rootAt k) (rootEntries k)
-
 -- its addresses are those of its slots, each once
 pub listed-slot : (k : Kind) (a : ℕ) → a ∈ rootList k → (s : ℕ) × (s < rootEntries k) × (a ≡ slotAt k s)
 listed-slot k a m = let r = row-holder (slotFrom (rootAt k)) 0 (rootEntries k) a m in (r .0, omega (arith, r .2), r .3)
@@ -75,9 +72,18 @@ module _ (k : Kind) (l : List ℕ) where
   unfolding rootHolders
   root-nobody a n = among-out (rootList k) (holderAt (clusterBytes k) l) a n
 
--- the same holder where the slot's entry gives the same: so the replacement of one holder asks for it
-pub root-holders-as : (k : Kind) (m l : List ℕ) (a : ℕ) → ((s : ℕ) → s < rootEntries k → a ≡ slotAt k s → holderAt (clusterBytes k) m a ≡ holderAt (clusterBytes k) l a) → rootHolders k m a ≡ rootHolders k l a
+-- ---- of two volumes
+
+-- the same holder where start, size and standing are the same
+pub holder-as : (cb : ℕ) (m l : List ℕ) (a b : ℕ) → SameFields m a l b → holderAt cb m a ≡ holderAt cb l b
+holder-as cb m l a b e = ap (λ (x : ℕ). holderBy cb x (sizeOf m a) (standingOf m a)) (e .start) ∙ ap (λ (x : ℕ). holderBy cb (startOf l b) x (standingOf m a)) (e .size) ∙ ap (holderBy cb (startOf l b) (sizeOf l b)) (e .standing)
+
+-- at an address that is no slot there is nobody in either
+pub root-holders-as : (k : Kind) (m l : List ℕ) (a : ℕ) → ((s : ℕ) → s < rootEntries k → a ≡ slotAt k s → holderAt (clusterBytes k) m (slotAt k s) ≡ holderAt (clusterBytes k) l (slotAt k s)) → rootHolders k m a ≡ rootHolders k l a
 root-holders-as k m l a e = elim (dec-mem a (rootList k)) [
-  | yes i ↦ let r = listed-slot k a i in root-listed k m a i ∙ e (r .0) (r .1) (r .2) ∙ sym (root-listed k l a i)
+  | yes i ↦
+      let r = listed-slot k a i in
+      let at : (x : List ℕ) → rootHolders k x a ≡ holderAt (clusterBytes k) x (slotAt k (r .0)) = λ x. ap (rootHolders k x) (r .2) ∙ root-holder k x (r .0) (r .1) in
+      at m ∙ e (r .0) (r .1) (r .2) ∙ sym (at l)
   | no n ↦ root-nobody k m a n ∙ sym (root-nobody k l a n)
 ]

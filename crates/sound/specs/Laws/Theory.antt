@@ -1,4 +1,5 @@
--- None of the findings is sound in the sense of the theory of chains, with the holders of the root; and that is what Sound asks for, the tables and the slots being as they must.
+-- None of the findings is sound in the sense of the theory of chains, with the holders of the root; and that is what
+-- Sound asks for, the tables and the slots being as they must.
 use Prim.Native.Nat.{ℕ}
 use mathlib.Core.List.{List}
 use mathlib.Core.Path.{_≡_, subst}
@@ -6,6 +7,7 @@ use lib.Dec.{ltb}
 use Rattle.chains.specs.Holders.{Names}
 use Rattle.chains.specs.Lists.{_∈_}
 use Rattle.chains.specs.Verdict.{None}
+use Rattle.chains.specs.Laws.Check.{owns-chain-of}
 use Rattle.chains.specs.Laws.Findings.{none-sound}
 use Rattle.chains.specs.Laws.Holders.{sound-names}
 use Rattle.diskette.specs.Kinds.{Usable}
@@ -14,12 +16,12 @@ use Rattle.diskette.specs.declared.Kind.{Kind}
 use Rattle.sound.specs.Files.{valueOf, IsFile}
 use Rattle.sound.specs.Findings.{TablesDiffer, BadSlot, BadChain, InTwoChains, Lost}
 use Rattle.sound.specs.FromFinding.{NoFinding}
-use Rattle.sound.specs.Holders.{rootHolders, rootChains}
+use Rattle.sound.specs.Holders.{rootList, rootRows, rootHolders, rootChains}
 use Rattle.sound.specs.Judged.{voice}
 use Rattle.sound.specs.Sound.{SoundBy}
-use Rattle.sound.specs.Laws.Chains.{rootRows, bad-chain-as, in-two-as, lost-as, file-owns-chain, listed-from}
+use Rattle.sound.specs.Laws.Chains.{bad-chain-as, in-two-as, lost-as, file-owns-chain, listed-from}
 use Rattle.sound.specs.Laws.Geometry.{geometry}
-use Rattle.sound.specs.Laws.Holders.{rootList, root-holder, root-nobody, slot-same, slots-once}
+use Rattle.sound.specs.Laws.Holders.{root-holder, root-nobody, slot-same, slots-once}
 use Rattle.sound.specs.Laws.SamePlaces.{none-as}
 use Rattle.chains.specs.Holders as Theory
 
@@ -42,6 +44,11 @@ module _ (k : Kind) (u : Usable k) (l : List ℕ) where
     pub root-names : Names χ (rootList k)
     root-names = sound-names (geometry k u) (valueOf k l) (rootHolders k l) χ v (rootList k) (root-nobody k l) (slots-once k)
 
+    -- it is the family of the chains
+    pub chains-are : (a : ℕ) → χ a ≡ rootChains k l a
+    unfolding rootChains
+    chains-are a = owns-chain-of (geometry k u) (valueOf k l) (rootHolders k l a) (χ a) (v .owns a)
+
     -- whoever has a cluster is a file
     pub owner-file : (a c : ℕ) → c ∈ χ a → (s : ℕ) × (a ≡ slotAt k s) × IsFile k l s
     owner-file a c m = let r = listed-from k u l (rootHolders k l) (root-holder k l) a c (root-names .all a c m) (χ a, v .owns a, m) in (r .0, r .1, r .2 .0)
@@ -54,7 +61,7 @@ module _ (k : Kind) (u : Usable k) (l : List ℕ) where
       chains = λ s i. file-owns-chain k u l (rootHolders k l) (root-holder k l) s (χ (slotAt k s)) i .0 (v .owns (slotAt k s));
       apart = λ s t c i j m n. slot-same k s t (v .apart (slotAt k s) (slotAt k t) c m n);
       covered = λ c i w.
-        let o = v .cover c i w in
-        let r = owner-file (o .0) c (o .1) in
-        (r .0, r .2, subst (λ (x : ℕ). c ∈ χ x) (r .1) (o .1));
+          let o = v .cover c i w in
+          let r = owner-file (o .0) c (o .1) in
+          (r .0, r .2, subst (λ (x : ℕ). c ∈ χ x) (r .1) (o .1));
     }
