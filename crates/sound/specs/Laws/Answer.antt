@@ -5,7 +5,6 @@ use mathlib.Core.List.{List}
 use mathlib.Core.Path.{_≡_, refl}
 use lib.Dec.{ltb}
 use lib.ListN.{length}
-use Rattle.chains.specs.Verdict.{Found, first}
 use Rattle.chains.specs.Laws.Check.{found-bad-value}
 use Rattle.chains.specs.Laws.Findings.{check-chains}
 use Rattle.chains.specs.Laws.Rows.{found-bad-chain}
@@ -23,7 +22,8 @@ use Rattle.sound.specs.Files.{valueOf}
 use Rattle.sound.specs.FromFinding.{Counted, FromLost, FromTwo, FromChains, FromSlots, FromValues}
 use Rattle.sound.specs.Findings.{TablesDiffer, BadValue, BadSlot, BadChain, InTwoChains, Lost}
 use Rattle.sound.specs.Holders.{rootRows}
-use Rattle.sound.specs.Judged.{judged, judgedBy, checkOf, checkOfArea, badSlotAt, badChainSlot, holderAt, marksOfFiles, voice}
+use Rattle.sound.specs.Judged.{judged, judgedBy, checkOf, checkOfArea, badChainSlot, holderAt, marksOfFiles, voice}
+use Rattle.sound.specs.Laws.BadSlot.{found-bad-slot}
 use Rattle.sound.specs.Laws.Chains.{bad-chain-as, in-two-as, lost-as}
 use Rattle.sound.specs.Laws.Geometry.{geometry}
 use Rattle.sound.specs.Laws.Holders.{slots-once}
@@ -44,15 +44,15 @@ chains-answer k u l v =
     (or-else-as ltb _ (InTwoChains k l) (λ c. turned (in-two-as k u l h at c)) (Finding 6) (Theory.FromLost last f h (rootRows k) (voice k l)) (FromLost k l) v
     (or-else-as ltb _ (Lost k l) (λ c. turned (lost-as k u l h at c)) (Finding 7) (Counted k l) (Counted k l) v (λ e. e)))
 
-pub judged-answers : (k : Kind) (l : List ℕ) → Usable k → Found ltb (BadSlot k l) (first (badSlotAt l (rootAt k)) (rootEntries k) 0) → AnswersOf k l (judged k l)
+pub judged-answers : (k : Kind) (l : List ℕ) → Usable k → 512 * firstData k ≤ length l → AnswersOf k l (judged k l)
 unfolding judged marksOfFiles badChainSlot
-judged-answers k l u slots =
+judged-answers k l u long =
     let G = geometry k u in
     let f = valueOf k l in
     let h = holderAt (clusterBytes k) l in
     or-else ltb (TablesDiffer k l) (Finding 2) (FromValues k l) _ _ (found-difference k l) (λ n2.
     or-else ltb (BadValue k l) (Finding 3) (FromSlots k l) _ _ (found-bad-value G f) (λ n3.
-    or-else ltb (BadSlot k l) (Finding 4) (FromChains k l) _ _ slots (λ n4.
+    or-else ltb (BadSlot k l) (Finding 4) (FromChains k l) _ _ (found-bad-slot k l long) (λ n4.
     chains-answer k u l _ (check-chains ltb G f h (rootRows k) (voice k l) 4080 (omega (arith, u .below-aside)) (slots-once k) _ _ (found-bad-chain G f h (slotFrom (rootAt k)) (rootEntries k)) (λ n5. refl)))))
 
 -- ---- an image, and a system area alone
@@ -61,17 +61,13 @@ answers-by : (w : WhichKind) (l : List ℕ) → ((k : Kind) → w ≡ Known k �
 answers-by (Known k) l a = a k refl
 answers-by Unknown l a = refl
 
--- the search of the slots finds what finding 4 says
-abbrev pub SlotsSearched : List ℕ → Type 0
-SlotsSearched l = (k : Kind) → 512 * firstData k ≤ length l → Found ltb (BadSlot k l) (first (badSlotAt l (rootAt k)) (rootEntries k) 0)
-
-module _ (l : List ℕ) (slots : SlotsSearched l) where
+module _ (l : List ℕ) where
   pub check-answers : Checked l (checkOf l)
   unfolding checkOf
   check-answers = record {
     is = answers-by (kindOfImage l) l (λ k e.
         let u = image-usable l k e in
-        judged-answers k l u (slots k (image-has-area l k (image-of-kind l k .0 e) u)));
+        judged-answers k l u (image-has-area l k (image-of-kind l k .0 e) u));
   }
 
   pub area-answers : CheckedArea l (checkOfArea l)
@@ -79,5 +75,5 @@ module _ (l : List ℕ) (slots : SlotsSearched l) where
   area-answers = record {
     is = answers-by (kindOfArea l) l (λ k e.
         let u = area-usable l k e in
-        judged-answers k l u (slots k (area-of-kind l k .0 e .long)));
+        judged-answers k l u (area-of-kind l k .0 e .long));
   }

@@ -20,7 +20,7 @@ use Rattle.sound.specs.Findings.{TablesDiffer, BadValue, BadSlot, BadCha
 use Rattle.sound.specs.FromFinding.{FromLost, FromTwo, FromChains, FromSlots, FromValues, Counted, NoFinding}
 use Rattle.sound.specs.Judged.{checkOf, checkOfArea, isSound, isSoundVerdict}
 use Rattle.sound.specs.Sound.{Sound}
-use Rattle.sound.specs.Laws.Answer.{SlotsSearched, check-answers, area-answers}
+use Rattle.sound.specs.Laws.Answer.{check-answers, area-answers}
 use Rattle.sound.specs.Laws.Sound.{sound-exactly}
 use Rattle.sound.specs.declared.Verdict.{Verdict}
 use Rattle.sound.specs.declared.Verdict.the-variants.{Finding}
@@ -48,11 +48,11 @@ says-by (Known k) l v usable a =
     says-map (λ n. (k, refl, sound-exactly k (usable k refl) l .1 n)) (λ r. let e : r .0 ≡ k = cc (r .1) in sound-exactly k (usable k refl) l .0 (subst (λ (x : Kind). Sound x l) e (r .2))) (says-no-finding k l v a)
 says-by Unknown l v usable a = nay (ap isSoundVerdict a) (λ r. let z : _≡_ {A = ℕ} 0 1 = cc (r .1) in omega arith)
 
-module _ (l : List ℕ) (slots : SlotsSearched l) where
+module _ (l : List ℕ) where
   pub says-sound : Says (isSound l) ((k : Kind) × OfKind l k × Sound k l)
   unfolding isSound
   says-sound = says-map (λ r. (r .0, image-of-kind l (r .0) .0 (r .1), r .2)) (λ r. (r .0, image-of-kind l (r .0) .1 (r .1), r .2))
-      (says-by (kindOfImage l) l (checkOf l) (image-usable l) (check-answers l slots .is))
+      (says-by (kindOfImage l) l (checkOf l) (image-usable l) (check-answers l .is))
 
   -- in the form of the calls' need: the kind is known already
   pub known-says : (k : Kind) → kindOfImage l ≡ Known k → Says (isSound l) (Sound k l)
@@ -70,4 +70,4 @@ module _ (l : List ℕ) (slots : SlotsSearched l) where
   -- check on a system area alone answers sound exactly where its volume is
   pub says-area-sound : Says (isSoundVerdict (checkOfArea l)) ((k : Kind) × AreaOf l k × Sound k l)
   says-area-sound = says-map (λ r. (r .0, area-of-kind l (r .0) .0 (r .1), r .2)) (λ r. (r .0, area-of-kind l (r .0) .1 (r .1), r .2))
-      (says-by (kindOfArea l) l (checkOfArea l) (area-usable l) (area-answers l slots .is))
+      (says-by (kindOfArea l) l (checkOfArea l) (area-usable l) (area-answers l .is))

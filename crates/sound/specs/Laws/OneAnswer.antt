@@ -12,7 +12,7 @@ use Rattle.sound.specs.Answer.{AnswersOf, AnswersBy, Checked, CheckedAre
 use Rattle.sound.specs.Findings.{TablesDiffer, BadValue, BadSlot, BadChain, InTwoChains, Lost}
 use Rattle.sound.specs.FromFinding.{Counted, FromLost, FromTwo, FromChains, FromSlots, FromValues}
 use Rattle.sound.specs.Judged.{checkOf, checkOfArea}
-use Rattle.sound.specs.Laws.Answer.{SlotsSearched, check-answers, area-answers}
+use Rattle.sound.specs.Laws.Answer.{check-answers, area-answers}
 use Rattle.sound.specs.declared.Verdict.{Verdict}
 use Rattle.sound.specs.declared.Verdict.the-variants.{Finding}
 
@@ -36,9 +36,9 @@ pub area-only : {area : List ℕ} {v w : Verdict} → CheckedArea area v → Che
 area-only {area} {v} {w} x y = only-by (kindOfArea area) area v w (x .is) (y .is)
 
 -- so it is what is computed
-module _ {l : List ℕ} (slots : SlotsSearched l) {v : Verdict} where
+module _ {l : List ℕ} {v : Verdict} where
   pub checked-is : Checked l v → v ≡ checkOf l
-  checked-is x = checked-only x (check-answers l slots)
+  checked-is x = checked-only x (check-answers l)
 
   pub area-is : CheckedArea l v → v ≡ checkOfArea l
-  area-is x = area-only x (area-answers l slots)
+  area-is x = area-only x (area-answers l)
