@@ -6,3 +6,4 @@ pub mod Counts
 pub mod Answer
 pub mod Judged
 pub mod Visits
+pub mod Laws

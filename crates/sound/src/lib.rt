@@ -26,3 +26,10 @@ pub enum Chains {
     BadChain(usize),
     Held(usize, usize),
 }
+
+// What a slot of a directory holds: no file, one with a bad chain, or one with that many clusters.
+pub enum Slot {
+    NoFile,
+    Bad,
+    Clusters(usize),
+}

@@ -1,0 +1,4 @@
+-- The laws of the definitions beside this folder.
+pub mod Meanings
+pub mod WalkTurns
+pub mod MarkTurns
