@@ -2,3 +2,5 @@
 pub mod Meanings
 pub mod WalkTurns
 pub mod MarkTurns
+pub mod Visits
+pub mod SlotTurns
