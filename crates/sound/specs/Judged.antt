@@ -9,7 +9,7 @@ use Rattle.chains.specs.Verdict.{first, orElse}
 use Rattle.chains.specs.Holders.{Holder, nobody, fileHolder}
 use Rattle.chains.specs.Findings.{Voice, holdersOf}
 use Rattle.chains.specs.Lists.{joined}
-use Rattle.chains.specs.Check.{ownsb, chainOf, chainMarks, badValue, checkChains}
+use Rattle.chains.specs.Check.{ownsb, chainOf, chainMarks, badValue, inTwo, lost, checkChains}
 use Rattle.chains.specs.Rows.{rows}
 use Rattle.diskette.specs.Images.{kindOfImage, kindOfArea}
 use Rattle.diskette.specs.Places.{clusterBytes, lastCluster, rootEntries, rootAt, copyTwo}
@@ -119,6 +119,16 @@ voice k l = record {
   lost = Finding 7;
   fine = Sound (fileCount k l) (freeOf k l) (heldOf k l) (asideOf k l);
 }
+
+-- ---- findings 6 and 7 by the marks m, and 5 to 7 together, as the code goes
+
+unfoldable pub marksJudged : ℕ → (ℕ → ℕ) → List ℕ → Verdict → Verdict
+marksJudged last f m fine = orElse (Finding 6) (first (inTwo m) (last - 1) 2) (orElse (Finding 7) (first (lost last f m) (last - 1) 2) fine)
+
+unfoldable pub chainsJudged : Kind → List ℕ → ℕ → ℕ → Verdict
+chainsJudged k l free aside =
+    orElse (Finding 5) (first (badChainSlot (lastCluster k) (clusterBytes k) l (rootAt k)) (rootEntries k) 0)
+    (marksJudged (lastCluster k) (valueOf k l) (marksOfFiles k l) (Sound (fileCount k l) free (heldOf k l) aside))
 
 -- ---- the answer
 

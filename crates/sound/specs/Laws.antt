@@ -16,3 +16,8 @@ pub mod Total
 pub mod Change
 pub mod Area
 pub mod AreaAnswer
+pub mod Meanings
+pub mod WalkTurns
+pub mod MarkTurns
+pub mod Visits
+pub mod SlotTurns

@@ -1,6 +1,6 @@
 -- An aid to the proofs: what the loops of check find on their way, two things in one pass.
-use Prim.Native.Nat.{ℕ, zero, suc, _+_, _-_}
-use mathlib.Core.Bool.{cond}
+use Prim.Native.Nat.{ℕ, zero, suc, _+_, _-_, _<_}
+use mathlib.Core.Bool.{Bool, true, false, cond}
 use mathlib.Core.List.{List}
 use mathlib.Core.Option.{Option, none, some}
 use mathlib.Core.Path.{_≡_}
@@ -8,20 +8,20 @@ use lib.Dec.{eqb}
 use Rattle.chains.specs.Marks.{mark, marks}
 use Rattle.chains.specs.Sums.{sum, tally}
 use Rattle.chains.specs.Values.{endb, linkb, freeCount, asideCount}
-use Rattle.chains.specs.Verdict.{first, orElse}
-use Rattle.chains.specs.Check.{badValue, inTwo, lost}
-use Rattle.diskette.specs.Places.{clusterBytes, lastCluster, rootEntries, rootAt}
-use Rattle.diskette.specs.declared.Kind.{Kind}
+use Rattle.chains.specs.Verdict.{first}
+use Rattle.chains.specs.Check.{badValue, chainOf, ownsb}
+use Rattle.chains.specs.Sizes.{clustersFor}
 use Rattle.table.specs.Entries.{tableOf}
-use Rattle.sound.specs.Files.{valueOf}
-use Rattle.sound.specs.Counts.{plainSlot, heldBy, fileCount, heldOf}
-use Rattle.sound.specs.Judged.{badChainSlot, chainsOf, marksOfFiles}
-use Rattle.sound.specs.declared.Verdict.{Verdict}
-use Rattle.sound.specs.declared.Verdict.the-variants.{Sound, Finding}
+use Rattle.directory.specs.Fields.{sizeOf}
+use Rattle.directory.specs.Slots.{standingOf, isPlain}
+use Rattle.sound.specs.Counts.{plainSlot, heldBy}
+use Rattle.sound.specs.Judged.{holderAt, badChainSlot, chainsOf}
 use Rattle.sound.specs.declared.Census.{Census}
 use Rattle.sound.specs.declared.Census.the-variants.{BadValue, Values}
 use Rattle.sound.specs.declared.Length.{Length}
 use Rattle.sound.specs.declared.Length.the-variants.{Of, NoEnd}
+use Rattle.sound.specs.declared.Slot.{Slot}
+use Rattle.sound.specs.declared.Slot.the-variants.{NoFile, Bad, Clusters}
 use Rattle.sound.specs.declared.Chains.{Chains}
 use Rattle.sound.specs.declared.Chains.the-variants.{BadChain, Held}
 
@@ -36,6 +36,12 @@ censusOf last l =
     let f = tableOf last l in
     censusBy (first (badValue last f) (last - 1) 2) (freeCount last f) (asideCount last f)
 
+-- ---- the value of cluster c, which has 12 bits
+
+pub record ValueIs (last : ℕ) (l : List ℕ) (c r : ℕ) : Type 0 where
+  pub is : r ≡ tableOf last l c
+  pub small : r < 4096
+
 -- ---- a walk to a chain's end that marks the clusters it meets
 
 pub record Visit : Type 0 where
@@ -45,15 +51,17 @@ pub record Visit : Type 0 where
 abbrev pub visit : Option ℕ → List ℕ → Visit
 visit n m = record { many = n; marked = m }
 
--- n clusters were met and marked, v is the value of the last of them, k more steps may be made
+-- n clusters were met and marked, c is the next of them, k more may be met
 unfoldable pub visitFrom : ℕ → (ℕ → ℕ) → ℕ → ℕ → ℕ → List ℕ → Visit
-visitFrom last f zero n v m = visit none m
-visitFrom last f (suc k) n v m =
-    cond (endb v) (visit (some n) m) (cond (linkb last v) (visitFrom last f k (n + 1) (f v) (mark m v)) (visit none m))
+visitFrom last f zero n c m = visit none m
+visitFrom last f (suc k) n c m =
+    cond (endb (f c)) (visit (some (n + 1)) (mark m c))
+    (cond (linkb last (f c)) (visitFrom last f k (n + 1) (f c) (mark m c))
+    (visit none (mark m c)))
 
 unfoldable pub visitOf : ℕ → (ℕ → ℕ) → ℕ → List ℕ → Visit
 visitOf last f c m =
-    cond (eqb c 0) (visit (some 0) m) (cond (linkb last c) (visitFrom last f last 1 (f c) (mark m c)) (visit none m))
+    cond (eqb c 0) (visit (some 0) m) (cond (linkb last c) (visitFrom last f last 0 c m) (visit none m))
 
 abbrev pub lengthSaid : Length → Option ℕ
 lengthSaid (Of n) = some n
@@ -62,6 +70,31 @@ lengthSaid NoEnd = none
 -- what the code's walk promises: its answer r, and the marks after
 pub record Visited (last : ℕ) (f : ℕ → ℕ) (c : ℕ) (m : List ℕ) (r : Length) (after : List ℕ) : Type 0 where
   pub is : visit (lengthSaid r) after ≡ visitOf last f c m
+
+-- ---- the entry at byte a: no file, one with a bad chain, or the number of its clusters
+
+abbrev pub slotBy : Bool → Bool → ℕ → Slot
+slotBy false owns n = NoFile
+slotBy true false n = Bad
+slotBy true true n = Clusters n
+
+unfoldable pub slotFound : ℕ → ℕ → List ℕ → ℕ → Slot
+slotFound last cb l a =
+    slotBy (isPlain (standingOf l a)) (ownsb last (tableOf last l) (holderAt cb l a)) (clustersFor cb (sizeOf l a))
+
+-- the chain that is marked: none where there is no file
+unfoldable pub chainAt : ℕ → ℕ → List ℕ → ℕ → List ℕ
+chainAt last cb l a = chainOf last (tableOf last l) (holderAt cb l a)
+
+abbrev pub marksUnlessBad : Slot → List ℕ → List ℕ → Type 0
+marksUnlessBad NoFile after all = after ≡ all
+marksUnlessBad Bad after all = Unit
+marksUnlessBad (Clusters n) after all = after ≡ all
+
+-- what the code promises of one slot: its answer r, and unless the chain is bad its marks
+pub record SlotVisited (last cb : ℕ) (l : List ℕ) (a : ℕ) (m : List ℕ) (r : Slot) (after : List ℕ) : Type 0 where
+  pub is : r ≡ slotFound last cb l a
+  pub marks-are : marksUnlessBad r after (marks m (chainAt last cb l a))
 
 -- ---- all files of a directory: the lowest with a bad chain, or how many files there are and what they hold
 
@@ -81,13 +114,3 @@ marksIf (BadChain s) after all = Unit
 pub record FilesVisited (last cb : ℕ) (l : List ℕ) (root count : ℕ) (m : List ℕ) (r : Chains) (after : List ℕ) : Type 0 where
   pub is : r ≡ chainsFound last cb l root count
   pub marks-are : marksIf r after (marks m (chainsOf last cb l root count))
-
--- ---- findings 6 and 7 by the marks m, and 5 to 7 together
-
-unfoldable pub marksJudged : ℕ → (ℕ → ℕ) → List ℕ → Verdict → Verdict
-marksJudged last f m fine = orElse (Finding 6) (first (inTwo m) (last - 1) 2) (orElse (Finding 7) (first (lost last f m) (last - 1) 2) fine)
-
-unfoldable pub chainsJudged : Kind → List ℕ → ℕ → ℕ → Verdict
-chainsJudged k l free aside =
-    orElse (Finding 5) (first (badChainSlot (lastCluster k) (clusterBytes k) l (rootAt k)) (rootEntries k) 0)
-    (marksJudged (lastCluster k) (valueOf k l) (marksOfFiles k l) (Sound (fileCount k l) free (heldOf k l) aside))

@@ -13,8 +13,7 @@ ghost use Rattle.diskette.specs.Kinds.{Usable};
 ghost use Rattle.diskette.specs.Places.{firstData};
 ghost use Rattle.table.specs.Entries.{wordAt, tableOf};
 ghost use Rattle.sound.specs.Answer.{Checked, CheckedArea};
-ghost use Rattle.sound.specs.Judged.{judged, judgedBy};
-ghost use Rattle.sound.specs.Visits.{marksJudged, chainsJudged};
+ghost use Rattle.sound.specs.Judged.{marksJudged, chainsJudged, judged};
 
 // What check answers: sound with the counts files, free, held, aside; or a finding and its place.
 pub enum Verdict {
@@ -39,6 +38,12 @@ pub enum Chains {
     BadChain(usize),
     Held(usize, usize),
 }
+
+// What a slot of a directory holds: no file, one with a bad chain, or one with that many clusters.
+pub enum Slot {
+    NoFile,
+    Bad,
+    Clusters(usize),
 
 // Findings 6 and 7, by the marks of all chains; fine where there is none.
 fn judge_marks(img: &[u8], marks: &[u8], last: usize, fine: Verdict) -> Verdict
