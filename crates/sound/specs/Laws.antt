@@ -21,3 +21,4 @@ pub mod WalkTurns
 pub mod MarkTurns
 pub mod Visits
 pub mod SlotTurns
+pub mod Judged

@@ -1,6 +1,6 @@
 // Check: whether a volume is sound, and if not, what is wrong with it and where.
-pub mod tables;
 pub mod slots;
+pub mod tables;
 pub mod visits;
 
 use diskette::Kind;
@@ -44,6 +44,7 @@ pub enum Slot {
     NoFile,
     Bad,
     Clusters(usize),
+}
 
 // Findings 6 and 7, by the marks of all chains; fine where there is none.
 fn judge_marks(img: &[u8], marks: &[u8], last: usize, fine: Verdict) -> Verdict

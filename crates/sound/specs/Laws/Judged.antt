@@ -1,0 +1,111 @@
+-- The answer put together, in the form of the code's needs: r is what a search answered.
+use Prim.Native.Nat.{ℕ, _-_, _*_}
+use mathlib.Core.List.{List}
+use mathlib.Core.Option.{Option, none, some}
+use mathlib.Core.Path.{_≡_, refl, sym, _∙_, ap}
+use Rattle.chains.specs.Verdict.{first, orElse}
+use Rattle.chains.specs.Check.{badValue, inTwo, lost, checkLost, checkTwo, checkChains}
+use Rattle.search.specs.Laws.Theory.{optional}
+use Rattle.search.specs.declared.Found.{Found}
+use Rattle.search.specs.declared.Found.the-variants.{At, Nothing}
+use Rattle.diskette.specs.Places.{clusterBytes, lastCluster, rootEntries, rootAt, copyTwo}
+use Rattle.diskette.specs.declared.Kind.{Kind}
+use Rattle.table.specs.Entries.{tableOf}
+use Rattle.sound.specs.Files.{valueOf}
+use Rattle.sound.specs.Counts.{fileCount, freeOf, heldOf, asideOf}
+use Rattle.sound.specs.Judged.{differsAt, badSlotAt, badChainSlot, marksOfFiles, voice, marksJudged, chainsJudged, judged}
+use Rattle.sound.specs.Visits.{censusBy, censusOf, chainsBy, chainsFound}
+use Rattle.sound.specs.declared.Verdict.{Verdict}
+use Rattle.sound.specs.declared.Verdict.the-variants.{Sound, Finding}
+use Rattle.sound.specs.declared.Census.{Census}
+use Rattle.sound.specs.declared.Census.the-variants.{BadValue, Values}
+use Rattle.sound.specs.declared.Chains.{Chains}
+use Rattle.sound.specs.declared.Chains.the-variants.{BadChain, Held}
+
+-- ---- one finding in front of the rest
+
+found-says : (say : ℕ → Verdict) (o : Option ℕ) (rest : Verdict) (r : Found) (p : ℕ) → optional r ≡ o → r ≡ At p → say p ≡ orElse say o rest
+unfolding orElse
+found-says say o rest r p e q = rw (← e, q)
+
+nothing-says : (say : ℕ → Verdict) (o : Option ℕ) (rest : Verdict) (r : Found) → optional r ≡ o → r ≡ Nothing → rest ≡ orElse say o rest
+unfolding orElse
+nothing-says say o rest r e q = rw (← e, q)
+
+-- ---- findings 6 and 7
+
+module _ (last : ℕ) (f : ℕ → ℕ) (m : List ℕ) (fine : Verdict) (r : Found) (e : optional r ≡ first (inTwo m) (last - 1) 2) where
+  pub marks-two : (c : ℕ) → r ≡ At c → Finding 6 c ≡ marksJudged last f m fine
+  unfolding marksJudged
+  marks-two c q = found-says (Finding 6) _ _ r c e q
+
+  module _ (q : r ≡ Nothing) (s : Found) (g : optional s ≡ first (lost last f m) (last - 1) 2) where
+    pub marks-lost : (c : ℕ) → s ≡ At c → Finding 7 c ≡ marksJudged last f m fine
+    unfolding marksJudged
+    marks-lost c p = found-says (Finding 7) _ fine s c g p ∙ nothing-says (Finding 6) _ _ r e q
+
+    pub marks-fine : s ≡ Nothing → fine ≡ marksJudged last f m fine
+    unfolding marksJudged
+    marks-fine p = nothing-says (Finding 7) _ fine s g p ∙ nothing-says (Finding 6) _ _ r e q
+
+-- ---- findings 5 to 7
+
+chains-say : (o : Option ℕ) (files held : ℕ) (r : Chains) → r ≡ chainsBy o files held → (rest : ℕ → ℕ → Verdict) → (elim r as (λ _. Verdict) [ BadChain s ↦ Finding 5 s | Held a b ↦ rest a b ]) ≡ orElse (Finding 5) o (rest files held)
+unfolding orElse
+chains-say none files held r e rest = rw e
+chains-say (some s) files held r e rest = rw e
+
+module _ (k : Kind) (l : List ℕ) (free aside : ℕ) (r : Chains) (e : r ≡ chainsFound (lastCluster k) (clusterBytes k) l (rootAt k) (rootEntries k)) where
+  said : (elim r as (λ _. Verdict) [ BadChain s ↦ Finding 5 s | Held a b ↦ marksJudged (lastCluster k) (valueOf k l) (marksOfFiles k l) (Sound a free b aside) ]) ≡ chainsJudged k l free aside
+  unfolding chainsFound chainsJudged
+  said = chains-say _ _ _ r e (λ a b. marksJudged (lastCluster k) (valueOf k l) (marksOfFiles k l) (Sound a free b aside))
+
+  pub chains-bad : (s : ℕ) → r ≡ BadChain s → Finding 5 s ≡ chainsJudged k l free aside
+  chains-bad s q = rw q at said
+
+  pub chains-good : (files held : ℕ) (m : List ℕ) (v : Verdict) → r ≡ Held files held → m ≡ marksOfFiles k l → v ≡ marksJudged (lastCluster k) (valueOf k l) m (Sound files free held aside) → v ≡ chainsJudged k l free aside
+  chains-good files held m v q p g = (rw p at g) ∙ (rw q at said)
+
+-- ---- all of them
+
+census-says : (o : Option ℕ) (free aside : ℕ) (r : Census) → r ≡ censusBy o free aside → (rest : ℕ → ℕ → Verdict) → (elim r as (λ _. Verdict) [ BadValue c ↦ Finding 3 c | Values a b ↦ rest a b ]) ≡ orElse (Finding 3) o (rest free aside)
+unfolding orElse
+census-says none free aside r e rest = rw e
+census-says (some c) free aside r e rest = rw e
+
+module _ (k : Kind) (l : List ℕ) where
+  -- findings 5 to 7 as the theory of chains has them
+  chains-as : chainsJudged k l (freeOf k l) (asideOf k l) ≡ checkChains (lastCluster k) (valueOf k l) (marksOfFiles k l) (voice k l) (first (badChainSlot (lastCluster k) (clusterBytes k) l (rootAt k)) (rootEntries k) 0)
+  unfolding chainsJudged marksJudged checkChains checkTwo checkLost
+  chains-as = refl
+
+  from-slots : ℕ → ℕ → Verdict
+  from-slots free aside = orElse (Finding 4) (first (badSlotAt l (rootAt k)) (rootEntries k) 0) (chainsJudged k l free aside)
+
+  judged-as : judged k l ≡ orElse (Finding 2) (first (differsAt (copyTwo k) l) (512 * k .fat) 0) (orElse (Finding 3) (first (badValue (lastCluster k) (valueOf k l)) (lastCluster k - 1) 2) (from-slots (freeOf k l) (asideOf k l)))
+  unfolding judged from-slots
+  judged-as = rw chains-as
+
+  module _ (r : Found) (e : optional r ≡ first (differsAt (copyTwo k) l) (512 * k .fat) 0) where
+    pub judged-tables : (j : ℕ) → r ≡ At j → Finding 2 j ≡ judged k l
+    judged-tables j q = found-says (Finding 2) _ _ r j e q ∙ sym judged-as
+
+    module _ (q : r ≡ Nothing) (s : Census) (g : s ≡ censusOf (lastCluster k) l) where
+      after-tables : (elim s as (λ _. Verdict) [ BadValue c ↦ Finding 3 c | Values a b ↦ from-slots a b ]) ≡ judged k l
+      unfolding censusOf
+      after-tables = census-says _ _ _ s g from-slots ∙ nothing-says (Finding 2) _ _ r e q ∙ sym judged-as
+
+      pub judged-values : (c : ℕ) → s ≡ BadValue c → Finding 3 c ≡ judged k l
+      judged-values c p = rw p at after-tables
+
+      module _ (free aside : ℕ) (p : s ≡ Values free aside) (t : Found) (h : optional t ≡ first (badSlotAt l (rootAt k)) (rootEntries k) 0) where
+        after-values : from-slots free aside ≡ judged k l
+        after-values = rw p at after-tables
+
+        pub judged-slots : (n : ℕ) → t ≡ At n → Finding 4 n ≡ judged k l
+        unfolding from-slots
+        judged-slots n o = found-says (Finding 4) _ _ t n h o ∙ after-values
+
+        pub judged-chains : (v : Verdict) → t ≡ Nothing → v ≡ chainsJudged k l free aside → v ≡ judged k l
+        unfolding from-slots
+        judged-chains v o w = w ∙ nothing-says (Finding 4) _ _ t h o ∙ after-values
