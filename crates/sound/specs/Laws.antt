@@ -4,3 +4,4 @@ pub mod WalkTurns
 pub mod MarkTurns
 pub mod Visits
 pub mod SlotTurns
+pub mod FileTurns
