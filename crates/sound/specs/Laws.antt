@@ -5,3 +5,4 @@ pub mod MarkTurns
 pub mod Visits
 pub mod SlotTurns
 pub mod FileTurns
+pub mod Visited
