@@ -96,7 +96,14 @@ fn visit_slot(img: &[u8], marks: &mut [u8], a: usize, last: usize, cb: usize) ->
 }
 
 // Visits the files of a directory with count slots that stands at byte root, in slot order, up to the first bad one.
-pub fn visit_files(img: &[u8], marks: &mut [u8], root: usize, count: usize, last: usize, cb: usize) -> Chains
+pub fn visit_files(
+    img: &[u8],
+    marks: &mut [u8],
+    root: usize,
+    count: usize,
+    last: usize,
+    cb: usize,
+) -> Chains
     requires { ⌜ last ≤ 4079 ⌝ }
     requires { ⌜ wordAt 512 last + 2 ≤ length (now img) ⌝ }
     requires { ⌜ last < length (now marks) ⌝ }

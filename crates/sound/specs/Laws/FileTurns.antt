@@ -10,7 +10,6 @@ use mir.Val.{Fits}
 use Rattle.chains.specs.Check.{ownsb}
 use Rattle.chains.specs.Holders.{nobody}
 use Rattle.chains.specs.Marks.{marks}
-use Rattle.chains.specs.Rows.{rows}
 use Rattle.chains.specs.Sizes.{Geometry, clustersFor}
 use Rattle.chains.specs.Sums.{sum, tally}
 use Rattle.chains.specs.Verdict.{first}
@@ -28,7 +27,7 @@ use Rattle.directory.specs.Fields.{startOf, sizeOf}
 use Rattle.directory.specs.Search.{slotFrom}
 use Rattle.directory.specs.Slots.{standingOf, isPlain}
 use Rattle.sound.specs.Counts.{plainSlot, heldBy}
-use Rattle.sound.specs.Judged.{holderAt, badChainSlot, chainsOf, entriesOf}
+use Rattle.sound.specs.Judged.{holderAt, badChainSlot, chainsOf}
 use Rattle.sound.specs.Visits.{chainsFound, slotBy, slotFound, chainAt, marksUnlessBad, SlotVisited, Underway, FilesVisited}
 use Rattle.sound.specs.Laws.SlotTurns.{holder-none, holder-file}
 use Rattle.sound.specs.declared.Slot.{Slot}
@@ -175,9 +174,9 @@ module _ (last cb : ℕ) (l : List ℕ) (root count : ℕ) (m₀ : List ℕ) (s 
       none-bad = first-miss (badChainSlot last cb l root) count s (first (badChainSlot last cb l root) count 0) h (bad-said last cb l root s low wide g (v .is) ∙ b) (u .none-bad);
       files-are = w;
       held-is =
-        let e : s + 1 ≡ suc s = omega arith in
-        let q : sum (suc s) (heldBy cb l root) ≡ sum s (heldBy cb l root) + heldBy cb l root s = unfold sum in refl in
-        rw e (omega (arith, z, q, u .held-is, held-said last cb l root s low wide g (v .is) b));
+          let e : s + 1 ≡ suc s = omega arith in
+          let q : sum (suc s) (heldBy cb l root) ≡ sum s (heldBy cb l root) + heldBy cb l root s = unfold sum in refl in
+          rw e (omega (arith, z, q, u .held-is, held-said last cb l root s low wide g (v .is) b));
       marks-are = marks-turn (chainAt last cb l) (slotFrom root) count s m m′ (marks m₀ (chainsOf last cb l root count)) h x (u .marks-are);
     }
 

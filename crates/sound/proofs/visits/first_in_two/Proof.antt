@@ -5,7 +5,8 @@ use mathlib.Core.Path.{_≡_}
 use Rattle.chains.specs.Check.{inTwo}
 use Rattle.chains.specs.Verdict.{first}
 use Rattle.chains.specs.Laws.SearchTurns.{clusters-start}
-use Rattle.sound.specs.Laws.MarkTurns.{search-done, two-hit, two-miss}
+use Rattle.sound.specs.Laws.MarkTurns.{two-hit, two-miss}
+use Rattle.sound.specs.Laws.Searches.{search-done}
 use Rattle.sound.proofs.visits.first_in_two.Statement.{statement}
 use Rattle.sound.proofs.visits.first_in_two.Tie as tie
 
