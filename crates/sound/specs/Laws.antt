@@ -16,9 +16,12 @@ pub mod Total
 pub mod Change
 pub mod Area
 pub mod AreaAnswer
+pub mod Searches
 pub mod Meanings
-pub mod WalkTurns
 pub mod MarkTurns
+pub mod WalkTurns
 pub mod Visits
 pub mod SlotTurns
 pub mod Judged
+pub mod FileTurns
+pub mod Visited

@@ -1,11 +1,15 @@
 -- An aid to the proofs: what the loops of check find on their way, two things in one pass.
-use Prim.Native.Nat.{ℕ, zero, suc, _+_, _-_, _<_}
+use Prim.Native.Nat.{ℕ, zero, suc, _+_, _*_, _-_, _≤_, _<_}
 use mathlib.Core.Bool.{Bool, true, false, cond}
 use mathlib.Core.List.{List}
 use mathlib.Core.Option.{Option, none, some}
 use mathlib.Core.Path.{_≡_}
 use lib.Dec.{eqb}
+use lib.ListN.{length}
+use Rattle.chains.specs.Findings.{holdersOf}
+use Rattle.chains.specs.Lists.{joined}
 use Rattle.chains.specs.Marks.{mark, marks}
+use Rattle.chains.specs.Rows.{rows}
 use Rattle.chains.specs.Sums.{sum, tally}
 use Rattle.chains.specs.Values.{endb, linkb, freeCount, asideCount}
 use Rattle.chains.specs.Verdict.{first}
@@ -14,6 +18,7 @@ use Rattle.chains.specs.Sizes.{clustersFor}
 use Rattle.table.specs.Entries.{tableOf}
 use Rattle.directory.specs.Fields.{sizeOf}
 use Rattle.directory.specs.Slots.{standingOf, isPlain}
+use Rattle.directory.specs.Search.{slotFrom}
 use Rattle.sound.specs.Counts.{plainSlot, heldBy}
 use Rattle.sound.specs.Judged.{holderAt, badChainSlot, chainsOf}
 use Rattle.sound.specs.declared.Census.{Census}
@@ -109,6 +114,17 @@ chainsFound last cb l root count =
 abbrev pub marksIf : Chains → List ℕ → List ℕ → Type 0
 marksIf (Held files held) after all = after ≡ all
 marksIf (BadChain s) after all = Unit
+
+-- where the loop over the slots stands: those before s have files and held, no bad chain, and the marks m
+pub record Underway (last cb : ℕ) (l : List ℕ) (root count : ℕ) (m₀ : List ℕ) (s files held : ℕ) (m : List ℕ) : Type 0 where
+  pub within : s ≤ count
+  pub long : length m ≡ length m₀
+  pub few : files ≤ s
+  pub bounded : held ≤ 4096 * s
+  pub none-bad : first (badChainSlot last cb l root) (count - s) s ≡ first (badChainSlot last cb l root) count 0
+  pub files-are : files + tally (plainSlot l root) (count - s) s ≡ tally (plainSlot l root) count 0
+  pub held-is : held ≡ sum s (heldBy cb l root)
+  pub marks-are : marks m (joined (chainAt last cb l) (holdersOf (rows (slotFrom root) s (count - s)))) ≡ marks m₀ (chainsOf last cb l root count)
 
 -- what the code's loop promises: its answer r, and where no chain is bad the marks of all chains
 pub record FilesVisited (last cb : ℕ) (l : List ℕ) (root count : ℕ) (m : List ℕ) (r : Chains) (after : List ℕ) : Type 0 where

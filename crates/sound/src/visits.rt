@@ -135,12 +135,12 @@ pub fn first_in_two(marks: &[u8], last: usize) -> Found
     ensures { λ r. ⌜ optional r ≡ first (inTwo (now (marks .entry))) (last - 1) 2 ⌝ }
 {
     let after = last + 1;
-    let mut c: usize = 2;
-    while c < after {
-        if marks[c] == 2 {
-            return Found::At(c);
+    let mut twice: usize = 2;
+    while twice < after {
+        if marks[twice] == 2 {
+            return Found::At(twice);
         }
-        c += 1;
+        twice += 1;
     }
     Found::Nothing
 }

@@ -1,53 +1,36 @@
--- The searches over the marks, turn by turn: they stand at cluster c.
+-- The searches over the marks: finding 6 and finding 7 at cluster c.
 use Prim.Native.Nat.{ℕ, _+_, _-_, _≤_, _<_}
-use native.Mathlib.Omega.{arith}
 use mathlib.Core.Bool.{Bool, true, false, _&&_, _||_}
 use mathlib.Core.List.{List}
 use mathlib.Core.Logic.{_≢_}
 use mathlib.Core.Option.{Option}
 use mathlib.Core.Path.{_≡_, refl, sym, ap, _∙_}
-use lib.Dec.{eqb}
 use lib.ListN.{getD}
 use borrow.Author.Tests.{eq-eqb, ne-eqb}
 use Rattle.chains.specs.Check.{inTwo, lost}
 use Rattle.chains.specs.Values.{endb, linkb}
 use Rattle.chains.specs.Verdict.{first}
-use Rattle.chains.specs.Laws.SearchTurns.{first-hit, first-miss, first-end}
 use Rattle.search.specs.Laws.Theory.{optional}
-use Rattle.search.specs.declared.Found.the-variants.{At, Nothing}
+use Rattle.search.specs.declared.Found.the-variants.{At}
 use Rattle.table.specs.Entries.{tableOf}
 use Rattle.table.specs.Values.{meaningOf}
 use Rattle.table.specs.declared.Meaning.{Meaning}
 use Rattle.table.specs.declared.Meaning.the-variants.{Free, Next, Aside, End, NoneOfThese}
+use Rattle.sound.specs.Laws.Searches.{search-hit, search-miss}
 use Rattle.sound.specs.Laws.Meanings.{isEnd, isNext, end-said, link-said}
-
--- ---- any search for the lowest
-
-module _ (t : ℕ → Bool) (end c : ℕ) (whole : Option ℕ) (inv : first t (end - c) c ≡ whole) where
-  pub search-done : end ≤ c → optional Nothing ≡ whole
-  search-done h = first-end t end c whole h inv
 
 -- ---- finding 6
 
 module _ (m : List ℕ) (end c : ℕ) (whole : Option ℕ) (inv : first (inTwo m) (end - c) c ≡ whole) (h : c < end) where
   pub two-hit : getD m c 0 ≡ 2 → optional (At c) ≡ whole
   unfolding inTwo
-  two-hit e = first-hit (inTwo m) end c whole h (eq-eqb (getD m c 0) 2 e) inv
+  two-hit e = search-hit (inTwo m) end c whole inv true h (sym (eq-eqb (getD m c 0) 2 e)) refl
 
   pub two-miss : getD m c 0 ≢ 2 → first (inTwo m) (end - (c + 1)) (c + 1) ≡ whole
   unfolding inTwo
-  two-miss d = first-miss (inTwo m) end c whole h (ne-eqb (getD m c 0) 2 d) inv
+  two-miss d = search-miss (inTwo m) end c whole inv false h (sym (ne-eqb (getD m c 0) 2 d)) refl
 
--- ---- finding 7: b is what the test answered
-
-module _ (last : ℕ) (l m : List ℕ) (end c : ℕ) (whole : Option ℕ) (inv : first (lost last (tableOf last l) m) (end - c) c ≡ whole) (h : c < end) (b : Bool) (t : b ≡ lost last (tableOf last l) m c) where
-  pub lost-hit : b ≡ true → optional (At c) ≡ whole
-  lost-hit y = first-hit (lost last (tableOf last l) m) end c whole h (sym t ∙ y) inv
-
-  pub lost-miss : b ≡ false → first (lost last (tableOf last l) m) (end - (c + 1)) (c + 1) ≡ whole
-  lost-miss y = first-miss (lost last (tableOf last l) m) end c whole h (sym t ∙ y) inv
-
--- ---- one cluster of finding 7: v is its value, g what that means
+-- ---- finding 7, at one cluster: v is its value, g what that means
 
 module _ (last : ℕ) (l m : List ℕ) (c : ℕ) where
   pub met-before : getD m c 0 ≢ 0 → false ≡ lost last (tableOf last l) m c

@@ -8,7 +8,7 @@ use Rattle.image.specs.Bytes.{Bytes}
 use Rattle.chains.specs.Values.{endb, linkb}
 use Rattle.chains.specs.Laws.Tests.{true-says, false-says}
 use Rattle.chains.specs.Laws.Values.{says-end, says-link}
-use Rattle.table.specs.Entries.{entryOf, tableOf}
+use Rattle.table.specs.Entries.{entryOf}
 use Rattle.table.specs.Values.{Values, meaningOf}
 use Rattle.table.specs.Laws.OneCopy.{entry-small}
 use Rattle.table.specs.Laws.Values.{meaning-is}

@@ -4,7 +4,7 @@ use native.Mathlib.Omega.{arith}
 use mathlib.Core.Bool.{Bool, true, false, not}
 use mathlib.Core.List.{List, []}
 use mathlib.Core.Logic.{_≢_}
-use mathlib.Core.Option.{Option, none, some}
+use mathlib.Core.Option.{some}
 use mathlib.Core.Path.{_≡_, refl, sym, ap, _∙_}
 use lib.ListN.{length}
 use borrow.Author.Tests.{eq-eqb, ne-eqb}
@@ -24,7 +24,7 @@ use Rattle.directory.specs.Slots.{standingOf, isPlain}
 use Rattle.directory.specs.declared.Standing.{Standing}
 use Rattle.directory.specs.declared.Standing.the-variants.{NeverUsed, Erased, Label, Plain}
 use Rattle.sound.specs.Judged.{holderBy, holderAt}
-use Rattle.sound.specs.Visits.{Visit, visitOf, lengthSaid, Visited, slotBy, slotFound, chainAt, SlotVisited}
+use Rattle.sound.specs.Visits.{Visit, visitOf, lengthSaid, Visited, slotFound, chainAt, SlotVisited}
 use Rattle.sound.specs.Laws.Visits.{visit-length, chain-visited}
 use Rattle.sound.specs.declared.Length.{Length}
 use Rattle.sound.specs.declared.Length.the-variants.{Of, NoEnd}

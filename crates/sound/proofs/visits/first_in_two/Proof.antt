@@ -5,15 +5,16 @@ use mathlib.Core.Path.{_≡_}
 use Rattle.chains.specs.Check.{inTwo}
 use Rattle.chains.specs.Verdict.{first}
 use Rattle.chains.specs.Laws.SearchTurns.{clusters-start}
-use Rattle.sound.specs.Laws.MarkTurns.{search-done, two-hit, two-miss}
+use Rattle.sound.specs.Laws.MarkTurns.{two-hit, two-miss}
+use Rattle.sound.specs.Laws.Searches.{search-done}
 use Rattle.sound.proofs.visits.first_in_two.Statement.{statement}
 use Rattle.sound.proofs.visits.first_in_two.Tie as tie
 
 abbrev Inv-loop : tie.InvT-loop
-Inv-loop marks last after c₀ c = (2 ≤ c) × (first (inTwo marks) (after - c) c ≡ first (inTwo marks) (last - 1) 2)
+Inv-loop marks last after twice₀ twice = (2 ≤ twice) × (first (inTwo marks) (after - twice) twice ≡ first (inTwo marks) (last - 1) 2)
 
 abbrev μ-loop : tie.MeasureT-loop
-μ-loop marks last after c₀ c = after - c
+μ-loop marks last after twice₀ twice = after - twice
 
 add-after : tie.Need-add-after Inv-loop μ-loop
 add-after c = search needs
@@ -27,8 +28,8 @@ shared-slice-read-if1 c = search needs
 returns : tie.Need-returns Inv-loop μ-loop
 returns c = search two-hit
 
-add-c : tie.Need-add-c Inv-loop μ-loop
-add-c c = search needs
+add-twice : tie.Need-add-twice Inv-loop μ-loop
+add-twice c = search needs
 
 loop-less : tie.Need-loop-less Inv-loop μ-loop
 loop-less c = search needs
@@ -49,7 +50,7 @@ first-in-two-spec =
     loop-holds
     shared-slice-read-if1
     returns
-    add-c
+    add-twice
     loop-less
     loop-again
     returns-2)

@@ -6,7 +6,7 @@ use Rattle.chains.specs.Check.{lost}
 use Rattle.chains.specs.Verdict.{first}
 use Rattle.chains.specs.Laws.SearchTurns.{clusters-start}
 use Rattle.table.specs.Entries.{tableOf}
-use Rattle.sound.specs.Laws.MarkTurns.{search-done, lost-hit, lost-miss}
+use Rattle.sound.specs.Laws.Searches.{search-hit, search-miss, search-done}
 use Rattle.sound.proofs.visits.first_lost.Statement.{statement}
 use Rattle.sound.proofs.visits.first_lost.Tie as tie
 
@@ -26,7 +26,7 @@ is-lost-requires : tie.Need-is-lost-requires Inv-loop μ-loop
 is-lost-requires c κs = search needs
 
 returns : tie.Need-returns Inv-loop μ-loop
-returns c = search lost-hit
+returns c = search search-hit
 
 add-c : tie.Need-add-c Inv-loop μ-loop
 add-c c = search needs
@@ -35,7 +35,7 @@ loop-less : tie.Need-loop-less Inv-loop μ-loop
 loop-less c = search needs
 
 loop-again : tie.Need-loop-again Inv-loop μ-loop
-loop-again c = search (needs, lost-miss)
+loop-again c = search (needs, search-miss)
 
 returns-2 : tie.Need-returns-2 Inv-loop μ-loop
 returns-2 c = search search-done
