@@ -41,4 +41,5 @@ pub record Usable (k : Kind) : Type 0 where
   pub below-aside : lastCluster k ≤ 4079
   pub reaches : lastCluster k * 3 / 2 + 2 ≤ 512 * k .fat
   pub whole : firstData k + clusters k * k .per ≤ k .sectors
+  pub few-slots : k .root ≤ 4096
   pub small : k .sectors < 4294967296

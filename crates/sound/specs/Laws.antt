@@ -25,3 +25,4 @@ pub mod SlotTurns
 pub mod Judged
 pub mod FileTurns
 pub mod Visited
+pub mod Checks

@@ -2,7 +2,8 @@
 use Prim.Native.Nat.{ℕ, _-_, _*_}
 use mathlib.Core.List.{List}
 use mathlib.Core.Option.{Option, none, some}
-use mathlib.Core.Path.{_≡_, refl, sym, _∙_, ap}
+use mathlib.Core.Path.{_≡_, refl, sym, _∙_}
+use lib.ListN.{replicate}
 use Rattle.chains.specs.Verdict.{first, orElse}
 use Rattle.chains.specs.Check.{badValue, inTwo, lost, checkLost, checkTwo, checkChains}
 use Rattle.search.specs.Laws.Theory.{optional}
@@ -14,7 +15,8 @@ use Rattle.table.specs.Entries.{tableOf}
 use Rattle.sound.specs.Files.{valueOf}
 use Rattle.sound.specs.Counts.{fileCount, freeOf, heldOf, asideOf}
 use Rattle.sound.specs.Judged.{differsAt, badSlotAt, badChainSlot, marksOfFiles, voice, marksJudged, chainsJudged, judged}
-use Rattle.sound.specs.Visits.{censusBy, censusOf, chainsBy, chainsFound}
+use Rattle.sound.specs.Visits.{censusBy, censusOf, chainsBy, chainsFound, FilesVisited}
+use Rattle.sound.specs.Laws.Visited.{files-visited-marks}
 use Rattle.sound.specs.declared.Verdict.{Verdict}
 use Rattle.sound.specs.declared.Verdict.the-variants.{Sound, Finding}
 use Rattle.sound.specs.declared.Census.{Census}
@@ -60,11 +62,24 @@ module _ (k : Kind) (l : List ℕ) (free aside : ℕ) (r : Chains) (e : r ≡ ch
   unfolding chainsFound chainsJudged
   said = chains-say _ _ _ r e (λ a b. marksJudged (lastCluster k) (valueOf k l) (marksOfFiles k l) (Sound a free b aside))
 
-  pub chains-bad : (s : ℕ) → r ≡ BadChain s → Finding 5 s ≡ chainsJudged k l free aside
+  chains-bad : (s : ℕ) → r ≡ BadChain s → Finding 5 s ≡ chainsJudged k l free aside
   chains-bad s q = rw q at said
 
-  pub chains-good : (files held : ℕ) (m : List ℕ) (v : Verdict) → r ≡ Held files held → m ≡ marksOfFiles k l → v ≡ marksJudged (lastCluster k) (valueOf k l) m (Sound files free held aside) → v ≡ chainsJudged k l free aside
+  chains-good : (files held : ℕ) (m : List ℕ) (v : Verdict) → r ≡ Held files held → m ≡ marksOfFiles k l → v ≡ marksJudged (lastCluster k) (valueOf k l) m (Sound files free held aside) → v ≡ chainsJudged k l free aside
   chains-good files held m v q p g = (rw p at g) ∙ (rw q at said)
+
+-- the kind's numbers as the code has them, each in a variable, and what the visit of all files promised
+module _ (k : Kind) (l : List ℕ) (free aside last root count cb : ℕ) (a : last ≡ lastCluster k) (b : root ≡ rootAt k) (c : count ≡ rootEntries k) (d : cb ≡ clusterBytes k)
+    (r : Chains) (after : List ℕ) (v : FilesVisited last cb l root count (replicate 4080 0) r after) where
+  visited : FilesVisited (lastCluster k) (clusterBytes k) l (rootAt k) (rootEntries k) (replicate 4080 0) r after
+  visited = rw (a, b, c, d) at v
+
+  pub visited-bad : (s : ℕ) → r ≡ BadChain s → Finding 5 s ≡ chainsJudged k l free aside
+  visited-bad s q = chains-bad k l free aside r (visited .is) s q
+
+  pub visited-good : (files held : ℕ) (w : Verdict) → r ≡ Held files held → w ≡ marksJudged last (tableOf last l) after (Sound files free held aside) → w ≡ chainsJudged k l free aside
+  visited-good files held w q g =
+      chains-good k l free aside r (visited .is) files held after w q (files-visited-marks k l (replicate 4080 0) after r visited files held q refl) (rw a at g)
 
 -- ---- all of them
 
@@ -86,26 +101,32 @@ module _ (k : Kind) (l : List ℕ) where
   unfolding judged from-slots
   judged-as = rw chains-as
 
-  module _ (r : Found) (e : optional r ≡ first (differsAt (copyTwo k) l) (512 * k .fat) 0) where
-    pub judged-tables : (j : ℕ) → r ≡ At j → Finding 2 j ≡ judged k l
-    judged-tables j q = found-says (Finding 2) _ _ r j e q ∙ sym judged-as
+  module _ (second : ℕ) (x : second ≡ copyTwo k) (r : Found) (e : optional r ≡ first (differsAt second l) (512 * k .fat) 0) where
+    tables-say : optional r ≡ first (differsAt (copyTwo k) l) (512 * k .fat) 0
+    tables-say = rw x at e
 
-    module _ (q : r ≡ Nothing) (s : Census) (g : s ≡ censusOf (lastCluster k) l) where
+    pub judged-tables : (j : ℕ) → r ≡ At j → Finding 2 j ≡ judged k l
+    judged-tables j q = found-says (Finding 2) _ _ r j tables-say q ∙ sym judged-as
+
+    module _ (q : r ≡ Nothing) (last : ℕ) (y : last ≡ lastCluster k) (s : Census) (g : s ≡ censusOf last l) where
       after-tables : (elim s as (λ _. Verdict) [ BadValue c ↦ Finding 3 c | Values a b ↦ from-slots a b ]) ≡ judged k l
       unfolding censusOf
-      after-tables = census-says _ _ _ s g from-slots ∙ nothing-says (Finding 2) _ _ r e q ∙ sym judged-as
+      after-tables = census-says _ _ _ s (rw y at g) from-slots ∙ nothing-says (Finding 2) _ _ r tables-say q ∙ sym judged-as
 
       pub judged-values : (c : ℕ) → s ≡ BadValue c → Finding 3 c ≡ judged k l
       judged-values c p = rw p at after-tables
 
-      module _ (free aside : ℕ) (p : s ≡ Values free aside) (t : Found) (h : optional t ≡ first (badSlotAt l (rootAt k)) (rootEntries k) 0) where
+      module _ (free aside : ℕ) (p : s ≡ Values free aside) (root count : ℕ) (w : root ≡ rootAt k) (z : count ≡ rootEntries k) (t : Found) (h : optional t ≡ first (badSlotAt l root) count 0) where
         after-values : from-slots free aside ≡ judged k l
         after-values = rw p at after-tables
 
+        slots-say : optional t ≡ first (badSlotAt l (rootAt k)) (rootEntries k) 0
+        slots-say = rw (w, z) at h
+
         pub judged-slots : (n : ℕ) → t ≡ At n → Finding 4 n ≡ judged k l
         unfolding from-slots
-        judged-slots n o = found-says (Finding 4) _ _ t n h o ∙ after-values
+        judged-slots n o = found-says (Finding 4) _ _ t n slots-say o ∙ after-values
 
         pub judged-chains : (v : Verdict) → t ≡ Nothing → v ≡ chainsJudged k l free aside → v ≡ judged k l
         unfolding from-slots
-        judged-chains v o w = w ∙ nothing-says (Finding 4) _ _ t h o ∙ after-values
+        judged-chains v o u = u ∙ nothing-says (Finding 4) _ _ t slots-say o ∙ after-values
