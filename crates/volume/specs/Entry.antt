@@ -1,7 +1,7 @@
 -- "entry answers 'none' for a slot that is out of range, erased or never used, else, for the label too, the name bytes,
 -- attribute, time and date words, start and size as stored." It refuses only by 40.
 use Prim.Native.Nat.{ℕ}
-use mathlib.Core.Bool.{true, false, cond}
+use mathlib.Core.Bool.{Bool, true, false, cond}
 use mathlib.Core.List.{List}
 use mathlib.Core.Path.{_≡_}
 use lib.Dec.{leb}
@@ -33,16 +33,19 @@ asStored l a = record {
   size = sizeOf l a;
 }
 
--- "none" where the slot is erased or never used, else the fields, "for the label too"
-abbrev pub byStanding : Standing → List ℕ → ℕ → EntryAnswer
-byStanding NeverUsed l a = nothing 0
-byStanding Erased l a = nothing 0
-byStanding Label l a = asStored l a
-byStanding Plain l a = asStored l a
+-- not where the slot is "erased or never used"; "for the label too"
+abbrev pub isTold : Standing → Bool
+isTold NeverUsed = false
+isTold Erased = false
+isTold Label = true
+isTold Plain = true
+
+unfoldable pub toldAt : List ℕ → ℕ → EntryAnswer
+toldAt l a = cond (isTold (standingOf l a)) (asStored l a) (nothing 0)
 
 -- "none" where the slot is out of range; "40: image not of a kind"
 abbrev pub onKind : WhichKind → List ℕ → ℕ → EntryAnswer
-onKind (Known k) l s = cond (leb (rootEntries k) s) (nothing 0) (byStanding (standingOf l (slotAt k s)) l (slotAt k s))
+onKind (Known k) l s = cond (leb (rootEntries k) s) (nothing 0) (toldAt l (slotAt k s))
 onKind Unknown l s = nothing 40
 
 unfoldable pub entryTold : List ℕ → ℕ → EntryAnswer

@@ -1,12 +1,11 @@
 // Entry at a slot: what stands there, on any image of a kind, sound or not.
 use crate::EntryAnswer;
-use diskette::WhichKind;
 use directory::Standing;
+use diskette::WhichKind;
 ghost use mathlib.Core.Path.{_≡_};
 ghost use Prim.Native.Nat.{_+_, _≤_};
 ghost use lib.ListN.{length};
-ghost use Rattle.directory.specs.Slots.{standingOf};
-ghost use Rattle.volume.specs.Entry.{nothing, asStored, byStanding, Told};
+ghost use Rattle.volume.specs.Entry.{nothing, asStored, isTold, toldAt, Told};
 
 // The answer where no entry was found.
 fn without_entry(number: u32) -> EntryAnswer
@@ -41,17 +40,27 @@ fn fields_at(img: &[u8], a: usize) -> EntryAnswer
     }
 }
 
-// The answer for the slot at byte a: a live entry, the label too, and nothing else.
-fn live_at(img: &[u8], a: usize) -> EntryAnswer
-    requires { ⌜ a + 32 ≤ length (now img) ⌝ }
-    ensures { λ r. ⌜ r ≡ byStanding (standingOf (now (img .entry)) a) (now (img .entry)) a ⌝ }
+// Whether an entry is told of: not where the slot is erased or never used; for the label too.
+fn is_told(standing: Standing) -> bool
+    ensures { λ r. ⌜ r ≡ isTold standing ⌝ }
 {
-    match directory::standing_at(img, a) {
-        Standing::NeverUsed => without_entry(0),
-        Standing::Erased => without_entry(0),
-        Standing::Label => fields_at(img, a),
-        Standing::Plain => fields_at(img, a),
+    match standing {
+        Standing::NeverUsed => false,
+        Standing::Erased => false,
+        Standing::Label => true,
+        Standing::Plain => true,
     }
+}
+
+// The answer for the slot at byte a.
+fn told_at(img: &[u8], a: usize) -> EntryAnswer
+    requires { ⌜ a + 32 ≤ length (now img) ⌝ }
+    ensures { λ r. ⌜ r ≡ toldAt (now (img .entry)) a ⌝ }
+{
+    if is_told(directory::standing_at(img, a)) {
+        return fields_at(img, a);
+    }
+    without_entry(0)
 }
 
 // The entry at a slot of the root. Refused by 40 where the image is not of a kind.
@@ -64,7 +73,7 @@ pub fn entry(img: &[u8], slot: u32) -> EntryAnswer
             if k.root_entries() <= s {
                 return without_entry(0);
             }
-            live_at(img, k.slot_at(s))
+            told_at(img, k.slot_at(s))
         }
         WhichKind::Unknown => without_entry(40),
     }

@@ -36,10 +36,11 @@ fn make_blank(img: &mut [u8], k: Kind)
 {
     let data = 512 * k.first_data();
     let rest = 512 * k.sectors - data;
+    let second = k.copy_two();
     image::fill(img, 0, data, 0x00);
     image::fill(img, data, rest, 0xF6);
     put_table_head(img, 512, k.byte);
-    put_table_head(img, k.copy_two(), k.byte);
+    put_table_head(img, second, k.byte);
 }
 
 // Formats the image as a volume of the kind. Answers 0, or 40 where the number names no kind or the image has not its length.

@@ -3,10 +3,10 @@ use Prim.Native.Nat.{ℕ, zero, suc, _+_, _-_, _*_, _/_, _≤_, _<_}
 use native.Mathlib.Omega.{arith}
 use native.Mathlib.Decide.{decLe, decLt}
 use mathlib.Core.Bool.{Bool, true, false}
-use mathlib.Core.List.{List, [], _∷_, _++_}
-use mathlib.Core.Logic.{_⊎_, inl, inr}
-use mathlib.Core.Path.{_≡_, refl, sym, _∙_}
-use lib.ListN.{length, getD, replicate, length-append, length-replicate, getD-replicate, List·getD-append}
+use mathlib.Core.List.{List}
+use mathlib.Core.Logic.{inl, inr}
+use mathlib.Core.Path.{_≡_, sym, _∙_}
+use lib.ListN.{length, getD, replicate, length-append, length-replicate, getD-replicate, List·getD-append, List·getD-eq-default}
 use lib.Seq.{getD-append-add}
 use Rattle.image.specs.Bytes.{Bytes}
 use Rattle.image.specs.Store.{stored, Outside}
@@ -18,7 +18,7 @@ use Rattle.diskette.specs.Places.{firstData, lastCluster, rootEntries, copyTwo,
 use Rattle.diskette.specs.Laws.Images.{image-of-kind}
 use Rattle.diskette.specs.Laws.Places.{entry-within}
 use Rattle.diskette.specs.declared.Kind.{Kind}
-use Rattle.diskette.specs.declared.WhichKind.the-variants.{Known, Unknown}
+use Rattle.diskette.specs.declared.WhichKind.the-variants.{Known}
 use Rattle.table.specs.Entries.{wordAt, taken, even, entryAt, entryOf, Agree, tableOf}
 use Rattle.table.specs.Laws.View.{table-inside, table-outside}
 use Rattle.directory.specs.Slots.{NeverUsedAt}
@@ -55,7 +55,7 @@ module _ (k : Kind) where
     | yes p ↦ omega (arith, ground-zero j p)
     | no p ↦ elim (decLt j (512 * k .sectors)) [
       | yes q ↦ omega (arith, ground-data j (omega arith) q)
-      | no q ↦ let e : getD (zerosAndData k) j 0 ≡ 0 = lib.ListN.List·getD-eq-default (zerosAndData k) 0 (omega (arith, ground-length h)) in omega arith
+      | no q ↦ let e : getD (zerosAndData k) j 0 ≡ 0 = List·getD-eq-default (zerosAndData k) 0 (omega (arith, ground-length h)) in omega arith
     ]
   ]
 

@@ -1,20 +1,22 @@
--- Format: in the form of the code's needs, and that one outcome only is allowed.
-use Prim.Native.Nat.{ℕ, _+_, _-_, _*_, _≤_, _<_}
+-- Format: in the form of the code's needs, what its outcome means, and that one outcome only is allowed.
+use Prim.Native.Nat.{ℕ, _+_, _-_, _*_, _<_}
 use native.Mathlib.Omega.{arith}
+use native.Mathlib.Decide.{ℕ-discrete}
 use mathlib.Core.List.{List, _++_}
 use mathlib.Core.Logic.{_≢_}
 use mathlib.Core.Path.{_≡_, sym, ap, _∙_}
-use lib.ListN.{length, getD, set, replicate, length-append, length-replicate}
+use lib.ListN.{length, set, replicate, length-append, length-replicate}
 use lib.Seq.{ext-getD}
 use borrow.Author.Tests.{eq-eqb, ne-eqb}
 use Rattle.image.specs.Store.{stored}
 use Rattle.image.specs.Laws.Store.{length-stored, stored-inside, stored-append}
 use Rattle.diskette.specs.Kinds.{named, Usable}
 use Rattle.diskette.specs.Places.{firstData, copyTwo}
+use Rattle.diskette.specs.Laws.Kinds.{OfKnown, NamedBy, named-is}
 use Rattle.diskette.specs.declared.Kind.{Kind}
 use Rattle.diskette.specs.declared.WhichKind.{WhichKind}
 use Rattle.diskette.specs.declared.WhichKind.the-variants.{Known, Unknown}
-use Rattle.volume.specs.Format.{zerosAndData, tableHead, blank, Outcome, outcome, formattedAs, formatted, Formatted}
+use Rattle.volume.specs.Format.{tableHead, blank, Outcome, outcome, formattedAs, formatted, Formatted}
 
 -- ---- the kind
 
@@ -73,6 +75,39 @@ module _ (kind : ℕ) (l : List ℕ) (r : WhichKind) (p : r ≡ named kind) wher
 
     pub made-blank : (m : List ℕ) → length l ≡ 512 * k .sectors → m ≡ blank k → Formatted l kind 0 m
     made-blank m e h = formatted-by 0 m (rw (q, eq-eqb (length l) (512 * k .sectors) e, h))
+
+-- ---- what the outcome means
+
+module _ (kind : ℕ) (img : List ℕ) where
+  module _ (k : Kind) (q : named kind ≡ Known k) where
+    pub format-makes : length img ≡ 512 * k .sectors → formatted kind img ≡ outcome 0 (blank k)
+    unfolding formatted
+    format-makes e = rw (q, eq-eqb (length img) (512 * k .sectors) e)
+
+    pub format-wrong-length : length img ≢ 512 * k .sectors → formatted kind img ≡ outcome 40 img
+    unfolding formatted
+    format-wrong-length d = rw (q, ne-eqb (length img) (512 * k .sectors) d)
+
+  pub format-unknown : named kind ≡ Unknown → formatted kind img ≡ outcome 40 img
+  unfolding formatted
+  format-unknown q = rw q
+
+-- what is so after a format that was not refused
+pub record Made (kind : ℕ) (img after : List ℕ) (k : Kind) : Type 0 where
+  pub listed : NamedBy kind k
+  pub long : length img ≡ 512 * k .sectors
+  pub whole : after ≡ blank k
+
+pub format-made : (img : List ℕ) (kind : ℕ) (after : List ℕ) → Formatted img kind 0 after → (k : Kind) × Made kind img after k
+unfolding formatted
+format-made img kind after s = by (named kind) (named-is kind) (s .is)
+  where
+    by : (w : WhichKind) → OfKnown (NamedBy kind) w → outcome 0 after ≡ formattedAs w img → (k : Kind) × Made kind img after k
+    by (Known k) n e = elim (ℕ-discrete (length img) (512 * k .sectors)) [
+      | yes l ↦ (k, record { listed = n; long = l; whole = ap (λ (o : Outcome). o .image) (rw (eq-eqb (length img) (512 * k .sectors) l) at e) })
+      | no d ↦ absurd (let z : 0 ≡ 40 = ap (λ (o : Outcome). o .number) (rw (ne-eqb (length img) (512 * k .sectors) d) at e) in omega arith)
+    ]
+    by Unknown n e = absurd (let z : 0 ≡ 40 = ap (λ (o : Outcome). o .number) e in omega arith)
 
 -- ---- no second outcome satisfies the contract
 

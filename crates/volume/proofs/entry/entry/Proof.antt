@@ -22,8 +22,8 @@ returns c = search out-of-range
 slot-at-requires : tie.Need-slot-at-requires
 slot-at-requires c κs = search (needs, kind-usable)
 
-live-at-requires : tie.Need-live-at-requires
-live-at-requires c κs = search (needs, slot-within)
+told-at-requires : tie.Need-told-at-requires
+told-at-requires c κs = search (needs, slot-within)
 
 enum-told : tie.Need-enum-told
 enum-told c = search needs
@@ -47,7 +47,7 @@ entry-spec =
     without-entry-requires
     returns
     slot-at-requires
-    live-at-requires
+    told-at-requires
     enum-told
     without-entry-requires-2
     returns-2

@@ -16,6 +16,9 @@ mul-rest c = search needs
 sub-rest : tie.Need-sub-rest
 sub-rest c = search needs
 
+copy-two-requires : tie.Need-copy-two-requires
+copy-two-requires c κs = search needs
+
 fill-requires : tie.Need-fill-requires
 fill-requires c κs = search needs
 
@@ -24,9 +27,6 @@ fill-requires-2 c κs = search needs
 
 put-table-head-requires : tie.Need-put-table-head-requires
 put-table-head-requires c κs = search needs
-
-copy-two-requires : tie.Need-copy-two-requires
-copy-two-requires c κs = search needs
 
 put-table-head-requires-2 : tie.Need-put-table-head-requires-2
 put-table-head-requires-2 c κs = search needs
@@ -45,10 +45,10 @@ make-blank-spec =
     mul-data
     mul-rest
     sub-rest
+    copy-two-requires
     fill-requires
     fill-requires-2
     put-table-head-requires
-    copy-two-requires
     put-table-head-requires-2
     same-length
     returns)
