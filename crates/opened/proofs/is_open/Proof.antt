@@ -1,47 +1,46 @@
+-- What is left of the search answers as the whole does.
+use borrow.Author.Needs.{needs}
+use Prim.Native.Nat.{_-_, _≤_}
+use mathlib.Core.Path.{_≡_}
+use Rattle.search.specs.Search.{lowest}
+use Rattle.directory.specs.Laws.Search.{lowest-miss}
+use Rattle.opened.specs.Places.{namesSlot, isOpen}
+use Rattle.opened.specs.Records.{placeCount}
+use Rattle.opened.specs.Laws.Code.{search-all, found-hit, found-end}
 use Rattle.opened.proofs.is_open.Statement.{statement}
 use Rattle.opened.proofs.is_open.Tie as tie
-use Rattle.opened.proofs.is_open.Reads as reads
-use Rattle.opened.proofs.is_open.Lts as lts
-use Rattle.opened.proofs.names_slot.Reads as names-slot-reads
-use Rattle.opened.proofs.place_count.Reads as place-count-reads
 
 abbrev Inv-loop : tie.InvT-loop
-Inv-loop t slot count place₀ place = ?
+Inv-loop t slot count place₀ place = (count ≡ placeCount t) × (place ≤ count) × (lowest (namesSlot t slot) place (count - place) ≡ lowest (namesSlot t slot) 0 (placeCount t))
 
 abbrev μ-loop : tie.MeasureT-loop
-μ-loop t slot count place₀ place = ?
+μ-loop t slot count place₀ place = count - place
 
--- src/lib.rt:138:9
 place-count-requires : tie.Need-place-count-requires Inv-loop μ-loop
-place-count-requires c κs = ?
+place-count-requires c κs = search needs
 
--- src/lib.rt:140:5
 loop-holds : tie.Need-loop-holds Inv-loop μ-loop
-loop-holds c = ?
+loop-holds c = search (needs, search-all)
 
--- src/lib.rt:141:12
 names-slot-requires : tie.Need-names-slot-requires Inv-loop μ-loop
-names-slot-requires c κs = ?
+names-slot-requires c κs = search needs
 
--- src/lib.rt:142:13
 returns : tie.Need-returns Inv-loop μ-loop
-returns c = ?
+unfolding isOpen
+returns c = search found-hit
 
--- src/lib.rt:144:9
 add-place : tie.Need-add-place Inv-loop μ-loop
-add-place c = ?
+add-place c = search needs
 
--- src/lib.rt:140:5
 loop-less : tie.Need-loop-less Inv-loop μ-loop
-loop-less c = ?
+loop-less c = search needs
 
--- src/lib.rt:140:5
 loop-again : tie.Need-loop-again Inv-loop μ-loop
-loop-again c = ?
+loop-again c = search (needs, lowest-miss)
 
--- src/lib.rt:135:1
 returns-2 : tie.Need-returns-2 Inv-loop μ-loop
-returns-2 c = ?
+unfolding isOpen
+returns-2 c = search found-end
 
 pub is-open-spec : {M : Type 1} → statement M
 is-open-spec =

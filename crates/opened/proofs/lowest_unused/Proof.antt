@@ -1,47 +1,45 @@
+-- What is left of the search answers as the whole does.
+use borrow.Author.Needs.{needs}
+use Prim.Native.Nat.{_-_, _≤_}
+use mathlib.Core.Path.{_≡_}
+use Rattle.search.specs.Search as find
+use Rattle.directory.specs.Laws.Search.{lowest-end}
+use Rattle.opened.specs.Places.{unusedAt, lowestUnused}
+use Rattle.opened.specs.Records.{placeCount}
+use Rattle.opened.specs.Laws.Code.{search-all, unused-hit, unused-miss}
 use Rattle.opened.proofs.lowest_unused.Statement.{statement}
 use Rattle.opened.proofs.lowest_unused.Tie as tie
-use Rattle.opened.proofs.lowest_unused.Reads as reads
-use Rattle.opened.proofs.lowest_unused.Lts as lts
-use Rattle.opened.proofs.place_count.Reads as place-count-reads
-use Rattle.opened.proofs.used_at.Reads as used-at-reads
 
 abbrev Inv-loop : tie.InvT-loop
-Inv-loop t count lowest₀ lowest = ?
+Inv-loop t count lowest₀ lowest = (count ≡ placeCount t) × (lowest ≤ count) × (find.lowest (unusedAt t) lowest (count - lowest) ≡ lowestUnused t)
 
 abbrev μ-loop : tie.MeasureT-loop
-μ-loop t count lowest₀ lowest = ?
+μ-loop t count lowest₀ lowest = count - lowest
 
--- src/lib.rt:111:9
 place-count-requires : tie.Need-place-count-requires Inv-loop μ-loop
-place-count-requires c κs = ?
+place-count-requires c κs = search needs
 
--- src/lib.rt:113:5
 loop-holds : tie.Need-loop-holds Inv-loop μ-loop
-loop-holds c = ?
+unfolding lowestUnused
+loop-holds c = search (needs, search-all)
 
--- src/lib.rt:114:13
 used-at-requires : tie.Need-used-at-requires Inv-loop μ-loop
-used-at-requires c κs = ?
+used-at-requires c κs = search needs
 
--- src/lib.rt:115:13
 returns : tie.Need-returns Inv-loop μ-loop
-returns c = ?
+returns c = search unused-hit
 
--- src/lib.rt:117:9
 add-lowest : tie.Need-add-lowest Inv-loop μ-loop
-add-lowest c = ?
+add-lowest c = search needs
 
--- src/lib.rt:113:5
 loop-less : tie.Need-loop-less Inv-loop μ-loop
-loop-less c = ?
+loop-less c = search needs
 
--- src/lib.rt:113:5
 loop-again : tie.Need-loop-again Inv-loop μ-loop
-loop-again c = ?
+loop-again c = search (needs, unused-miss)
 
--- src/lib.rt:108:1
 returns-2 : tie.Need-returns-2 Inv-loop μ-loop
-returns-2 c = ?
+returns-2 c = search lowest-end
 
 pub lowest-unused-spec : {M : Type 1} → statement M
 lowest-unused-spec =

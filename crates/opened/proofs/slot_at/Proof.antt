@@ -1,25 +1,20 @@
+use Rattle.opened.specs.Records.{slotOf}
 use borrow.Author.Needs.{needs}
 use Rattle.opened.proofs.slot_at.Statement.{statement}
 use Rattle.opened.proofs.slot_at.Tie as tie
-use Rattle.opened.proofs.slot_at.Reads as reads
-use Rattle.opened.proofs.slot_at.Lts as lts
-use Rattle.image.proofs.get32.Reads as get32-reads
 
--- src/lib.rt:45:21
 mul-get32 : tie.Need-mul-get32
 mul-get32 c = search needs
 
--- src/lib.rt:45:21
 add-get32 : tie.Need-add-get32
 add-get32 c = search needs
 
--- src/lib.rt:45:5
 get32-requires : tie.Need-get32-requires
 get32-requires c κs = search needs
 
--- src/lib.rt:41:1
 returns : tie.Need-returns
-returns c = ?
+unfolding slotOf
+returns c = search needs
 
 pub slot-at-spec : {M : Type 1} → statement M
 slot-at-spec = tie.close (tie.spec mul-get32 add-get32 get32-requires returns)

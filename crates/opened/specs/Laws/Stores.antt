@@ -44,14 +44,15 @@ mark-back false = refl
 
 bytes-marks : (access : ℕ) (written : Bool) → access < 256 → Bytes (markBytes access written)
 unfolding markBytes
-bytes-marks access written h =
-    bytes-append (1 ∷ []) _ (bytes-one 1 (omega arith))
-    (bytes-append (access ∷ []) _ (bytes-one access h)
-    (bytes-append (mark written ∷ []) (0 ∷ []) (bytes-one (mark written) (mark-small written)) (bytes-one 0 (omega arith))))
+bytes-marks access written h zero = omega arith
+bytes-marks access written h (suc zero) = h
+bytes-marks access written h (suc (suc zero)) = mark-small written
+bytes-marks access written h (suc (suc (suc zero))) = omega arith
+bytes-marks access written h (suc (suc (suc (suc i)))) = omega arith
 
 bytes-numbers : (slot pointer : ℕ) → Bytes (numberBytes slot pointer)
 unfolding numberBytes
-bytes-numbers slot pointer = bytes-append (digits slot 4) _ (bytes-digits slot 4) (bytes-append (digits pointer 4) _ (bytes-digits pointer 4) (bytes-zeros 4))
+bytes-numbers slot pointer = bytes-append (digits slot 4) (digits pointer 4 ++ replicate 4 0) (bytes-digits slot 4) (bytes-append (digits pointer 4) (replicate 4 0) (bytes-digits pointer 4) (bytes-zeros 4))
 
 -- ---- what is stored over the whole place is what it holds
 
