@@ -1,7 +1,7 @@
 -- In the form of the code's needs.
 use Prim.Native.Nat.{ℕ, _+_, _*_, _-_, _≤_, _<_}
 use native.Mathlib.Omega.{arith}
-use mathlib.Core.Bool.{Bool, true, false, cond, not, _&&_}
+use mathlib.Core.Bool.{Bool, true, false, not, and-false}
 use mathlib.Core.List.{List, [], _∷_, _++_}
 use mathlib.Core.Path.{_≡_, refl, sym, _∙_, ap}
 use lib.Dec.{eqb, leb, ltb}
@@ -15,7 +15,6 @@ use Rattle.search.specs.Search.{lowest}
 use Rattle.search.specs.declared.Found.{Found}
 use Rattle.search.specs.declared.Found.the-variants.{At, Nothing}
 use Rattle.directory.specs.Slots.{standingOf, isPlain}
-use Rattle.directory.specs.Search.{slotFrom}
 use Rattle.directory.specs.Laws.Search.{lowest-hit, lowest-miss, lowest-end}
 use Rattle.opened.specs.Records.{placeCount, placeAt, usedOf, slotOf, accessOf, markBytes, numberBytes, recordBytes, withRecord, withPointer}
 use Rattle.opened.specs.Places.{holdsFile, isLive, liveSlot, namesSlot, isFound, isOpen, unusedAt}
@@ -79,10 +78,6 @@ module _ (t : List ℕ) (slot p : ℕ) (u : Bool) (is : u ≡ usedOf t p) where
 
 -- ---- a live place: each test that fails, and all that pass
 
-fails-last : (a b : Bool) → b ≡ false → (a && b) ≡ false
-fails-last true b e = e
-fails-last false b e = refl
-
 module _ (t : List ℕ) (h : ℕ) (l : List ℕ) (root count : ℕ) where
   nothing : isLive t h l root count ≡ false → Nothing ≡ liveSlot t h l root count
   unfolding liveSlot
@@ -90,7 +85,7 @@ module _ (t : List ℕ) (h : ℕ) (l : List ℕ) (root count : ℕ) where
 
   no-file : holdsFile l root count (slotOf t h) ≡ false → Nothing ≡ liveSlot t h l root count
   unfolding isLive
-  no-file e = nothing (fails-last (ltb h (placeCount t)) _ (fails-last (usedOf t h) _ (fails-last (leb (accessOf t h) 2) (holdsFile l root count (slotOf t h)) e)))
+  no-file e = nothing (rw (e, and-false (leb (accessOf t h) 2), and-false (usedOf t h), and-false (ltb h (placeCount t))))
 
   pub not-counted : (n : ℕ) → n ≡ placeCount t → n ≤ h → Nothing ≡ liveSlot t h l root count
   unfolding isLive
@@ -98,11 +93,11 @@ module _ (t : List ℕ) (h : ℕ) (l : List ℕ) (root count : ℕ) where
 
   pub not-used : (u : Bool) → u ≡ usedOf t h → not u ≡ true → Nothing ≡ liveSlot t h l root count
   unfolding isLive
-  not-used u e k = nothing (fails-last (ltb h (placeCount t)) _ (rw (← e, not-true u k)))
+  not-used u e k = nothing (rw (← e, not-true u k, and-false (ltb h (placeCount t))))
 
   pub not-accessed : (a : ℕ) → a ≡ accessOf t h → 2 < a → Nothing ≡ liveSlot t h l root count
   unfolding isLive
-  not-accessed a e k = nothing (fails-last (ltb h (placeCount t)) _ (fails-last (usedOf t h) _ (rw (lt-leb (accessOf t h) 2 (omega arith)))))
+  not-accessed a e k = nothing (rw (lt-leb (accessOf t h) 2 (omega arith), and-false (usedOf t h), and-false (ltb h (placeCount t))))
 
   module _ (s : ℕ) (at : s ≡ slotOf t h) where
     pub not-within : count ≤ s → Nothing ≡ liveSlot t h l root count
@@ -110,7 +105,9 @@ module _ (t : List ℕ) (h : ℕ) (l : List ℕ) (root count : ℕ) where
 
     module _ (b : Bool) (is : b ≡ isPlain (standingOf l (root + 32 * s))) where
       pub not-plain : b ≡ false → Nothing ≡ liveSlot t h l root count
-      not-plain k = no-file (fails-last (ltb (slotOf t h) count) _ (rw (← at) (sym is ∙ k)))
+      not-plain k =
+          let z : isPlain (standingOf l (root + 32 * slotOf t h)) ≡ false = rw (← at) (sym is ∙ k) in
+          no-file (rw (z, and-false (ltb (slotOf t h) count)))
 
       pub live : (n : ℕ) → n ≡ placeCount t → h < n → (u : Bool) → u ≡ usedOf t h → not u ≡ false → (a : ℕ) → a ≡ accessOf t h → a ≤ 2 → s < count → b ≡ true
           → At s ≡ liveSlot t h l root count
