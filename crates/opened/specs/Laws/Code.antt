@@ -2,7 +2,7 @@
 use Prim.Native.Nat.{ℕ, _+_, _*_, _-_, _≤_, _<_}
 use native.Mathlib.Omega.{arith}
 use mathlib.Core.Bool.{Bool, true, false, not, and-false}
-use mathlib.Core.List.{List, [], _∷_, _++_}
+use mathlib.Core.List.{List, _++_}
 use mathlib.Core.Path.{_≡_, refl, sym, _∙_, ap}
 use lib.Dec.{eqb, leb, ltb}
 use lib.ListN.{set, length, replicate}
@@ -17,11 +17,13 @@ use Rattle.search.specs.declared.Found.the-variants.{At, Nothing}
 use Rattle.directory.specs.Slots.{standingOf, isPlain}
 use Rattle.directory.specs.Laws.Search.{lowest-hit, lowest-miss, lowest-end}
 use Rattle.opened.specs.Records.{placeCount, placeAt, usedOf, slotOf, accessOf, markBytes, numberBytes, recordBytes, withRecord, withPointer}
-use Rattle.opened.specs.Places.{holdsFile, isLive, liveSlot, namesSlot, isFound, isOpen, unusedAt}
+use Rattle.opened.specs.Places.{holdsFile, isLive, liveSlot, namesSlot, isFound, unusedAt}
 
 -- ---- stores side by side
 
-pub marks-stored : (t : List ℕ) (p access : ℕ) → set (set (set (set t (16 * p) 1) (16 * p + 1) access) (16 * p + 2) 0) (16 * p + 3) 0 ≡ stored t (placeAt p) (markBytes access false)
+pub marks-stored : (t : List ℕ) (p access : ℕ)
+    → set (set (set (set t (16 * p) 1) (16 * p + 1) access) (16 * p + 2) 0) (16 * p + 3) 0
+    ≡ stored t (placeAt p) (markBytes access false)
 unfolding stored markBytes
 marks-stored t p access =
     let d : 16 * p + 1 + 1 ≡ 16 * p + 2 = omega arith in
@@ -109,9 +111,11 @@ module _ (t : List ℕ) (h : ℕ) (l : List ℕ) (root count : ℕ) where
           let z : isPlain (standingOf l (root + 32 * slotOf t h)) ≡ false = rw (← at) (sym is ∙ k) in
           no-file (rw (z, and-false (ltb (slotOf t h) count)))
 
-      pub live : (n : ℕ) → n ≡ placeCount t → h < n → (u : Bool) → u ≡ usedOf t h → not u ≡ false → (a : ℕ) → a ≡ accessOf t h → a ≤ 2 → s < count → b ≡ true
+      pub live : (n : ℕ) → n ≡ placeCount t → h < n → (u : Bool) → u ≡ usedOf t h → not u ≡ false
+          → (a : ℕ) → a ≡ accessOf t h → a ≤ 2 → s < count → b ≡ true
           → At s ≡ liveSlot t h l root count
       unfolding liveSlot isLive
       live n e k u f v a g w c d =
           let z : isPlain (standingOf l (root + 32 * slotOf t h)) ≡ true = rw (← at) (sym is ∙ d) in
-          rw (lt-ltb h (placeCount t) (omega arith), ← f, not-false u v, le-leb (accessOf t h) 2 (omega arith), lt-ltb (slotOf t h) count (omega arith), z) (ap At at)
+          rw (lt-ltb h (placeCount t) (omega arith), ← f, not-false u v, le-leb (accessOf t h) 2 (omega arith), lt-ltb (slotOf t h) count (omega arith), z)
+          (ap At at)

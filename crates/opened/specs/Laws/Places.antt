@@ -1,10 +1,10 @@
 -- The tests and searches say what the paper's words say.
-use Prim.Native.Nat.{ℕ, _+_, _≤_, _<_}
+use Prim.Native.Nat.{ℕ, _<_}
 use native.Mathlib.Omega.{arith}
-use mathlib.Core.Bool.{Bool, true, false, not, cond, _&&_}
+use mathlib.Core.Bool.{Bool, true, false, cond, _&&_}
 use mathlib.Core.List.{List}
 use mathlib.Core.Logic.{_↔_}
-use mathlib.Core.Path.{_≡_, refl, sym, _∙_, ap}
+use mathlib.Core.Path.{_≡_, refl, sym, _∙_}
 use lib.Dec.{eqb, leb, ltb}
 use borrow.Author.Tests.{ltb-true, leb-true, eqb-true, lt-ltb, le-leb, eq-eqb, not-true}
 use Rattle.search.specs.Search.{lowest, Answers}
@@ -85,9 +85,17 @@ unused-answers t = lowest-answers (unusedAt t) (λ (p : ℕ). usedOf t p ≡ fal
 -- ---- open files
 
 names-is : (t : List ℕ) (slot p : ℕ) → (namesSlot t slot p ≡ true) ↔ NamesAt t slot p
-names-is t slot p =
-    (λ e. let x = both (usedOf t p) (eqb (slotOf t p) slot) e in record { used = x .0; names = eqb-true (slotOf t p) slot (x .1) },
-     λ n. rw (n .used) (eq-eqb (slotOf t p) slot (n .names)))
+names-is t slot p = (
+  λ e. let x = both (usedOf t p) (eqb (slotOf t p) slot) e in record { used = x .0; names = eqb-true (slotOf t p) slot (x .1) },
+  λ n. rw (n .used) (eq-eqb (slotOf t p) slot (n .names)),
+)
+
+pub names-not : (t : List ℕ) (slot p : ℕ) → ¬ NamesAt t slot p → namesSlot t slot p ≡ false
+names-not t slot p n = cases (namesSlot t slot p) refl
+  where
+    cases : (b : Bool) → namesSlot t slot p ≡ b → namesSlot t slot p ≡ false
+    cases true e = absurd (n (names-is t slot p .0 e))
+    cases false e = e
 
 module _ (t : List ℕ) (slot : ℕ) where
   search-answers : Answers (NamesAt t slot) (placeCount t) (lowest (namesSlot t slot) 0 (placeCount t))

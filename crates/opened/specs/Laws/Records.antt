@@ -1,20 +1,38 @@
--- A store that stays inside place p: what it leaves, of that place and of all others. A field is an offset and a width, so
--- that one law serves every store.
-use Prim.Native.Nat.{ℕ, zero, suc, _+_, _*_, _≤_, _<_}
+-- How large a field is; what a store inside place p leaves, of that place and of all others. A field is an offset and a width,
+-- so that one law serves every store.
+use Prim.Native.Nat.{ℕ, _+_, _≤_, _<_}
 use native.Mathlib.Omega.{arith}
 use native.Mathlib.Decide.{decLt}
-use mathlib.Core.Bool.{Bool, not}
-use mathlib.Core.List.{List, [], _∷_, _++_}
+use mathlib.Core.Bool.{not}
+use mathlib.Core.List.{List}
 use mathlib.Core.Logic.{inl, inr, _≢_}
-use mathlib.Core.Path.{_≡_, refl, _∙_, ap}
+use mathlib.Core.Path.{_≡_, ap}
 use lib.Dec.{eqb}
 use lib.ListN.{length, getD}
+use Rattle.image.specs.Bytes.{Bytes}
 use Rattle.image.specs.Store.{stored, Outside, Apart}
 use Rattle.image.specs.Numbers.{number}
 use Rattle.image.specs.Laws.Store.{length-stored, stored-outside}
-use Rattle.image.specs.Laws.Numbers.{number-apart}
+use Rattle.image.specs.Laws.Numbers.{number-small, number-apart}
 use Rattle.opened.specs.Records.{placeCount, placeAt, usedOf, slotOf, accessOf, pointerOf, writtenOf}
 use Rattle.opened.specs.Changes.{SamePlace, OnlyAt}
+
+-- ---- how large a field is
+
+module _ (t : List ℕ) (p : ℕ) (b : Bytes t) where
+  pub access-small : accessOf t p < 256
+  unfolding accessOf
+  access-small = b (placeAt p + 1)
+
+  pub slot-small : slotOf t p < 4294967296
+  unfolding slotOf
+  slot-small = number-small t (placeAt p + 4) 4 b
+
+  pub pointer-small : pointerOf t p < 4294967296
+  unfolding pointerOf
+  pointer-small = number-small t (placeAt p + 8) 4 b
+
+-- ---- what a store leaves
 
 -- m has of place q of t every field with which the n bytes from byte at on have nothing in common
 pub record Untouched (m t : List ℕ) (at n q : ℕ) : Type 0 where

@@ -1,10 +1,10 @@
 -- After each of the four stores: what the place holds, that no other has changed, that bytes stay bytes.
-use Prim.Native.Nat.{ℕ, zero, suc, _+_, _*_, _≤_, _<_}
+use Prim.Native.Nat.{ℕ, zero, suc, _+_, _≤_, _<_}
 use native.Mathlib.Omega.{arith}
 use mathlib.Core.Bool.{Bool, true, false, not}
 use mathlib.Core.List.{List, [], _∷_, _++_}
 use mathlib.Core.Logic.{inl, inr}
-use mathlib.Core.Path.{_≡_, refl, sym, _∙_, ap}
+use mathlib.Core.Path.{_≡_, refl, _∙_, ap}
 use lib.Dec.{eqb}
 use lib.ListN.{length, getD, replicate}
 use Rattle.image.specs.Bytes.{Bytes}
@@ -29,11 +29,6 @@ bytes-append [] t b c i = c i
 bytes-append (x ∷ s) t b c zero = b 0
 bytes-append (x ∷ s) t b c (suc i) = bytes-append s t (λ j. b (suc j)) c i
 
-bytes-zeros : (n : ℕ) → Bytes (replicate n 0)
-bytes-zeros zero i = omega arith
-bytes-zeros (suc n) zero = omega arith
-bytes-zeros (suc n) (suc i) = bytes-zeros n i
-
 mark-small : (b : Bool) → mark b < 256
 mark-small true = omega arith
 mark-small false = omega arith
@@ -51,8 +46,10 @@ bytes-marks access written h (suc (suc (suc zero))) = omega arith
 bytes-marks access written h (suc (suc (suc (suc i)))) = omega arith
 
 bytes-numbers : (slot pointer : ℕ) → Bytes (numberBytes slot pointer)
-unfolding numberBytes
-bytes-numbers slot pointer = bytes-append (digits slot 4) (digits pointer 4 ++ replicate 4 0) (bytes-digits slot 4) (bytes-append (digits pointer 4) (replicate 4 0) (bytes-digits pointer 4) (bytes-zeros 4))
+unfolding numberBytes digits
+bytes-numbers slot pointer =
+    bytes-append (digits slot 4) (digits pointer 4 ++ replicate 4 0) (bytes-digits slot 4)
+    (bytes-append (digits pointer 4) (replicate 4 0) (bytes-digits pointer 4) (bytes-digits 0 4))
 
 -- ---- what is stored over the whole place is what it holds
 
@@ -61,7 +58,9 @@ module _ (t : List ℕ) (p : ℕ) (s : List ℕ) (long : length s ≡ 16) (k : p
   byte o h = stored-inside t (placeAt p) s o (omega arith) (omega arith)
 
   run : (o : ℕ) → o + 4 ≤ 16 → number (stored t (placeAt p) s) (placeAt p + o) 4 ≡ number s o 4
-  run o h = number-same (stored t (placeAt p) s) s (placeAt p + o) o 4 (λ i j. let e : placeAt p + o + i ≡ placeAt p + (o + i) = omega arith in rw e (byte (o + i) (omega arith)))
+  run o h =
+      number-same (stored t (placeAt p) s) s (placeAt p + o) o 4
+      (λ i j. let e : placeAt p + o + i ≡ placeAt p + (o + i) = omega arith in rw e (byte (o + i) (omega arith)))
 
   whole-place : Holds (stored t (placeAt p) s) p (usedOf s 0) (accessOf s 0) (slotOf s 0) (pointerOf s 0) (writtenOf s 0)
   unfolding usedOf accessOf slotOf pointerOf writtenOf
@@ -81,7 +80,9 @@ module _ (t : List ℕ) (p : ℕ) (k : p < placeCount t) where
   module _ (access slot pointer : ℕ) (written : Bool) where
     pub record-only : OnlyAt p (withRecord t p access slot pointer written) t
     unfolding withRecord
-    record-only = only-place t (placeAt p) 16 (recordBytes access slot pointer written) (length-record access slot pointer written) p (omega arith) (omega arith) k
+    record-only =
+        only-place t (placeAt p) 16 (recordBytes access slot pointer written) (length-record access slot pointer written) p
+        (omega arith) (omega arith) k
 
     pub record-holds : slot < 4294967296 → pointer < 4294967296 → Holds (withRecord t p access slot pointer written) p true access slot pointer written
     unfolding withRecord usedOf accessOf slotOf pointerOf writtenOf recordBytes markBytes numberBytes digits number
@@ -97,7 +98,9 @@ module _ (t : List ℕ) (p : ℕ) (k : p < placeCount t) where
 
     pub record-bytes : Bytes t → access < 256 → Bytes (withRecord t p access slot pointer written)
     unfolding withRecord recordBytes
-    record-bytes b h = bytes-stored t (placeAt p) (recordBytes access slot pointer written) b (bytes-append (markBytes access written) (numberBytes slot pointer) (bytes-marks access written h) (bytes-numbers slot pointer))
+    record-bytes b h =
+        bytes-stored t (placeAt p) (recordBytes access slot pointer written) b
+        (bytes-append (markBytes access written) (numberBytes slot pointer) (bytes-marks access written h) (bytes-numbers slot pointer))
 
   module _ (v : ℕ) where
     pub pointer-only : OnlyAt p (withPointer t p v) t
@@ -151,5 +154,5 @@ module _ (t : List ℕ) (p : ℕ) (k : p < placeCount t) where
       record { used = w .used; access = w .access; slot = w .slot; pointer = w .pointer; written = w .written }
 
   pub cleared-bytes : Bytes t → Bytes (cleared t p)
-  unfolding cleared
-  cleared-bytes b = bytes-stored t (placeAt p) (replicate 16 0) b (bytes-zeros 16)
+  unfolding cleared digits
+  cleared-bytes b = bytes-stored t (placeAt p) (replicate 16 0) b (bytes-digits 0 16)
