@@ -1,3 +1,4 @@
+-- Read where the field stands.
 use Rattle.opened.specs.Records.{accessOf}
 use borrow.Author.Needs.{needs}
 use Rattle.opened.proofs.access_at.Statement.{statement}

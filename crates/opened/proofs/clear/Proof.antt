@@ -1,3 +1,4 @@
+-- Sixteen zeros from the first byte of the place on.
 use Rattle.opened.specs.Records.{cleared}
 use borrow.Author.Needs.{needs}
 use Rattle.opened.proofs.clear.Statement.{statement}

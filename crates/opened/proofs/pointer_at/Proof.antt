@@ -1,3 +1,4 @@
+-- Read where the field stands.
 use Rattle.opened.specs.Records.{pointerOf}
 use borrow.Author.Needs.{needs}
 use Rattle.opened.proofs.pointer_at.Statement.{statement}

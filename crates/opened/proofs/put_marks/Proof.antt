@@ -1,7 +1,7 @@
 -- Four bytes set one after the other are one run.
 use native.Mathlib.Omega.{arith}
 use lib.ListN.{length-set}
-use Rattle.opened.specs.Laws.Code.{marks-stored}
+use Rattle.opened.specs.Laws.Stores.{marks-stored}
 use borrow.Author.Needs.{needs}
 use Rattle.opened.proofs.put_marks.Statement.{statement}
 use Rattle.opened.proofs.put_marks.Tie as tie

@@ -1,5 +1,5 @@
 -- Slot, pointer and zeros side by side are the last twelve bytes.
-use Rattle.opened.specs.Laws.Code.{numbers-stored}
+use Rattle.opened.specs.Laws.Stores.{numbers-stored}
 use borrow.Author.Needs.{needs}
 use Rattle.opened.proofs.put_numbers.Statement.{statement}
 use Rattle.opened.proofs.put_numbers.Tie as tie

@@ -1,3 +1,4 @@
+-- Stored where the pointer stands.
 use Rattle.opened.specs.Records.{withPointer}
 use borrow.Author.Needs.{needs}
 use Rattle.opened.proofs.put_pointer.Statement.{statement}

@@ -1,5 +1,5 @@
 -- Marks and numbers side by side are the whole record.
-use Rattle.opened.specs.Laws.Code.{record-stored}
+use Rattle.opened.specs.Laws.Stores.{record-stored}
 use borrow.Author.Needs.{needs}
 use Rattle.opened.proofs.put_record.Statement.{statement}
 use Rattle.opened.proofs.put_record.Tie as tie

@@ -1,3 +1,4 @@
+-- Read where the field stands.
 use Rattle.opened.specs.Records.{slotOf}
 use borrow.Author.Needs.{needs}
 use Rattle.opened.proofs.slot_at.Statement.{statement}

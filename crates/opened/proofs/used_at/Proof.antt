@@ -1,3 +1,4 @@
+-- Read where the field stands.
 use Rattle.opened.specs.Records.{usedOf}
 use borrow.Author.Needs.{needs}
 use Rattle.opened.proofs.used_at.Statement.{statement}

@@ -1,3 +1,4 @@
+-- Read where the field stands.
 use Rattle.opened.specs.Records.{writtenOf}
 use borrow.Author.Needs.{needs}
 use Rattle.opened.proofs.written_at.Statement.{statement}

@@ -1,56 +1,18 @@
--- In the form of the code's needs.
+-- Tests and searches in the form of the code's needs.
 use Prim.Native.Nat.{ℕ, _+_, _*_, _-_, _≤_, _<_}
 use native.Mathlib.Omega.{arith}
 use mathlib.Core.Bool.{Bool, true, false, not, and-false}
-use mathlib.Core.List.{List, _++_}
-use mathlib.Core.Path.{_≡_, refl, sym, _∙_, ap}
+use mathlib.Core.List.{List}
+use mathlib.Core.Path.{_≡_, sym, _∙_, ap}
 use lib.Dec.{eqb, leb, ltb}
-use lib.ListN.{set, length, replicate}
 use borrow.Author.Tests.{lt-ltb, le-ltb, le-leb, lt-leb, not-true, not-false}
-use Rattle.image.specs.Store.{stored}
-use Rattle.image.specs.Numbers.{digits}
-use Rattle.image.specs.Laws.Store.{stored-append}
-use Rattle.image.specs.Laws.Numbers.{length-digits}
 use Rattle.search.specs.Search.{lowest}
 use Rattle.search.specs.declared.Found.{Found}
 use Rattle.search.specs.declared.Found.the-variants.{At, Nothing}
 use Rattle.directory.specs.Slots.{standingOf, isPlain}
 use Rattle.directory.specs.Laws.Search.{lowest-hit, lowest-miss, lowest-end}
-use Rattle.opened.specs.Records.{placeCount, placeAt, usedOf, slotOf, accessOf, markBytes, numberBytes, recordBytes, withRecord, withPointer}
+use Rattle.opened.specs.Records.{placeCount, usedOf, slotOf, accessOf}
 use Rattle.opened.specs.Places.{holdsFile, isLive, liveSlot, namesSlot, isFound, unusedAt}
-
--- ---- stores side by side
-
-pub marks-stored : (t : List ℕ) (p access : ℕ)
-    → set (set (set (set t (16 * p) 1) (16 * p + 1) access) (16 * p + 2) 0) (16 * p + 3) 0
-    ≡ stored t (placeAt p) (markBytes access false)
-unfolding stored markBytes
-marks-stored t p access =
-    let d : 16 * p + 1 + 1 ≡ 16 * p + 2 = omega arith in
-    let e : 16 * p + 2 + 1 ≡ 16 * p + 3 = omega arith in
-    rw (d, e)
-
--- a store that goes on where another ended
-and-then : (l m k : List ℕ) (a b : ℕ) (s t : List ℕ) → m ≡ stored l a s → k ≡ stored m b t → b ≡ a + length s → k ≡ stored l a (s ++ t)
-and-then l m k a b s t p q e = rw (q, p, e, stored-append l a s t)
-
-zeros : digits 0 4 ≡ replicate 4 0
-unfolding digits
-zeros = refl
-
-pub numbers-stored : (t t₁ t₂ t₃ : List ℕ) (p slot pointer : ℕ)
-    → t₁ ≡ stored t (16 * p + 4) (digits slot 4) → t₂ ≡ withPointer t₁ p pointer → t₃ ≡ stored t₂ (16 * p + 12) (digits 0 4)
-    → t₃ ≡ stored t (placeAt p + 4) (numberBytes slot pointer)
-unfolding withPointer numberBytes
-numbers-stored t t₁ t₂ t₃ p slot pointer e f g =
-    let y = and-then t₁ t₂ t₃ (placeAt p + 8) (16 * p + 12) (digits pointer 4) (digits 0 4) f g (rw (length-digits pointer 4) (omega arith)) in
-    and-then t t₁ t₃ (placeAt p + 4) (placeAt p + 8) (digits slot 4) (digits pointer 4 ++ replicate 4 0) e (rw zeros at y) (rw (length-digits slot 4) (omega arith))
-
-pub record-stored : (t t₁ t₂ : List ℕ) (p access slot pointer : ℕ)
-    → t₁ ≡ stored t (placeAt p) (markBytes access false) → t₂ ≡ stored t₁ (placeAt p + 4) (numberBytes slot pointer)
-    → t₂ ≡ withRecord t p access slot pointer false
-unfolding withRecord recordBytes markBytes
-record-stored t t₁ t₂ p access slot pointer e f = and-then t t₁ t₂ (placeAt p) (placeAt p + 4) (markBytes access false) (numberBytes slot pointer) e f refl
 
 -- ---- searches: what is left goes on from here; b is the test's answer
 

@@ -1,16 +1,17 @@
--- After each of the four stores: what the place holds, that no other has changed, that bytes stay bytes.
-use Prim.Native.Nat.{ℕ, zero, suc, _+_, _≤_, _<_}
+-- After each of the four stores: what the place holds, that no other has changed, that bytes stay bytes. No law outside this
+-- file and Records knows where a field stands.
+use Prim.Native.Nat.{ℕ, zero, suc, _+_, _*_, _≤_, _<_}
 use native.Mathlib.Omega.{arith}
 use mathlib.Core.Bool.{Bool, true, false, not}
 use mathlib.Core.List.{List, [], _∷_, _++_}
 use mathlib.Core.Logic.{inl, inr}
 use mathlib.Core.Path.{_≡_, refl, _∙_, ap}
 use lib.Dec.{eqb}
-use lib.ListN.{length, getD, replicate}
+use lib.ListN.{length, getD, set, replicate}
 use Rattle.image.specs.Bytes.{Bytes}
 use Rattle.image.specs.Store.{stored}
 use Rattle.image.specs.Numbers.{number, digits}
-use Rattle.image.specs.Laws.Store.{bytes-stored, stored-inside}
+use Rattle.image.specs.Laws.Store.{bytes-stored, stored-inside, stored-append}
 use Rattle.image.specs.Laws.Numbers.{length-digits, bytes-digits, number-same, number-stored}
 use Rattle.directory.specs.Laws.Fields.{bytes-one}
 use Rattle.directory.specs.Laws.Entries.{byte-back}
@@ -156,3 +157,36 @@ module _ (t : List ℕ) (p : ℕ) (k : p < placeCount t) where
   pub cleared-bytes : Bytes t → Bytes (cleared t p)
   unfolding cleared digits
   cleared-bytes b = bytes-stored t (placeAt p) (replicate 16 0) b (bytes-digits 0 16)
+
+-- ---- the code's needs: stores side by side
+
+pub marks-stored : (t : List ℕ) (p access : ℕ)
+    → set (set (set (set t (16 * p) 1) (16 * p + 1) access) (16 * p + 2) 0) (16 * p + 3) 0
+    ≡ stored t (placeAt p) (markBytes access false)
+unfolding stored markBytes
+marks-stored t p access =
+    let d : 16 * p + 1 + 1 ≡ 16 * p + 2 = omega arith in
+    let e : 16 * p + 2 + 1 ≡ 16 * p + 3 = omega arith in
+    rw (d, e)
+
+-- a store that goes on where another ended
+and-then : (l m k : List ℕ) (a b : ℕ) (s t : List ℕ) → m ≡ stored l a s → k ≡ stored m b t → b ≡ a + length s → k ≡ stored l a (s ++ t)
+and-then l m k a b s t p q e = rw (q, p, e, stored-append l a s t)
+
+zeros : digits 0 4 ≡ replicate 4 0
+unfolding digits
+zeros = refl
+
+pub numbers-stored : (t t₁ t₂ t₃ : List ℕ) (p slot pointer : ℕ)
+    → t₁ ≡ stored t (16 * p + 4) (digits slot 4) → t₂ ≡ withPointer t₁ p pointer → t₃ ≡ stored t₂ (16 * p + 12) (digits 0 4)
+    → t₃ ≡ stored t (placeAt p + 4) (numberBytes slot pointer)
+unfolding withPointer numberBytes
+numbers-stored t t₁ t₂ t₃ p slot pointer e f g =
+    let y = and-then t₁ t₂ t₃ (placeAt p + 8) (16 * p + 12) (digits pointer 4) (digits 0 4) f g (rw (length-digits pointer 4) (omega arith)) in
+    and-then t t₁ t₃ (placeAt p + 4) (placeAt p + 8) (digits slot 4) (digits pointer 4 ++ replicate 4 0) e (rw zeros at y) (rw (length-digits slot 4) (omega arith))
+
+pub record-stored : (t t₁ t₂ : List ℕ) (p access slot pointer : ℕ)
+    → t₁ ≡ stored t (placeAt p) (markBytes access false) → t₂ ≡ stored t₁ (placeAt p + 4) (numberBytes slot pointer)
+    → t₂ ≡ withRecord t p access slot pointer false
+unfolding withRecord recordBytes markBytes
+record-stored t t₁ t₂ p access slot pointer e f = and-then t t₁ t₂ (placeAt p) (placeAt p + 4) (markBytes access false) (numberBytes slot pointer) e f refl
