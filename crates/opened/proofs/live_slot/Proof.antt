@@ -1,6 +1,8 @@
 -- Each way out is one test that failed, or all that passed.
 use Rattle.opened.specs.Laws.Code.{not-counted, not-used, not-accessed, not-within, not-plain, live}
 use borrow.Author.Needs.{needs}
+use native.Mathlib.Omega.{arith}
+use Prim.Native.Nat.{_<_}
 use Rattle.opened.proofs.live_slot.Statement.{statement}
 use Rattle.opened.proofs.live_slot.Tie as tie
 
@@ -20,7 +22,7 @@ access-at-requires : tie.Need-access-at-requires
 access-at-requires c κs = search needs
 
 returns-3 : tie.Need-returns-3
-returns-3 c = search not-accessed
+returns-3 c = let h : 2 < c .before .access-at .result = omega arith in search not-accessed
 
 slot-at-requires : tie.Need-slot-at-requires
 slot-at-requires c κs = search needs
