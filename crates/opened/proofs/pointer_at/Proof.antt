@@ -1,0 +1,21 @@
+-- Read where the field stands.
+use Rattle.opened.specs.Records.{pointerOf}
+use borrow.Author.Needs.{needs}
+use Rattle.opened.proofs.pointer_at.Statement.{statement}
+use Rattle.opened.proofs.pointer_at.Tie as tie
+
+mul-get32 : tie.Need-mul-get32
+mul-get32 c = search needs
+
+add-get32 : tie.Need-add-get32
+add-get32 c = search needs
+
+get32-requires : tie.Need-get32-requires
+get32-requires c κs = search needs
+
+returns : tie.Need-returns
+unfolding pointerOf
+returns c = search needs
+
+pub pointer-at-spec : {M : Type 1} → statement M
+pointer-at-spec = tie.close (tie.spec mul-get32 add-get32 get32-requires returns)
