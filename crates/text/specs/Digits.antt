@@ -18,13 +18,13 @@ unfoldable pub widthIn : ℕ → ℕ → ℕ
 widthIn zero n = 1
 widthIn (suc turns) n = cond (ltb n 10) 1 (1 + widthIn turns (n / 10))
 
-abbrev pub width : ℕ → ℕ
+unfoldable pub width : ℕ → ℕ
 width n = widthIn n n
 
 -- decimal, without leading zeros
-abbrev pub decimal : ℕ → List ℕ
+unfoldable pub decimal : ℕ → List ℕ
 decimal n = inDigits 10 (width n) n
 
 -- two hex digits
-abbrev pub hex : ℕ → List ℕ
+unfoldable pub hex : ℕ → List ℕ
 hex n = inDigits 16 2 n

@@ -6,3 +6,4 @@ pub mod Stamps
 pub mod Lines
 pub mod Puts
 pub mod Worked
+pub mod Laws
