@@ -3,13 +3,13 @@ use Prim.Native.Nat.{ℕ}
 use mathlib.Core.Bool.{Bool, cond}
 use mathlib.Core.List.{List, [], _∷_, _++_, map}
 use lib.Dec.{eqb}
-use lib.ListN.{take, drop}
+use Rattle.image.specs.Store.{part}
 use Rattle.names.specs.Alphabet.{plain}
 use Rattle.names.specs.Spelling.{dot, space, every}
 
--- the part holds nothing but spaces
-abbrev pub blank : List ℕ → Bool
-blank part = every (λ (c : ℕ). eqb c space) part
+-- nothing but spaces
+unfoldable pub blank : List ℕ → Bool
+blank s = every (λ (c : ℕ). eqb c space) s
 
 -- trailing spaces are dropped
 unfoldable pub trimmed : List ℕ → List ℕ
@@ -22,12 +22,12 @@ shown c = cond (plain c) c 0x3F
 
 -- name or extension
 unfoldable pub partText : List ℕ → List ℕ
-partText part = map shown (trimmed part)
+partText s = map shown (trimmed s)
 
 -- the dot stands only before an extension
 unfoldable pub extText : List ℕ → List ℕ
-extText part = cond (blank part) [] (dot ∷ partText part)
+extText s = cond (blank s) [] (dot ∷ partText s)
 
 -- name 0-7, extension 8-10
 unfoldable pub nameText : List ℕ → List ℕ
-nameText name = partText (take 8 name) ++ extText (drop 8 name)
+nameText name = partText (part name 0 8) ++ extText (part name 8 3)

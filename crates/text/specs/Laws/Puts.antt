@@ -29,3 +29,7 @@ pub puts-line : (key value l : List ℕ) (at a : ℕ) (m : List ℕ) (b : ℕ) (
     → Puts key l at a m → Puts value m a b n → Puts (ascii "\n") n b r o → Puts (line key value) l at r o
 unfolding line
 puts-line key value l at a m b n r o p q e = puts-then key (value ++ ascii "\n") l at a m r o p (puts-then value (ascii "\n") m a b n r o q e)
+
+-- a value that was told apart is shown as what it is
+pub puts-shown : {A : Type 0} (show : A → List ℕ) (read told a : A) (l : List ℕ) (at r : ℕ) (m : List ℕ) → a ≡ read → a ≡ told → Puts (show told) l at r m → Puts (show read) l at r m
+puts-shown show read told a l at r m e f p = rw (sym e ∙ f) p
