@@ -9,16 +9,20 @@ use Rattle.stamps.specs.declared.TimeRead.the-variants.{Time, NoTime}
 use Rattle.stamps.specs.declared.DateRead.{DateRead}
 use Rattle.stamps.specs.declared.DateRead.the-variants.{Date, NoDate}
 
+-- a mark and a number in two digits
+unfoldable pub markedText : List ℕ → ℕ → List ℕ
+markedText mark n = mark ++ inDigits 10 2 n
+
 -- three numbers with a mark between them: the first in w digits, the others in two
 unfoldable pub threeText : ℕ → List ℕ → ℕ → ℕ → ℕ → List ℕ
-threeText w mark a b c = inDigits 10 w a ++ (mark ++ (inDigits 10 2 b ++ (mark ++ inDigits 10 2 c)))
+threeText w mark a b c = inDigits 10 w a ++ (markedText mark b ++ markedText mark c)
 
--- the year counts from 1980
+-- YYYY-MM-DD: the year counts from 1980
 unfoldable pub dateShown : DateRead → List ℕ
 dateShown (Date year month day) = threeText 4 (ascii "-") (1980 + year) month day
 dateShown NoDate = ascii "none"
 
--- two-second steps
+-- HH:MM:SS: steps are of two seconds
 unfoldable pub timeShown : TimeRead → List ℕ
 timeShown (Time hour minute step) = threeText 2 (ascii ":") hour minute (step * 2)
 timeShown NoTime = ascii "none"

@@ -9,7 +9,7 @@ use Rattle.stamps.specs.Stamps.{timeRead, dateRead, timeFits, dateFits}
 use Rattle.text.specs.Ascii.{ascii}
 use Rattle.text.specs.Digits.{digit, inDigits, widthIn, width, decimal, hex}
 use Rattle.text.specs.Names.{blank, trimmed, shown, partText, extText, nameText}
-use Rattle.text.specs.Stamps.{threeText, dateShown, timeShown}
+use Rattle.text.specs.Stamps.{markedText, threeText, dateShown, timeShown}
 use Rattle.text.specs.Lines.{line, stampText, fileText, countsText, soundText, unsoundText}
 
 -- ours is what our definitions give, paper what the paper prints
@@ -37,5 +37,5 @@ cases =
     ∷ []
 
 pub worked : map (λ (c : Case). c .ours) cases ≡ map (λ (c : Case). ascii (c .paper)) cases
-unfolding every plain timeRead dateRead timeFits dateFits digit inDigits widthIn width decimal hex blank trimmed shown partText extText nameText threeText dateShown timeShown line stampText fileText countsText soundText unsoundText
+unfolding every plain timeRead dateRead timeFits dateFits digit inDigits widthIn width decimal hex blank trimmed shown partText extText nameText markedText threeText dateShown timeShown line stampText fileText countsText soundText unsoundText
 worked = refl

@@ -1,13 +1,13 @@
 // The listing's lines, put into a buffer that the caller lends.
 ghost use mathlib.Core.Path.{_≡_};
-ghost use Prim.Native.Nat.{ℕ, _+_, _*_, _≤_, _<_};
+ghost use Prim.Native.Nat.{_+_, _*_, _≤_, _<_};
 ghost use lib.ListN.{length};
 ghost use Rattle.text.specs.Ascii.{ascii};
-ghost use Rattle.text.specs.Puts.{Puts, PutsIn};
+ghost use Rattle.text.specs.Puts.{PutsIn};
 ghost use Rattle.text.specs.Digits.{digit, inDigits, width, decimal, hex};
 ghost use Rattle.text.specs.Names.{blank, shown, partText, extText, nameText};
-ghost use Rattle.text.specs.Stamps.{threeText, dateText, timeText};
-ghost use Rattle.text.specs.Lines.{line, stampText, fileText, countsText, soundText, unsoundText};
+ghost use Rattle.text.specs.Stamps.{markedText, threeText, dateText, timeText};
+ghost use Rattle.text.specs.Lines.{line, stampText, fileText, fileRoom, countsText, soundText, soundRoom, unsoundText, unsoundRoom};
 
 // A text as it is.
 fn put_bytes(out: &mut [u8], at: usize, text: &[u8]) -> usize
@@ -59,6 +59,7 @@ fn digit_count(n: usize) -> usize
     count
 }
 
+// A decimal number without leading zeros.
 fn put_decimal(out: &mut [u8], at: usize, n: usize) -> usize
     requires { ⌜ at + 20 ≤ length (now out) ⌝ }
     ensures { λ r. ⌜ PutsIn 20 (decimal n) (now (out .entry)) at r (now (out .exit)) ⌝ }
@@ -67,6 +68,7 @@ fn put_decimal(out: &mut [u8], at: usize, n: usize) -> usize
     put_digits(out, at, 10, count, n)
 }
 
+// A byte in two hex digits.
 fn put_hex(out: &mut [u8], at: usize, n: u8) -> usize
     requires { ⌜ at + 2 ≤ length (now out) ⌝ }
     ensures { λ r. ⌜ PutsIn 2 (hex n) (now (out .entry)) at r (now (out .exit)) ⌝ }
@@ -123,12 +125,22 @@ fn put_extension(out: &mut [u8], at: usize, part: &[u8]) -> usize
     put_part(out, after, part)
 }
 
+// A file's name: the part before the dot, and the extension.
 fn put_name(out: &mut [u8], at: usize, name: [u8; 11]) -> usize
     requires { ⌜ at + 12 ≤ length (now out) ⌝ }
     ensures { λ r. ⌜ PutsIn 12 (nameText name) (now (out .entry)) at r (now (out .exit)) ⌝ }
 {
     let dot = put_part(out, at, &name[0..8]);
     put_extension(out, dot, &name[8..11])
+}
+
+// A mark and a number in two digits.
+fn put_marked(out: &mut [u8], at: usize, mark: &[u8], n: usize) -> usize
+    requires { ⌜ at + (length (now mark) + 2) ≤ length (now out) ⌝ }
+    ensures { λ r. ⌜ PutsIn (length (now (mark .entry)) + 2) (markedText (now (mark .entry)) n) (now (out .entry)) at r (now (out .exit)) ⌝ }
+{
+    let digits = put_bytes(out, at, mark);
+    put_digits(out, digits, 10, 2, n)
 }
 
 // Three numbers with a mark between them: the first in count digits, the others in two.
@@ -141,14 +153,12 @@ fn put_three(
     b: usize,
     c: usize,
 ) -> usize
-    requires { ⌜ at + (count + (length (now mark) * 2 + 4)) ≤ length (now out) ⌝ }
-    ensures { λ r. ⌜ PutsIn (count + (length (now (mark .entry)) * 2 + 4)) (threeText count (now (mark .entry)) a b c) (now (out .entry)) at r (now (out .exit)) ⌝ }
+    requires { ⌜ at + (count + (length (now mark) + 2) * 2) ≤ length (now out) ⌝ }
+    ensures { λ r. ⌜ PutsIn (count + (length (now (mark .entry)) + 2) * 2) (threeText count (now (mark .entry)) a b c) (now (out .entry)) at r (now (out .exit)) ⌝ }
 {
-    let first = put_digits(out, at, 10, count, a);
-    let second = put_bytes(out, first, mark);
-    let third = put_digits(out, second, 10, 2, b);
-    let last = put_bytes(out, third, mark);
-    put_digits(out, last, 10, 2, c)
+    let second = put_digits(out, at, 10, count, a);
+    let third = put_marked(out, second, mark, b);
+    put_marked(out, third, mark, c)
 }
 
 // Year, month and day of a date word.
@@ -189,6 +199,7 @@ fn put_time(out: &mut [u8], at: usize, word: u16) -> usize
     }
 }
 
+// A line with a decimal number.
 fn put_decimal_line(out: &mut [u8], at: usize, key: &[u8], n: usize) -> usize
     requires { ⌜ at + (length (now key) + 21) ≤ length (now out) ⌝ }
     ensures { λ r. ⌜ PutsIn (length (now (key .entry)) + 21) (line (now (key .entry)) (decimal n)) (now (out .entry)) at r (now (out .exit)) ⌝ }
@@ -198,6 +209,7 @@ fn put_decimal_line(out: &mut [u8], at: usize, key: &[u8], n: usize) -> usize
     put_bytes(out, end, b"\n")
 }
 
+// A line with a byte in hex.
 fn put_hex_line(out: &mut [u8], at: usize, key: &[u8], n: u8) -> usize
     requires { ⌜ at + (length (now key) + 3) ≤ length (now out) ⌝ }
     ensures { λ r. ⌜ PutsIn (length (now (key .entry)) + 3) (line (now (key .entry)) (hex n)) (now (out .entry)) at r (now (out .exit)) ⌝ }
@@ -207,6 +219,7 @@ fn put_hex_line(out: &mut [u8], at: usize, key: &[u8], n: u8) -> usize
     put_bytes(out, end, b"\n")
 }
 
+// The line of a file's name.
 fn put_name_line(out: &mut [u8], at: usize, name: [u8; 11]) -> usize
     requires { ⌜ at + 18 ≤ length (now out) ⌝ }
     ensures { λ r. ⌜ PutsIn 18 (line (ascii "file=") (nameText name)) (now (out .entry)) at r (now (out .exit)) ⌝ }
@@ -216,6 +229,7 @@ fn put_name_line(out: &mut [u8], at: usize, name: [u8; 11]) -> usize
     put_bytes(out, end, b"\n")
 }
 
+// The line of a date.
 fn put_date_line(out: &mut [u8], at: usize, word: u16) -> usize
     requires { ⌜ at + 16 ≤ length (now out) ⌝ }
     ensures { λ r. ⌜ PutsIn 16 (line (ascii "date=") (dateText word)) (now (out .entry)) at r (now (out .exit)) ⌝ }
@@ -225,6 +239,7 @@ fn put_date_line(out: &mut [u8], at: usize, word: u16) -> usize
     put_bytes(out, end, b"\n")
 }
 
+// The line of a time.
 fn put_time_line(out: &mut [u8], at: usize, word: u16) -> usize
     requires { ⌜ at + 14 ≤ length (now out) ⌝ }
     ensures { λ r. ⌜ PutsIn 14 (line (ascii "time=") (timeText word)) (now (out .entry)) at r (now (out .exit)) ⌝ }
@@ -234,6 +249,7 @@ fn put_time_line(out: &mut [u8], at: usize, word: u16) -> usize
     put_bytes(out, end, b"\n")
 }
 
+// The lines of a stamp.
 fn put_stamp(out: &mut [u8], at: usize, date: u16, time: u16) -> usize
     requires { ⌜ at + 30 ≤ length (now out) ⌝ }
     ensures { λ r. ⌜ PutsIn 30 (stampText date time) (now (out .entry)) at r (now (out .exit)) ⌝ }
@@ -253,8 +269,8 @@ pub fn put_file(
     date: u16,
     time: u16,
 ) -> usize
-    requires { ⌜ at + 109 ≤ length (now out) ⌝ }
-    ensures { λ r. ⌜ PutsIn 109 (fileText name attr size start date time) (now (out .entry)) at r (now (out .exit)) ⌝ }
+    requires { ⌜ at + fileRoom ≤ length (now out) ⌝ }
+    ensures { λ r. ⌜ PutsIn fileRoom (fileText name attr size start date time) (now (out .entry)) at r (now (out .exit)) ⌝ }
 {
     let attribute = put_name_line(out, at, name);
     let bytes = put_hex_line(out, attribute, b"attr=", attr);
@@ -263,6 +279,7 @@ pub fn put_file(
     put_stamp(out, stamp, date, time)
 }
 
+// The lines of the four counts.
 fn put_counts(
     out: &mut [u8],
     at: usize,
@@ -291,8 +308,8 @@ pub fn put_sound(
     aside: usize,
     files: usize,
 ) -> usize
-    requires { ⌜ at + 154 ≤ length (now out) ⌝ }
-    ensures { λ r. ⌜ PutsIn 154 (soundText kind clusters free held aside files) (now (out .entry)) at r (now (out .exit)) ⌝ }
+    requires { ⌜ at + soundRoom ≤ length (now out) ⌝ }
+    ensures { λ r. ⌜ PutsIn soundRoom (soundText kind clusters free held aside files) (now (out .entry)) at r (now (out .exit)) ⌝ }
 {
     let second = put_bytes(out, at, b"sound=yes\n");
     let third = put_hex_line(out, second, b"kind=", kind);
@@ -302,8 +319,8 @@ pub fn put_sound(
 
 // The lines of a volume that is not sound: a finding and its place.
 pub fn put_unsound(out: &mut [u8], at: usize, finding: usize, place: usize) -> usize
-    requires { ⌜ at + 65 ≤ length (now out) ⌝ }
-    ensures { λ r. ⌜ PutsIn 65 (unsoundText finding place) (now (out .entry)) at r (now (out .exit)) ⌝ }
+    requires { ⌜ at + unsoundRoom ≤ length (now out) ⌝ }
+    ensures { λ r. ⌜ PutsIn unsoundRoom (unsoundText finding place) (now (out .entry)) at r (now (out .exit)) ⌝ }
 {
     let second = put_bytes(out, at, b"sound=no\n");
     let last = put_decimal_line(out, second, b"finding=", finding);

@@ -1,3 +1,4 @@
+-- Lines put one after the other are the whole.
 use Rattle.text.specs.Lines.{countsText}
 use Rattle.text.specs.Laws.Puts.{puts-then}
 use borrow.Author.Needs.{needs}

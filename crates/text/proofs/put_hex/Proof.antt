@@ -1,3 +1,4 @@
+-- Two digits in base 16 are the hex digits.
 use Rattle.text.specs.Digits.{hex}
 use borrow.Author.Needs.{needs}
 use Rattle.text.proofs.put_hex.Statement.{statement}

@@ -1,3 +1,4 @@
+-- A key, a value and an end are a line.
 use Rattle.text.specs.Laws.Puts.{puts-line}
 use borrow.Author.Needs.{needs}
 use Rattle.text.proofs.put_hex_line.Statement.{statement}

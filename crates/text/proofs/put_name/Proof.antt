@@ -1,3 +1,4 @@
+-- Two parts put one after the other are the name.
 use Rattle.text.specs.Names.{nameText}
 use Rattle.text.specs.Laws.Puts.{puts-then}
 use borrow.Author.Needs.{needs}

@@ -1,3 +1,4 @@
+-- Pieces put one after the other are the whole.
 use Rattle.text.specs.Stamps.{threeText}
 use Rattle.text.specs.Laws.Puts.{puts-then}
 use borrow.Author.Needs.{needs}
@@ -7,33 +8,20 @@ use Rattle.text.proofs.put_three.Tie as tie
 put-digits-requires : tie.Need-put-digits-requires
 put-digits-requires c κs = search needs
 
-put-bytes-requires : tie.Need-put-bytes-requires
-put-bytes-requires c κs = search needs
+put-marked-requires : tie.Need-put-marked-requires
+put-marked-requires c κs = search needs
 
-put-digits-requires-2 : tie.Need-put-digits-requires-2
-put-digits-requires-2 c κs = search needs
-
-put-bytes-requires-2 : tie.Need-put-bytes-requires-2
-put-bytes-requires-2 c κs = search needs
-
-put-digits-requires-3 : tie.Need-put-digits-requires-3
-put-digits-requires-3 c κs = search needs
+put-marked-requires-2 : tie.Need-put-marked-requires-2
+put-marked-requires-2 c κs = search needs
 
 same-length : tie.Need-same-length
 same-length c = search needs
 
 returns : tie.Need-returns
 unfolding threeText
-returns c = record { puts = search puts-then; room = search needs }
+returns c = search (needs, puts-then)
 
 pub put-three-spec : {M : Type 1} → statement M
 put-three-spec =
     tie.close
-    (tie.spec
-    put-digits-requires
-    put-bytes-requires
-    put-digits-requires-2
-    put-bytes-requires-2
-    put-digits-requires-3
-    same-length
-    returns)
+    (tie.spec put-digits-requires put-marked-requires put-marked-requires-2 same-length returns)

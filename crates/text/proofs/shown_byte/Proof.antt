@@ -1,3 +1,4 @@
+-- A plain byte stays, any other is a question mark.
 use Rattle.text.specs.Laws.Names.{shown-plain, shown-other}
 use borrow.Author.Needs.{needs}
 use Rattle.text.proofs.shown_byte.Statement.{statement}

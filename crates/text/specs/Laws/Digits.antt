@@ -3,8 +3,8 @@ use Prim.Native.Nat.{ℕ, zero, suc, _+_, _-_, _*_, _/_, _%_, _≤_, _<_}
 use native.Mathlib.Omega.{arith}
 use native.Mathlib.Decide.{decLt}
 use native.Mathlib.Nat.{mod-lt}
-use mathlib.Core.List.{List, [], _∷_, _++_}
-use mathlib.Core.Logic.{inl, inr}
+use mathlib.Core.List.{List, [], _∷_}
+use mathlib.Core.Logic.{inr}
 use mathlib.Core.Path.{_≡_, refl, sym, _∙_, ap}
 use lib.ListN.{length, set, length-append}
 use borrow.Author.Tests.{lt-ltb, le-ltb}
@@ -60,9 +60,6 @@ pub width-most : (n : ℕ) → n < 0x1_0000_0000_0000_0000 → width n ≤ 20
 width-most n h = width-below 19 n (omega arith)
 
 -- ---- in the form of the loop: what is left counts the rest's digits
-
-pub width-all : (n : ℕ) → 1 + width n ≡ width n + 1
-width-all n = omega arith
 
 pub width-turn : (n m w : ℕ) → 9 < n → m + width n ≡ w + 1 → m + 1 + width (n / 10) ≡ w + 1
 width-turn n m w h inv = omega (arith, width-more n h)

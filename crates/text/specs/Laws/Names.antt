@@ -1,9 +1,9 @@
 -- A name's parts, byte by byte.
-use Prim.Native.Nat.{ℕ, zero, suc, _+_, _-_, _≤_, _<_}
+use Prim.Native.Nat.{ℕ, _+_, _-_, _≤_, _<_}
 use native.Mathlib.Omega.{arith}
 use native.Mathlib.Numerals.{add-one}
 use mathlib.Core.Bool.{Bool, true, false}
-use mathlib.Core.List.{List, [], _∷_, _++_, map}
+use mathlib.Core.List.{List, [], _∷_}
 use mathlib.Core.Logic.{_≢_}
 use mathlib.Core.Path.{_≡_, refl, sym, _∙_, ap}
 use lib.ListN.{length, getD, set, take, drop, length-drop, drop-of-length-le}
@@ -12,7 +12,7 @@ use borrow.Author.Tests.{eq-eqb, ne-eqb}
 use Rattle.image.specs.Store.{stored}
 use Rattle.names.specs.Alphabet.{plain}
 use Rattle.names.specs.Spelling.{dot, space, every}
-use Rattle.text.specs.Names.{blank, trimmed, shown, partText, extText, nameText}
+use Rattle.text.specs.Names.{blank, trimmed, shown, partText, extText}
 use Rattle.text.specs.Puts.{Puts, PutsIn}
 use Rattle.text.specs.Laws.Puts.{puts-nothing, puts-then}
 

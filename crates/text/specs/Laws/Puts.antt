@@ -1,14 +1,14 @@
 -- Texts put one after the other are one text.
-use Prim.Native.Nat.{ℕ, _+_, _≤_}
+use Prim.Native.Nat.{ℕ, _+_}
 use native.Mathlib.Omega.{arith}
 use mathlib.Core.List.{List, [], _++_}
 use mathlib.Core.Path.{_≡_, refl, sym, _∙_}
-use lib.ListN.{length, length-append}
+use lib.ListN.{length-append}
 use Rattle.image.specs.Store.{stored}
 use Rattle.image.specs.Laws.Store.{stored-append}
 use Rattle.text.specs.Ascii.{ascii}
 use Rattle.text.specs.Lines.{line}
-use Rattle.text.specs.Puts.{Puts, PutsIn}
+use Rattle.text.specs.Puts.{Puts}
 
 -- what is put there and what is answered is settled
 pub only : {text l m m′ : List ℕ} {at r r′ : ℕ} → Puts text l at r m → Puts text l at r′ m′ → (r ≡ r′) × (m ≡ m′)
