@@ -1,0 +1,35 @@
+-- Texts put one after the other are one text.
+use Prim.Native.Nat.{ℕ, _+_}
+use native.Mathlib.Omega.{arith}
+use mathlib.Core.List.{List, [], _++_}
+use mathlib.Core.Path.{_≡_, refl, sym, _∙_}
+use lib.ListN.{length-append}
+use Rattle.image.specs.Store.{stored}
+use Rattle.image.specs.Laws.Store.{stored-append}
+use Rattle.text.specs.Ascii.{ascii}
+use Rattle.text.specs.Lines.{line}
+use Rattle.text.specs.Puts.{Puts}
+
+-- what is put there and what is answered is settled
+pub only : {text l m m′ : List ℕ} {at r r′ : ℕ} → Puts text l at r m → Puts text l at r′ m′ → (r ≡ r′) × (m ≡ m′)
+only p q = (p .next ∙ sym (q .next), p .stores ∙ sym (q .stores))
+
+pub puts-nothing : (l : List ℕ) (at : ℕ) → Puts [] l at at l
+unfolding stored
+puts-nothing l at = record { stores = refl; next = omega arith }
+
+pub puts-then : (s t l : List ℕ) (at r : ℕ) (m : List ℕ) (r′ : ℕ) (m′ : List ℕ) → Puts s l at r m → Puts t m r r′ m′ → Puts (s ++ t) l at r′ m′
+puts-then s t l at r m r′ m′ p q =
+    record {
+      stores = rw (stored-append l at s t, ← p .next, ← p .stores) (q .stores);
+      next = rw (length-append s t) (omega arith);
+    }
+
+pub puts-line : (key value l : List ℕ) (at a : ℕ) (m : List ℕ) (b : ℕ) (n : List ℕ) (r : ℕ) (o : List ℕ)
+    → Puts key l at a m → Puts value m a b n → Puts (ascii "\n") n b r o → Puts (line key value) l at r o
+unfolding line
+puts-line key value l at a m b n r o p q e = puts-then key (value ++ ascii "\n") l at a m r o p (puts-then value (ascii "\n") m a b n r o q e)
+
+-- a value that was told apart is shown as what it is
+pub puts-shown : {A : Type 0} (show : A → List ℕ) (read told a : A) (l : List ℕ) (at r : ℕ) (m : List ℕ) → a ≡ read → a ≡ told → Puts (show told) l at r m → Puts (show read) l at r m
+puts-shown show read told a l at r m e f p = rw (sym e ∙ f) p
