@@ -16,8 +16,9 @@ compare: SEED = 0
 compare:
 	tests/compare/program compare $(N) $(SEED)
 
+# Times where programs run as they are, else instructions.
 bench:
-	tests/compare/program bench
+	if tests/x86.sh --native; then tests/compare/program bench; else tests/compare/instructions; fi
 
 clean:
 	rm -rf target tests/compare/target

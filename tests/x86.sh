@@ -5,6 +5,7 @@
 #   x86.sh PROGRAM [WORDS..]   runs a program made for x86-64
 #   x86.sh --cc [WORDS..]      compiles and links C for x86-64 by gcc
 #   x86.sh --cargo [WORDS..]   runs cargo for x86-64 (cargo test runs its tests). Results: target/x86_64-unknown-linux-gnu/
+#   x86.sh --count PLUGIN PROGRAM [WORDS..]   runs it under the emulator, on any machine, with a plugin of the emulator
 #   x86.sh --native            says by its exit status whether x86-64 programs run here without the emulator
 set -eu
 
@@ -68,6 +69,12 @@ case ${1:-} in
   export CARGO_TARGET_X86_64_UNKNOWN_LINUX_GNU_LINKER=x86_64-linux-gnu-gcc
   export CARGO_TARGET_X86_64_UNKNOWN_LINUX_GNU_RUNNER="qemu-x86_64 $loader --library-path /lib/x86_64-linux-gnu"
   with_target "$@"
+  ;;
+--count)
+  plugin=$2
+  shift 2
+  need_emulator
+  exec qemu-x86_64 -plugin "$plugin" $loader --library-path /lib/x86_64-linux-gnu "$@"
   ;;
 *)
   $native && exec "$@"
