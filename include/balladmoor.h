@@ -3,8 +3,8 @@
  * Link with libscale.a (`rt staticlib scale` makes it, for x86-64).
  *
  * Numbers are uint32_t, and any value may come in: one that is out of range is refused, never misread.
- * A run of bytes is a pointer and then its length. A length of 0 is allowed, with any pointer, NULL too. The runs of one
- * call must not overlap. A call uses no other memory and keeps nothing between calls.
+ * A run of bytes is a pointer and then its length. A length of 0 is allowed, with any pointer, NULL too. The runs of
+ * one call must not overlap. A call uses no other memory of the caller and keeps nothing between calls.
  *
  * Every call answers one uint64_t: take it apart by BM_NUMBER and BM_VALUE. BM_NUMBER is 0 if the call ended well, else
  * the number of the refusal; BM_VALUE is the value, 0 after a refusal. bm_check and bm_check_system never refuse: there
@@ -69,8 +69,8 @@ extern "C" {
 
 /* Makes a blank volume.
  *
- * kind is one of the four kind bytes, and image is as long as that kind's image. What stood in image is lost: data bytes
- * become F6; all before them zero, but for the kind byte and FF FF at the beginning of each copy of the table.
+ * kind is one of the four kind bytes, and image is as long as that kind's image. What stood in image is lost: data
+ * bytes become F6; all before them zero, but for the kind byte and FF FF at the beginning of each copy of the table.
  *
  * Value: 0.
  * Refusal: 40 if kind is no kind byte or the image has not that kind's length; image is left as it came. */

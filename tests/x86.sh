@@ -1,10 +1,10 @@
 #!/usr/bin/env bash
-# The products are for x86-64 Linux. This is the one place that asks which machine it is; on Arm it uses a cross compiler
-# and an emulator, and installs them where they are missing.
+# The products are for x86-64 Linux. This is the one place that asks which machine it is. On Arm it uses a cross
+# compiler and an emulator, and installs them where they are missing.
 #
 #   x86.sh PROGRAM [WORDS..]   runs a program made for x86-64
 #   x86.sh --cc [WORDS..]      compiles and links C for x86-64 by gcc
-#   x86.sh --cargo [WORDS..]   runs cargo for x86-64 (cargo test runs its tests). Results: target/x86_64-unknown-linux-gnu/
+#   x86.sh --cargo [WORDS..]   runs cargo for x86-64; what it makes is under target/x86_64-unknown-linux-gnu/
 #   x86.sh --count PLUGIN PROGRAM [WORDS..]   runs it under the emulator, on any machine, with a plugin of the emulator
 #   x86.sh --native            says by its exit status whether x86-64 programs run here without the emulator
 set -eu

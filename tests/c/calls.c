@@ -84,7 +84,9 @@ static int has_words(const uint8_t *out, uint32_t a, uint32_t b, uint32_t c, uin
 struct kind {
     const char *name;
     uint32_t byte;
-    size_t sectors, fat_sectors, root_entries, per_cluster, first_data;
+    size_t sectors, fat_sectors;
+    uint32_t root_entries, per_cluster;
+    size_t first_data;
     uint32_t clusters;
     size_t image_size, system_size;
 };
@@ -116,7 +118,7 @@ static void try_blank_system_area(const struct kind *kind, const uint8_t *image)
 {
     struct block out = new_block(20);
     uint64_t answer = bm_check_system(image, kind->system_size, out.bytes, 16);
-    expect(answers(answer, 0, 0) && has_words(out.bytes, 0, kind->clusters, 0, 0), "check_system: the area alone is sound");
+    expect(answers(answer, 0, 0) && has_words(out.bytes, 0, kind->clusters, 0, 0), "check_system: the area is sound");
     expect(guards_stand(&out) && all_are(out.bytes + 16, 4, OLD_BYTE), "check_system: bytes past the counts stay");
     answer = bm_check_system(image, kind->image_size, NULL, 0);
     expect(answers(answer, 0, 0), "check_system: bytes past the area are ignored");
@@ -128,7 +130,7 @@ static void try_blank_system_area(const struct kind *kind, const uint8_t *image)
 static void try_blank_entries(const struct kind *kind, const uint8_t *image)
 {
     struct block out = new_block(BM_ENTRY_SIZE);
-    uint32_t last = (uint32_t)kind->root_entries - 1;
+    uint32_t last = kind->root_entries - 1;
     int none = answers(bm_entry(image, kind->image_size, 0, out.bytes, out.length), 0, 0) &&
                answers(bm_entry(image, kind->image_size, last, out.bytes, out.length), 0, 0);
     int out_of_range = answers(bm_entry(image, kind->image_size, last + 1, out.bytes, out.length), 0, 0) &&
@@ -159,7 +161,7 @@ static void try_blank(const struct kind *kind)
     memset(out.bytes, OLD_BYTE, out.length);
     answer = bm_free_space(image.bytes, image.length, out.bytes, out.length);
     expect(answers(answer, 0, kind->clusters), "free space: all clusters");
-    expect(has_words(out.bytes, kind->clusters, kind->clusters, 512, (uint32_t)kind->per_cluster), "free space: four words");
+    expect(has_words(out.bytes, kind->clusters, kind->clusters, 512, kind->per_cluster), "free space: four words");
     expect(guards_stand(&out) && all_are(out.bytes + 16, 4, OLD_BYTE), "free space: bytes past the words stay");
     try_blank_system_area(kind, image.bytes);
     try_blank_entries(kind, image.bytes);
@@ -232,10 +234,10 @@ static void try_short_out(const uint8_t *image)
 {
     struct block out = new_block(21);
     size_t size = BM_IMAGE_SIZE_FE;
-    expect(answers(bm_check(image, size, out.bytes, 15), 0, 0), "check: the same answer with a short out");
-    expect(answers(bm_check_system(image, size, out.bytes, 15), 0, 0), "check_system: the same answer with a short out");
-    expect(answers(bm_free_space(image, size, out.bytes, 15), 0, 309), "free space: the same answer with a short out");
-    expect(answers(bm_entry(image, size, 0, out.bytes, 21), 0, 1), "entry: the same answer with a short out");
+    expect(answers(bm_check(image, size, out.bytes, 15), 0, 0), "check: the same with a short out");
+    expect(answers(bm_check_system(image, size, out.bytes, 15), 0, 0), "check_system: the same with a short out");
+    expect(answers(bm_free_space(image, size, out.bytes, 15), 0, 309), "free space: the same with a short out");
+    expect(answers(bm_entry(image, size, 0, out.bytes, 21), 0, 1), "entry: the same with a short out");
     expect(guards_stand(&out) && all_are(out.bytes, 21, OLD_BYTE), "a short out stays as it came");
     free(out.all);
 }
@@ -351,13 +353,13 @@ static void try_change(const struct change *change, struct block *image)
     free(out.all);
 }
 
-/* DAY001.LOG becomes one cluster long and starts at TARE.KEY's. Its old clusters, in no file now, are a later finding. */
+/* DAY001.LOG becomes one cluster long and starts at TARE.KEY's. Its old clusters are in no file: a later finding. */
 static void try_shared(struct block *image)
 {
     lay_out_listing(image->bytes);
     image->bytes[ROOT + 32 + 26] = 2;
     put16(image->bytes + ROOT + 32 + 28, 512);
-    expect(answers(bm_check(image->bytes, image->length, NULL, 0), 6, 2), "a cluster in two files is finding 6 at cluster 2");
+    expect(answers(bm_check(image->bytes, image->length, NULL, 0), 6, 2), "a cluster in two files is finding 6");
     expect(answers(bm_check_system(image->bytes, BM_SYSTEM_SIZE_FE, NULL, 0), 6, 2), ".. for check_system too");
     expect(answers(bm_free_space(image->bytes, image->length, NULL, 0), 41, 0), ".. and free space refuses by 41");
 }
@@ -381,6 +383,7 @@ static void try_findings(void)
 
 static void try_label(void)
 {
+    static const uint8_t label[] = "SCALE      \x08\x00\x35\x21\x07\x4D\x00\x07\x00\x00";
     struct block image = new_block(BM_IMAGE_SIZE_FE);
     struct block out = new_block(22);
     puts("-- a label and an erased slot");
@@ -391,7 +394,7 @@ static void try_label(void)
     expect(has_words(out.bytes, 2, 309, 4, 0), "check: neither counts as a file");
     expect(answers(bm_entry(image.bytes, image.length, 2, out.bytes, 22), 0, 0), "entry: none for an erased slot");
     expect(answers(bm_entry(image.bytes, image.length, 3, out.bytes, 22), 0, 1), "entry: the label");
-    expect(memcmp(out.bytes, "SCALE      \x08\x00\x35\x21\x07\x4D\x00\x07\x00\x00", 22) == 0, "entry: the label as stored");
+    expect(memcmp(out.bytes, label, 22) == 0, "entry: the label as stored");
     free(image.all);
     free(out.all);
 }

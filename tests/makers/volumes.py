@@ -40,6 +40,11 @@ def expect(got, wanted, what):
         failed += 1
 
 
+def printed(command, data):
+    """What a program prints for these bytes."""
+    return subprocess.run(command, input=data, stdout=subprocess.PIPE, check=True).stdout.decode()
+
+
 class Volume:
     """A volume that only mtools changes."""
 
@@ -73,11 +78,12 @@ class Volume:
             return file.read()
 
     def judged(self):
-        return subprocess.run(JUDGE, input=self.bytes(), stdout=subprocess.PIPE, check=True).stdout.decode().strip()
+        """The line that the archive's check gives."""
+        return printed(JUDGE, self.bytes()).strip()
 
     def listed(self):
         """The listing's lines."""
-        return subprocess.run(LISTING, input=self.bytes(), stdout=subprocess.PIPE, check=True).stdout.decode().splitlines()
+        return printed(LISTING, self.bytes()).splitlines()
 
     def root(self):
         """The root's entries, by the fields of the boot sector."""
@@ -137,7 +143,7 @@ def listed_files(lines):
 def try_blank(folder, kilobytes):
     volume = Volume(folder, kilobytes)
     kind = int(volume.kind, 16)
-    # mformat's table begins with the media byte, which is the kind byte, and FF FF: byte 512 and the length make the kind.
+    # mformat's table begins with the media byte, our kind byte, and FF FF. With the length that makes the kind.
     expect(volume.bytes()[512:515], bytes([kind, 0xFF, 0xFF]), f"{kilobytes}K: mformat's table begins as ours")
     expect(len(volume.bytes()), 1024 * kilobytes, f"{kilobytes}K: the length of the kind")
     volume.expect_sound("blank")
