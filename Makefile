@@ -1,6 +1,8 @@
-# make        proves every crate, builds the programs and shows the worked numbers
-# make test   the gate: everything from nothing, with the must-fail edits and all tests
-# make clean  removes what was made
+# make           proves every crate, builds the programs and shows the worked numbers
+# make test      the gate: everything from nothing, with the must-fail edits and all tests
+# make compare   the archive against the independent implementation; N=1000000 volumes, SEED=5 from this seed on
+# make bench     the archive's speed against the independent implementation's
+# make clean     removes what was made
 
 all:
 	rt check
@@ -9,7 +11,16 @@ all:
 test:
 	.ci/run
 
-clean:
-	rm -rf target
+compare: N = 100000
+compare: SEED = 0
+compare:
+	tests/compare/program compare $(N) $(SEED)
 
-.PHONY: all test clean
+# Times where programs run as they are, else instructions.
+bench:
+	if tests/x86.sh --native; then tests/compare/program bench; else tests/compare/instructions; fi
+
+clean:
+	rm -rf target tests/compare/target
+
+.PHONY: all test compare bench clean

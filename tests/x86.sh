@@ -1,15 +1,84 @@
 #!/usr/bin/env bash
-# x86.sh PROGRAM [WORDS..]: runs a program made for x86-64 Linux, on such a machine as it is and on Arm under an emulator.
-# This is the one place that asks which machine it is.
+# The products are for x86-64 Linux. This is the one place that asks which machine it is. On Arm it uses a cross
+# compiler and an emulator, and installs them where they are missing.
+#
+#   x86.sh PROGRAM [WORDS..]   runs a program made for x86-64
+#   x86.sh --cc [WORDS..]      compiles and links C for x86-64 by gcc
+#   x86.sh --cargo [WORDS..]   runs cargo for x86-64; what it makes is under target/x86_64-unknown-linux-gnu/
+#   x86.sh --count PLUGIN PROGRAM [WORDS..]   runs it under the emulator, on any machine, with a plugin of the emulator
+#   x86.sh --native            says by its exit status whether x86-64 programs run here without the emulator
 set -eu
-if [ "$(uname -m)" = x86_64 ]; then
-  exec "$@"
-fi
-if ! command -v qemu-x86_64 >/dev/null || [ ! -e /lib64/ld-linux-x86-64.so.2 ]; then
+
+loader=/lib64/ld-linux-x86-64.so.2
+target=x86_64-unknown-linux-gnu
+native=false
+[ "$(uname -m)" != x86_64 ] || native=true
+
+# install PACKAGES..: Debian packages, those for amd64 too.
+install() {
   {
     dpkg --add-architecture amd64
     apt-get update
-    apt-get install -y --no-install-recommends qemu-user libc6:amd64
+    apt-get install -y --no-install-recommends "$@"
   } >&2
-fi
-exec qemu-x86_64 /lib64/ld-linux-x86-64.so.2 --library-path /lib/x86_64-linux-gnu "$@"
+}
+
+need_emulator() {
+  if ! command -v qemu-x86_64 >/dev/null || [ ! -e "$loader" ]; then
+    install qemu-user libc6:amd64
+  fi
+}
+
+need_compiler() {
+  if ! command -v x86_64-linux-gnu-gcc >/dev/null; then
+    install gcc-x86-64-linux-gnu libc6-dev-amd64-cross
+  fi
+}
+
+# Debian's compiler has a standard library for x86-64; the machine's own need not have one.
+need_rust() {
+  if [ ! -x /usr/bin/rustc ] || [ ! -d /usr/lib/rustlib/$target ]; then
+    install rustc-web libstd-rust-web-dev:amd64
+  fi
+}
+
+# with_target FIRST [WORDS..]: cargo's words with the target after the first, the subcommand.
+with_target() {
+  local subcommand=$1
+  shift
+  exec cargo "$subcommand" --target $target "$@"
+}
+
+case ${1:-} in
+--native)
+  $native
+  ;;
+--cc)
+  shift
+  $native && exec gcc "$@"
+  need_compiler
+  exec x86_64-linux-gnu-gcc "$@"
+  ;;
+--cargo)
+  shift
+  $native && with_target "$@"
+  need_emulator
+  need_compiler
+  need_rust
+  export RUSTC=/usr/bin/rustc
+  export CARGO_TARGET_X86_64_UNKNOWN_LINUX_GNU_LINKER=x86_64-linux-gnu-gcc
+  export CARGO_TARGET_X86_64_UNKNOWN_LINUX_GNU_RUNNER="qemu-x86_64 $loader --library-path /lib/x86_64-linux-gnu"
+  with_target "$@"
+  ;;
+--count)
+  plugin=$2
+  shift 2
+  need_emulator
+  exec qemu-x86_64 -plugin "$plugin" $loader --library-path /lib/x86_64-linux-gnu "$@"
+  ;;
+*)
+  $native && exec "$@"
+  need_emulator
+  exec qemu-x86_64 $loader --library-path /lib/x86_64-linux-gnu "$@"
+  ;;
+esac

@@ -6,6 +6,7 @@
 pub mod broken;
 pub mod calls;
 pub mod damage;
+pub mod mixed;
 pub mod open_tables;
 pub mod plan;
 pub mod random;

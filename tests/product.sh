@@ -1,0 +1,20 @@
+#!/usr/bin/env bash
+# product.sh archive   makes target/staticlib/libscale.a
+# product.sh listing   makes target/bin/listing
+# Only where it is missing or older than a source; what is proved already is not proved again.
+set -eu
+cd "$(dirname "$0")/.."
+
+# is_fresh FILE: whether it is there and no source is newer.
+is_fresh() {
+  [ -e "$1" ] && [ -z "$(find crates.txt crates -type f -newer "$1" -print -quit)" ]
+}
+
+case $1 in
+archive) is_fresh target/staticlib/libscale.a || rt staticlib scale ;;
+listing) is_fresh target/bin/listing || rt check listing ;;
+*)
+  echo "product.sh: no product is called $1" >&2
+  exit 2
+  ;;
+esac
