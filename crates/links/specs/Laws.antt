@@ -1,0 +1,2 @@
+-- The laws of the definitions beside this folder. Turns: what the loops ask. The others: what their results mean.
+pub mod Turns
