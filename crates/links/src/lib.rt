@@ -68,6 +68,7 @@ fn next_free(img: &[u8], last: usize, from: usize) -> usize
     requires { ⌜ wordAt 512 last + 2 ≤ length (now img) ⌝ }
     requires { ⌜ 2 ≤ from ⌝ }
     ensures { λ r. ⌜ r ≡ nextFree last (now (img .entry)) from ⌝ }
+    ensures { λ r. ⌜ r ≤ last ⌝ }
 {
     let mut cluster = from;
     while cluster <= last {

@@ -4,25 +4,28 @@ use native.Mathlib.Omega.{arith}
 use native.Mathlib.Decide.{ℕ-discrete}
 use mathlib.Core.Bool.{cond}
 use mathlib.Core.List.{List, [], _∷_}
-use mathlib.Core.Logic.{_≢_, _⊎_, inl, inr}
+use mathlib.Core.Logic.{_≢_, inl, inr}
 use mathlib.Core.Path.{_≡_, refl, sym, ap, _∙_}
 use lib.Dec.{eqb}
-use lib.ListN.{take}
+use lib.ListN.{length, take}
 use borrow.Author.Tests.{le-leb, lt-leb, eq-eqb, ne-eqb}
 use Rattle.chains.specs.Values.{linkb}
 use Rattle.chains.specs.Lists.{startOf}
 use Rattle.chains.specs.Free.{freeFrom, freeClusters}
 use Rattle.chains.specs.Steps.{followed}
-use Rattle.chains.specs.Laws.Free.{free-nil, free-no, free-yes}
 use Rattle.chains.specs.Laws.FreeTurns as search
 use Rattle.chains.specs.Laws.StepTurns.{followed-turn, followed-end}
-use Rattle.table.specs.Entries.{entryOf, setBoth, tableOf}
+use Rattle.table.specs.Entries.{entryOf, setBoth, Reaches, tableOf}
 use Rattle.table.specs.Laws.View.{table-inside, table-outside}
 use Rattle.links.specs.Freed.{freedFrom}
 use Rattle.links.specs.Linked.{linkedTo, newClusters, nextFree, linkedFrom, firstFrom, Added}
 
 down : (n : ℕ) → 0 < n → n ≡ suc (n - 1)
 down n h = omega arith
+
+-- an image as long as before holds the same entries
+pub reaches-long : (second : ℕ) (l m : List ℕ) (last c : ℕ) → Reaches second l last → length m ≡ length l → c ≤ last → Reaches second m c
+reaches-long second l m last c r e h = record { low = omega arith; high = omega arith }
 
 -- ---- a chain freed
 
@@ -82,21 +85,6 @@ module _ (last : ℕ) (l : List ℕ) (c whole : ℕ) (inv : nextFree last l c �
   pub next-end : last < c → 0 ≡ whole
   unfolding nextFree
   next-end h = search.lowest-end (tableOf last l) last c whole h inv
-
--- it is among the clusters from c on
-found : (f : ℕ → ℕ) (k c : ℕ) → (startOf (freeFrom f k c) ≡ 0) ⊎ ((c ≤ startOf (freeFrom f k c)) × (startOf (freeFrom f k c) < c + k))
-found f zero c = inl (ap startOf (free-nil f c))
-found f (suc k) c = elim (ℕ-discrete (f c) 0) [
-  | yes e ↦ let z : startOf (freeFrom f (suc k) c) ≡ c = ap startOf (free-yes f k c e) in inr (omega arith, omega arith)
-  | no e ↦ let z : startOf (freeFrom f (suc k) c) ≡ startOf (freeFrom f k (suc c)) = ap startOf (free-no f k c e) in elim (found f k (suc c)) [
-    | inl h ↦ inl (z ∙ h)
-    | inr h ↦ inr (omega arith, omega arith)
-  ]
-]
-
-pub next-small : (last : ℕ) (l : List ℕ) (c r : ℕ) → r ≡ nextFree last l c → r ≤ last
-unfolding nextFree
-next-small last l c r e = elim (found (tableOf last l) (last + 1 - c) c) [ inl h ↦ omega arith | inr h ↦ omega arith ]
 
 -- ---- clusters added
 
