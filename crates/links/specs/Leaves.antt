@@ -1,11 +1,17 @@
--- What a change of clusters' entries leaves.
+-- What theorems ask of an image, and what a change of clusters' entries leaves of it.
 use Prim.Native.Nat.{ℕ, _+_, _*_, _/_, _≤_, _<_}
 use mathlib.Core.List.{List}
 use mathlib.Core.Logic.{_⊎_}
 use mathlib.Core.Path.{_≡_}
 use lib.ListN.{length, getD}
 use Rattle.image.specs.Bytes.{Bytes}
-use Rattle.table.specs.Entries.{wordAt, Agree}
+use Rattle.table.specs.Entries.{wordAt, Reaches, Agree}
+
+-- l is bytes, and both copies hold the entries of all clusters
+pub record Holds (second last : ℕ) (l : List ℕ) : Type 0 where
+  pub small : last ≤ 4079
+  pub bytes : Bytes l
+  pub reaches : Reaches second l last
 
 -- byte j is none of those that hold the clusters' entries of the copy at byte base: it stands before them (the copy's first
 -- three bytes are the kind byte and FF FF) or after them

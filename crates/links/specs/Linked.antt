@@ -2,17 +2,23 @@
 use Prim.Native.Nat.{ℕ, zero, suc, _+_, _-_}
 use mathlib.Core.Bool.{cond}
 use mathlib.Core.List.{List, [], _∷_}
+use mathlib.Core.Logic.{_⊎_, _≢_}
 use mathlib.Core.Path.{_≡_}
 use lib.Dec.{eqb}
 use lib.ListN.{take}
 use Rattle.chains.specs.Free.{freeFrom, freeClusters}
 use Rattle.chains.specs.Lists.{startOf, lastOf}
+use Rattle.chains.specs.Values.{Link}
 use Rattle.table.specs.Entries.{setBoth, tableOf}
 
 -- the last cluster of a chain, 0 where it has none
 abbrev pub endOf : List ℕ → ℕ
 endOf [] = 0
 endOf (c ∷ cs) = lastOf c cs
+
+-- prev may have a new cluster behind it: it is a cluster and not free, or 0
+abbrev pub Behind : ℕ → (ℕ → ℕ) → ℕ → Type 0
+Behind last f prev = (prev ≡ 0) ⊎ (Link last prev × (f prev ≢ 0))
 
 -- cluster d comes behind prev, or begins a chain where prev is 0: it ends the chain ("We write FFF"), and prev names it
 unfoldable pub linkedTo : ℕ → List ℕ → ℕ → ℕ → List ℕ
