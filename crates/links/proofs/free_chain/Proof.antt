@@ -8,10 +8,10 @@ use Rattle.links.proofs.free_chain.Statement.{statement}
 use Rattle.links.proofs.free_chain.Tie as tie
 
 abbrev Inv-loop : tie.InvT-loop
-Inv-loop img₀ second last start n cluster₀ left₀ img cluster left = (length img ≡ length img₀) × (freedFrom second last img left cluster ≡ freedFrom second last img₀ n start)
+Inv-loop img₀ second last start n cluster₀ rest₀ img cluster rest = (length img ≡ length img₀) × (freedFrom second last img rest cluster ≡ freedFrom second last img₀ n start)
 
 abbrev μ-loop : tie.MeasureT-loop
-μ-loop img₀ second last start n cluster₀ left₀ img cluster left = left
+μ-loop img₀ second last start n cluster₀ rest₀ img cluster rest = rest
 
 loop-holds : tie.Need-loop-holds Inv-loop μ-loop
 loop-holds c = search needs
@@ -37,8 +37,8 @@ set-entry-requires c κs = search (needs, reaches-long)
 cast-cluster : tie.Need-cast-cluster Inv-loop μ-loop
 cast-cluster c = search needs
 
-sub-left : tie.Need-sub-left Inv-loop μ-loop
-sub-left c = search needs
+sub-rest : tie.Need-sub-rest Inv-loop μ-loop
+sub-rest c = search needs
 
 loop-less : tie.Need-loop-less Inv-loop μ-loop
 loop-less c = search needs
@@ -66,7 +66,7 @@ free-chain-spec =
     entry-requires
     set-entry-requires
     cast-cluster
-    sub-left
+    sub-rest
     loop-less
     loop-again
     same-length-3

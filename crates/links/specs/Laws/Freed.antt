@@ -2,23 +2,22 @@
 use Prim.Native.Nat.{ℕ, suc, _≤_}
 use native.Mathlib.Omega.{arith}
 use native.Mathlib.Decide.{ℕ-discrete}
-use mathlib.Core.Bool.{cond, true}
 use mathlib.Core.List.{List, [], _∷_}
 use mathlib.Core.Logic.{inl, inr}
 use mathlib.Core.Path.{_≡_, refl, sym, ap, subst, _∙_}
 use lib.ListN.{length}
 use Rattle.chains.specs.Put.{put}
 use Rattle.chains.specs.Lists.{_∈_}
-use Rattle.chains.specs.Values.{Link, linkb}
+use Rattle.chains.specs.Values.{Link}
 use Rattle.chains.specs.Chain.{Leads, Chain}
 use Rattle.chains.specs.Growth.{released}
 use Rattle.chains.specs.Laws.Tests.{true-says}
 use Rattle.chains.specs.Laws.Values.{says-link}
-use Rattle.chains.specs.Laws.Put.{put-cases, put-same, put-other}
+use Rattle.chains.specs.Laws.Put.{put-same, put-other}
 use Rattle.chains.specs.Laws.Lists.{dec-mem, mem-occ}
 use Rattle.chains.specs.Laws.Chain.{after-fresh, chain-frame, chain-mem}
 use Rattle.chains.specs.Laws.Growth.{released-in, released-out}
-use Rattle.table.specs.Entries.{entryOf, setBoth, tableOf}
+use Rattle.table.specs.Entries.{setBoth, tableOf}
 use Rattle.table.specs.Laws.View.{table-inside}
 use Rattle.links.specs.Freed.{freed, freedFrom}
 use Rattle.links.specs.Leaves.{Holds}
@@ -42,7 +41,7 @@ module _ (second last : ℕ) where
       let m = setBoth second l x 0 in
       let fresh : ¬ (x ∈ xs) = λ i. omega (arith, after-fresh (geometry last (holds .small)) (tableOf last l) x xs (p .2), mem-occ x xs i) in
       let same : (a : ℕ) → a ∈ xs → tableOf last m a ≡ tableOf last l a
-          = λ a i. ap (λ (f : ℕ → ℕ). f a) (table-set second last l holds x 0 (p .1) (omega arith)) ∙ put-other (tableOf last l) x 0 a (λ e. fresh (subst (λ (b : ℕ). b ∈ xs) e i)) in
+      = λ a i. ap (λ (f : ℕ → ℕ). f a) (table-set second last l holds x 0 (p .1) (omega arith)) ∙ put-other (tableOf last l) x 0 a (λ e. fresh (subst (λ (b : ℕ). b ∈ xs) e i)) in
       ap (freedFrom second last l (suc (length xs))) (p .0)
       ∙ freed-link l (length xs) x (p .1)
       ∙ leads-freed xs m (tableOf last l x) (holds-set second last l holds x 0) (leads-kept last (holds .small) (tableOf last l) (tableOf last m) (tableOf last l x) xs same (p .2))
@@ -77,6 +76,10 @@ module _ (second last : ℕ) where
 
   pub table-freed : (l cs : List ℕ) → Holds second last l → ((c : ℕ) → c ∈ cs → Link last c) → tableOf last (freed second l cs) ≡ released (tableOf last l) cs
   table-freed l cs holds r = λ k a. freed-at cs l holds r a k
+
+  -- other clusters keep their entries
+  pub freed-others : (l cs : List ℕ) → Holds second last l → ((c : ℕ) → c ∈ cs → Link last c) → (a : ℕ) → ¬ (a ∈ cs) → tableOf last (freed second l cs) a ≡ tableOf last l a
+  freed-others l cs holds r a n = freed-at cs l holds r a ∙ released-out (tableOf last l) cs a n
 
   -- and so for a chain
   pub chain-released : (l : List ℕ) (start : ℕ) (cs : List ℕ) → Holds second last l → Chain last (tableOf last l) start cs → tableOf last (freedFrom second last l (length cs) start) ≡ released (tableOf last l) cs

@@ -1,9 +1,9 @@
 -- The table after clusters were linked behind a chain is the theory's table of the longer chain.
-use Prim.Native.Nat.{ℕ, zero, suc, _-_, _≤_}
+use Prim.Native.Nat.{ℕ, _-_, _≤_}
 use native.Mathlib.Omega.{arith}
 use native.Mathlib.Decide.{ℕ-discrete}
 use mathlib.Core.List.{List, [], _∷_}
-use mathlib.Core.Logic.{_⊎_, _≢_, inl, inr}
+use mathlib.Core.Logic.{_≢_, inl, inr}
 use mathlib.Core.Path.{_≡_, refl, sym, ap, subst, _∙_}
 use lib.ListN.{length}
 use Rattle.chains.specs.Put.{put}
@@ -47,7 +47,7 @@ module _ (second last : ℕ) where
       let m = linkedTo second l p d in
       let at : tableOf last m a ≡ put (put (tableOf last l) d 0xFFF) p d a = ap (λ (f : ℕ → ℕ). f a) (table-behind second last l holds p d (r d (inl refl)) q) in
       let later : (h : ℕ → ℕ) → (¬ (a ∈ (d ∷ (b ∷ bs))) → h a ≡ tableOf last m a) → tableOf last (linked second m d (b ∷ bs)) a ≡ laid h d (b ∷ bs) a
-          = λ h. laid-at bs m d b h (holds-linked second last l holds p d) (r d (inl refl)) (λ c i. r c (inr i)) (once-head d (b ∷ bs) o) (once-tail d (b ∷ bs) o) a in
+      = λ h. laid-at bs m d b h (holds-linked second last l holds p d) (r d (inl refl)) (λ c i. r c (inr i)) (once-head d (b ∷ bs) o) (once-tail d (b ∷ bs) o) a in
       elim (ℕ-discrete a p) [
         | yes x ↦
             later (tableOf last m) (λ _. refl)
@@ -96,6 +96,13 @@ module _ (second last : ℕ) (l : List ℕ) (holds : Holds second last l) (start
 
   pub table-linked : (cs new : List ℕ) → Chain last (tableOf last l) start cs → Takable last (tableOf last l) new → tableOf last (linked second l (endOf cs) new) ≡ extended (tableOf last l) cs new
   table-linked cs new p t = λ k a. linked-at cs new p t a k
+
+  -- but for the chain's last cluster the others keep their entries
+  pub linked-others : (cs new : List ℕ) → Chain last (tableOf last l) start cs → Takable last (tableOf last l) new → (a : ℕ) → a ≢ endOf cs → ¬ (a ∈ new) → tableOf last (linked second l (endOf cs) new) a ≡ tableOf last l a
+  unfolding extended
+  linked-others cs [] p t a n k = linked-at cs [] p t a
+  linked-others [] (d ∷ ds) p t a n k = linked-at [] (d ∷ ds) p t a ∙ laid-other (tableOf last l) d ds a k
+  linked-others (c ∷ cs) (d ∷ ds) p t a n k = linked-at (c ∷ cs) (d ∷ ds) p t a ∙ laid-other (tableOf last l) (lastOf c cs) (d ∷ ds) a (λ i. elim i [ inl e ↦ n e | inr j ↦ k j ])
 
   -- and so for the clusters that the loop takes
   pub chain-extended : (cs : List ℕ) (n : ℕ) → Chain last (tableOf last l) start cs → tableOf last (linkedFrom second last l (endOf cs) 2 n) ≡ extended (tableOf last l) cs (newClusters last l n)

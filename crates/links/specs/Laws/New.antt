@@ -4,14 +4,15 @@ use native.Mathlib.Omega.{arith}
 use native.Mathlib.Decide.{ℕ-discrete}
 use mathlib.Core.List.{List, [], _∷_}
 use mathlib.Core.Logic.{_↔_, _≢_, inl, inr}
-use mathlib.Core.Path.{_≡_, refl, sym, ap, ap₂, subst, _∙_}
-use lib.ListN.{take}
+use mathlib.Core.Path.{_≡_, refl, sym, ap, _∙_}
+use lib.ListN.{length, take}
+use lib.Seq.{length-take-le}
 use Rattle.chains.specs.Put.{put}
 use Rattle.chains.specs.Lists.{startOf}
-use Rattle.chains.specs.Values.{Link}
+use Rattle.chains.specs.Values.{Link, freeCount}
 use Rattle.chains.specs.Free.{Takable, freeFrom, freeClusters}
 use Rattle.chains.specs.Laws.Put.{put-same, put-other, put-cases}
-use Rattle.chains.specs.Laws.Free.{free-nil, free-yes, free-no, free-same, lowest-takable}
+use Rattle.chains.specs.Laws.Free.{free-nil, free-yes, free-no, free-same, free-length, lowest-takable}
 use Rattle.table.specs.Entries.{tableOf}
 use Rattle.links.specs.Linked.{Behind, linkedTo, linked, newClusters, nextFree, linkedFrom}
 use Rattle.links.specs.Leaves.{Holds}
@@ -20,14 +21,14 @@ use Rattle.links.specs.Laws.Turns.{linked-none, linked-turn}
 
 -- ---- the head of a list of free clusters, and what is behind it
 
-record Found (f : ℕ → ℕ) (n c d : ℕ) (ds : List ℕ) : Type 0 where
+record Head (f : ℕ → ℕ) (n c d : ℕ) (ds : List ℕ) : Type 0 where
   from : c ≤ d
   to : d < c + n
   rest : freeFrom f (c + n - (d + 1)) (d + 1) ≡ ds
 
-head-found : (f : ℕ → ℕ) (n c d : ℕ) (ds : List ℕ) → freeFrom f n c ≡ d ∷ ds → Found f n c d ds
-head-found f zero c d ds e = absurd (let z : _≡_ {A = ℕ} 0 1 = cc (free-nil f c) in omega arith)
-head-found f (suc n) c d ds e = elim (ℕ-discrete (f c) 0) [
+head-of : (f : ℕ → ℕ) (n c d : ℕ) (ds : List ℕ) → freeFrom f n c ≡ d ∷ ds → Head f n c d ds
+head-of f zero c d ds e = absurd (let z : _≡_ {A = ℕ} 0 1 = cc (free-nil f c) in omega arith)
+head-of f (suc n) c d ds e = elim (ℕ-discrete (f c) 0) [
   | yes z ↦
       let p : c ∷ freeFrom f n (suc c) ≡ d ∷ ds = sym (free-yes f n c z) ∙ e in
       let q : c ≡ d = cc in
@@ -36,7 +37,7 @@ head-found f (suc n) c d ds e = elim (ℕ-discrete (f c) 0) [
       let j : d + 1 ≡ suc c = omega arith in
       record { from = omega arith; to = omega arith; rest = rw (i, j) r }
   | no z ↦
-      let r = head-found f n (suc c) d ds (sym (free-no f n c z) ∙ e) in
+      let r = head-of f n (suc c) d ds (sym (free-no f n c z) ∙ e) in
       let i : c + suc n ≡ suc c + n = omega arith in
       record { from = omega (arith, r .from); to = omega (arith, r .to); rest = rw i (r .rest) }
 ]
@@ -85,13 +86,13 @@ module _ (second last : ℕ) where
           let y : linked second l prev [] ≡ l = unfold linked in refl in
           sym (y ∙ linked-none second last l prev c (suc n) _ refl (omega arith) 0 z refl)
       by later (d ∷ ds) e =
-          let r = head-found (tableOf last l) (last + 1 - c) c d ds e in
+          let r = head-of (tableOf last l) (last + 1 - c) c d ds e in
           let g : Link last d = (omega (arith, r .from), omega (arith, r .from, r .to)) in
           let m = linkedTo second l prev d in
           let z : d ≡ nextFree last l c = unfold nextFree in sym (ap startOf e) in
           let i : c + (last + 1 - c) - (d + 1) ≡ last + 1 - (d + 1) = omega arith in
           let t : freeFrom (tableOf last m) (last + 1 - (d + 1)) (d + 1) ≡ ds
-              = free-same (tableOf last l) (tableOf last m) (last + 1 - (d + 1)) (d + 1) (still-free second last l holds prev d b g) ∙ (rw i at (r .rest)) in
+          = free-same (tableOf last l) (tableOf last m) (last + 1 - (d + 1)) (d + 1) (still-free second last l holds prev d b g) ∙ (rw i at (r .rest)) in
           let y : linked second l prev (d ∷ take n ds) ≡ linked second m d (take n ds) = unfold linked in refl in
           let j : suc n - 1 ≡ n = omega arith in
           sym (linked-turn second last l prev c (suc n) _ refl (omega arith) d z (omega arith) m refl)
@@ -106,7 +107,11 @@ module _ (second last : ℕ) where
       let z : last + 1 - 2 ≡ last - 1 = omega arith in
       rw z at (from-linked n l prev 2 holds b (omega arith))
 
--- they may be taken
+-- they may be taken, and there are as many as are needed where so many are free
 pub new-takable : (last : ℕ) (l : List ℕ) (n : ℕ) → last ≤ 4079 → Takable last (tableOf last l) (newClusters last l n)
 unfolding newClusters
 new-takable last l n s = lowest-takable (geometry last s) (tableOf last l) n
+
+pub new-length : (last : ℕ) (l : List ℕ) (n : ℕ) → last ≤ 4079 → n ≤ freeCount last (tableOf last l) → length (newClusters last l n) ≡ n
+unfolding newClusters
+new-length last l n s h = length-take-le n (freeClusters last (tableOf last l)) (omega (arith, free-length (geometry last s) (tableOf last l)))

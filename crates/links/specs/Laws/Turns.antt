@@ -13,7 +13,7 @@ use Rattle.chains.specs.Values.{linkb}
 use Rattle.chains.specs.Lists.{startOf}
 use Rattle.chains.specs.Free.{freeFrom, freeClusters}
 use Rattle.chains.specs.Steps.{followed}
-use Rattle.chains.specs.Laws.FreeTurns as search
+use Rattle.chains.specs.Laws.FreeTurns as free
 use Rattle.chains.specs.Laws.StepTurns.{followed-turn, followed-end}
 use Rattle.table.specs.Entries.{entryOf, setBoth, Reaches, tableOf}
 use Rattle.table.specs.Laws.View.{table-inside, table-outside}
@@ -76,15 +76,15 @@ module _ (f : ℕ → ℕ) (n c whole : ℕ) (inv : followed f (n - 1) c ≡ who
 module _ (last : ℕ) (l : List ℕ) (c whole : ℕ) (inv : nextFree last l c ≡ whole) where
   pub next-hit : (e : ℕ) → e ≡ entryOf l c → 2 ≤ c → c ≤ last → e ≡ 0 → c ≡ whole
   unfolding nextFree
-  next-hit e r h k z = search.lowest-hit (tableOf last l) last c e whole k (r ∙ sym (table-inside last l c h k)) z inv
+  next-hit e r h k z = free.lowest-hit (tableOf last l) last c e whole k (r ∙ sym (table-inside last l c h k)) z inv
 
   pub next-miss : (e : ℕ) → e ≡ entryOf l c → 2 ≤ c → c ≤ last → e ≢ 0 → nextFree last l (c + 1) ≡ whole
   unfolding nextFree
-  next-miss e r h k z = search.lowest-miss (tableOf last l) last c e whole k (r ∙ sym (table-inside last l c h k)) z inv
+  next-miss e r h k z = free.lowest-miss (tableOf last l) last c e whole k (r ∙ sym (table-inside last l c h k)) z inv
 
   pub next-end : last < c → 0 ≡ whole
   unfolding nextFree
-  next-end h = search.lowest-end (tableOf last l) last c whole h inv
+  next-end h = free.lowest-end (tableOf last l) last c whole h inv
 
 -- ---- clusters added
 
