@@ -17,8 +17,8 @@ pub fn free_chain(img: &mut [u8], second: usize, last: usize, start: usize, n: u
     ensures { λ _. ⌜ now (img .exit) ≡ freedFrom second last (now (img .entry)) n start ⌝ }
 {
     let mut cluster = start;
-    let mut rest = n;
-    while 0 < rest {
+    let mut done: usize = 0;
+    while done < n {
         if cluster < 2 {
             return;
         }
@@ -28,7 +28,7 @@ pub fn free_chain(img: &mut [u8], second: usize, last: usize, start: usize, n: u
         let next = entry(img, cluster);
         set_entry(img, second, cluster, 0);
         cluster = next as usize;
-        rest -= 1;
+        done += 1;
     }
 }
 

@@ -1,20 +1,21 @@
 -- What is freed from here on, in the image as it now is, is the whole.
 use borrow.Author.Needs.{needs}
+use Prim.Native.Nat.{_-_}
 use mathlib.Core.Path.{_≡_}
 use lib.ListN.{length}
 use Rattle.links.specs.Freed.{freedFrom}
-use Rattle.links.specs.Laws.Turns.{reaches-long, freed-low, freed-high, freed-turn, freed-end}
+use Rattle.links.specs.Laws.Turns.{reaches-long, freed-all, freed-low, freed-high, freed-turn, freed-end}
 use Rattle.links.proofs.free_chain.Statement.{statement}
 use Rattle.links.proofs.free_chain.Tie as tie
 
 abbrev Inv-loop : tie.InvT-loop
-Inv-loop img₀ second last start n cluster₀ rest₀ img cluster rest = (length img ≡ length img₀) × (freedFrom second last img rest cluster ≡ freedFrom second last img₀ n start)
+Inv-loop img₀ second last start n cluster₀ done₀ img cluster done = (length img ≡ length img₀) × (freedFrom second last img (n - done) cluster ≡ freedFrom second last img₀ n start)
 
 abbrev μ-loop : tie.MeasureT-loop
-μ-loop img₀ second last start n cluster₀ rest₀ img cluster rest = rest
+μ-loop img₀ second last start n cluster₀ done₀ img cluster done = n - done
 
 loop-holds : tie.Need-loop-holds Inv-loop μ-loop
-loop-holds c = search needs
+loop-holds c = search (needs, freed-all)
 
 same-length : tie.Need-same-length Inv-loop μ-loop
 same-length c = search needs
@@ -37,8 +38,8 @@ set-entry-requires c κs = search (needs, reaches-long)
 cast-cluster : tie.Need-cast-cluster Inv-loop μ-loop
 cast-cluster c = search needs
 
-sub-rest : tie.Need-sub-rest Inv-loop μ-loop
-sub-rest c = search needs
+add-done : tie.Need-add-done Inv-loop μ-loop
+add-done c = search needs
 
 loop-less : tie.Need-loop-less Inv-loop μ-loop
 loop-less c = search needs
@@ -66,7 +67,7 @@ free-chain-spec =
     entry-requires
     set-entry-requires
     cast-cluster
-    sub-rest
+    add-done
     loop-less
     loop-again
     same-length-3

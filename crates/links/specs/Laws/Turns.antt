@@ -27,12 +27,15 @@ down n h = omega arith
 pub reaches-long : (second : ℕ) (l m : List ℕ) (last c : ℕ) → Reaches second l last → length m ≡ length l → c ≤ last → Reaches second m c
 reaches-long second l m last c r e h = record { low = omega arith; high = omega arith }
 
--- ---- a chain freed
+-- ---- a chain freed: i of its n clusters are done
 
-module _ (second last : ℕ) (l : List ℕ) (n c : ℕ) (h : 0 < n) (whole : List ℕ) (inv : freedFrom second last l n c ≡ whole) where
-  freed-once : freedFrom second last l n c ≡ cond (linkb last c) (freedFrom second last (setBoth second l c 0) (n - 1) (entryOf l c)) l
+pub freed-all : (second last : ℕ) (l : List ℕ) (n c : ℕ) → freedFrom second last l (n - 0) c ≡ freedFrom second last l n c
+freed-all second last l n c = let e : n - 0 ≡ n = omega arith in rw e refl
+
+module _ (second last : ℕ) (l : List ℕ) (n i c : ℕ) (whole : List ℕ) (inv : freedFrom second last l (n - i) c ≡ whole) (h : i < n) where
+  freed-once : freedFrom second last l (n - i) c ≡ cond (linkb last c) (freedFrom second last (setBoth second l c 0) (n - (i + 1)) (entryOf l c)) l
   unfolding freedFrom
-  freed-once = ap (λ (k : ℕ). freedFrom second last l k c) (down n h)
+  freed-once = let e : n - i ≡ suc (n - (i + 1)) = omega arith in ap (λ (k : ℕ). freedFrom second last l k c) e
 
   pub freed-low : c < 2 → l ≡ whole
   unfolding linkb
@@ -42,13 +45,13 @@ module _ (second last : ℕ) (l : List ℕ) (n c : ℕ) (h : 0 < n) (whole : Lis
   unfolding linkb
   freed-high q p = sym (freed-once ∙ rw (le-leb 2 c q, lt-leb c last p)) ∙ inv
 
-  pub freed-turn : (m : List ℕ) (e : ℕ) → m ≡ setBoth second l c 0 → e ≡ entryOf l c → 2 ≤ c → c ≤ last → freedFrom second last m (n - 1) e ≡ whole
+  pub freed-turn : (m : List ℕ) (e : ℕ) → m ≡ setBoth second l c 0 → e ≡ entryOf l c → 2 ≤ c → c ≤ last → freedFrom second last m (n - (i + 1)) e ≡ whole
   unfolding linkb
   freed-turn m e r s p q = rw (r, s) (sym (freed-once ∙ rw (le-leb 2 c p, le-leb c last q)) ∙ inv)
 
-pub freed-end : (second last : ℕ) (l : List ℕ) (n c : ℕ) (whole : List ℕ) → freedFrom second last l n c ≡ whole → n ≤ 0 → l ≡ whole
+pub freed-end : (second last : ℕ) (l : List ℕ) (n i c : ℕ) (whole : List ℕ) → freedFrom second last l (n - i) c ≡ whole → n ≤ i → l ≡ whole
 unfolding freedFrom
-freed-end second last l n c whole inv h = let e : n ≡ 0 = omega arith in rw e at inv
+freed-end second last l n i c whole inv h = let e : n - i ≡ 0 = omega arith in rw e at inv
 
 -- ---- the value of an entry
 
