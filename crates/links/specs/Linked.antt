@@ -37,12 +37,12 @@ newClusters last l n = take n (freeClusters last (tableOf last l))
 unfoldable pub nextFree : ℕ → List ℕ → ℕ → ℕ
 nextFree last l c = startOf (freeFrom (tableOf last l) (last + 1 - c) c)
 
--- the same as code does it: up to n times the lowest free cluster from c on is linked behind the one before
+-- the new clusters linked as code does it: up to n times, the lowest free cluster from c on comes behind the one before
 unfoldable pub linkedFrom : ℕ → ℕ → List ℕ → ℕ → ℕ → ℕ → List ℕ
 linkedFrom second last l prev c zero = l
 linkedFrom second last l prev c (suc n) = let d = nextFree last l c in cond (eqb d 0) l (linkedFrom second last (linkedTo second l prev d) d (d + 1) n)
 
--- the first cluster that is taken, while code goes on: the one that was found before, 0 where none was, else the next one
+-- the first cluster that is taken, as code has it while it goes on: the one found so far, or where that is 0 the next one
 unfoldable pub firstFrom : ℕ → ℕ → List ℕ → ℕ → ℕ → ℕ
 firstFrom first last l c n = cond (eqb first 0) (startOf (take n (freeFrom (tableOf last l) (last + 1 - c) c))) first
 
