@@ -1,0 +1,7 @@
+-- The laws of the definitions beside this folder. Turns: what the loops ask. The others: what their results mean.
+pub mod Turns
+pub mod Table
+pub mod Freed
+pub mod New
+pub mod Linked
+pub mod Leaves
