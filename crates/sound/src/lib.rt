@@ -1,6 +1,6 @@
 // Check: whether a volume is sound, and if not, what is wrong with it and where.
-pub mod tables;
 pub mod slots;
+pub mod tables;
 pub mod visits;
 
 // What check answers: sound with the counts files, free, held, aside; or a finding and its place.
