@@ -1,4 +1,5 @@
 -- The laws of the definitions beside this folder.
 pub mod Format
 pub mod Blank
+pub mod FreeSpace
 pub mod Entry

@@ -1,4 +1,5 @@
--- The calls that need no open table: format, and entry at a slot.
+-- The calls that need no open table: format, free space, and entry at a slot.
 pub mod Format
+pub mod FreeSpace
 pub mod Entry
 pub mod Laws
