@@ -55,7 +55,15 @@ fn put_files(area: &[u8], root: usize, count: usize, out: &mut [u8], at: usize) 
 }
 
 // The lines of a sound volume of the kind k, and of its files.
-fn put_volume(area: &[u8], k: Kind, out: &mut [u8], files: usize, free: usize, held: usize, aside: usize) -> usize
+fn put_volume(
+    area: &[u8],
+    k: Kind,
+    out: &mut [u8],
+    files: usize,
+    free: usize,
+    held: usize,
+    aside: usize,
+) -> usize
     requires { ⌜ AreaOf (now area) k ⌝ }
     requires { ⌜ listingRoom ≤ length (now out) ⌝ }
     ensures { λ r. ⌜ PutsIn listingRoom (volumeText k (now (area .entry)) (Sound files free held aside)) (now (out .entry)) 0 r (now (out .exit)) ⌝ }

@@ -5,6 +5,7 @@ use mathlib.Core.List.{List, _++_}
 use mathlib.Core.Path.{_≡_, refl, sym, _∙_, ap, subst}
 use lib.Dec.{eqb}
 use lib.ListN.{length}
+use Rattle.image.specs.Laws.Store.{length-stored}
 use Rattle.diskette.specs.Kinds.{named, Usable}
 use Rattle.diskette.specs.Places.{firstData, clusters, rootEntries, rootAt}
 use Rattle.diskette.specs.Images.{AreaOf, kindOfArea}
@@ -49,8 +50,8 @@ module _ (l : List ℕ) (k : Kind) (a : AreaOf l k) where
     root-within = omega (arith, a .long)
 
     module _ (n free held aside files : ℕ) (all : n ≡ clusters k) (o : List ℕ) (first : ℕ) (m : List ℕ) (p : PutsIn soundRoom (soundText (k .byte) n free held aside files) o 0 first m) where
-      pub files-fit : (room : ℕ) → listingRoom ≤ room → first + fileRoom * count ≤ room
-      files-fit room h = omega (arith, p .room, few-slots)
+      pub files-fit : listingRoom ≤ length o → first + fileRoom * count ≤ length m
+      files-fit h = omega (arith, p .room, few-slots, ap length (p .puts .stores) ∙ length-stored o 0 (soundText (k .byte) n free held aside files))
 
       pub puts-sound : (r : ℕ) (e : List ℕ) → PutsIn (fileRoom * count) (filesText l root 0 count) m first r e → PutsIn listingRoom (volumeText k l (Sound files free held aside)) o 0 r e
       unfolding volumeText
