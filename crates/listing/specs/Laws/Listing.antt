@@ -1,7 +1,7 @@
 -- The listing by what check answers of the area.
 use Prim.Native.Nat.{ℕ, _+_, _*_, _≤_}
 use native.Mathlib.Omega.{arith}
-use mathlib.Core.List.{List, _++_}
+use mathlib.Core.List.{List, []}
 use mathlib.Core.Path.{_≡_, refl, sym, _∙_, ap, subst}
 use lib.Dec.{eqb}
 use lib.ListN.{length}
@@ -61,28 +61,44 @@ module _ (l : List ℕ) (k : Kind) (a : AreaOf l k) where
             room = omega (arith, p .room, q .room, few-slots);
           }
 
+-- ---- the listing is by check's answer alone
+
+module _ (l : List ℕ) where
+  pub listing-by-check : (k : Kind) (v : Verdict) → AreaOf l k → CheckedArea l v → listingOf l ≡ volumeText k l v
+  unfolding listingOf
+  listing-by-check k v a c = rw (area-of-kind l k .1 a, ← area-is c)
+
+  finding-by : (w : WhichKind) (number place : ℕ) → checkOfArea l ≡ Finding number place → AnswersBy w l (Finding number place) → listingBy w l ≡ unsoundText number place
+  unfolding volumeText
+  finding-by (Known k) number place e a = rw e
+  finding-by Unknown number place e a = ap findingText (sym a)
+    where
+      findingText : Verdict → List ℕ
+      findingText (Sound files free held aside) = []
+      findingText (Finding n p) = unsoundText n p
+
+  -- also where the area is of no kind
+  pub listing-of-finding : (number place : ℕ) → CheckedArea l (Finding number place) → listingOf l ≡ unsoundText number place
+  unfolding listingOf
+  listing-of-finding number place c = finding-by (kindOfArea l) number place (sym (area-is c)) (c .is)
+
 -- ---- what is put is the listing; w is the kind that was found, v what check answered
 
 unsound-fits : (number place : ℕ) (o : List ℕ) (r : ℕ) (m : List ℕ) → PutsIn unsoundRoom (unsoundText number place) o 0 r m → PutsIn listingRoom (unsoundText number place) o 0 r m
 unsound-fits number place o r m p = record { puts = p .puts; room = omega (arith, p .room) }
 
-module _ (l : List ℕ) (w : WhichKind) (is : w ≡ kindOfArea l) (o : List ℕ) (r : ℕ) (m : List ℕ) where
-  module _ (k : Kind) (e : w ≡ Known k) where
-    pub area-found : AreaOf l k
-    area-found = area-of-kind l k .0 (sym is ∙ e)
+module _ (l : List ℕ) (w : WhichKind) (is : w ≡ kindOfArea l) where
+  pub area-found : (k : Kind) → w ≡ Known k → AreaOf l k
+  area-found k e = area-of-kind l k .0 (sym is ∙ e)
 
-    module _ (v : Verdict) (c : CheckedArea l v) where
-      listed : (told : Verdict) → v ≡ told → volumeText k l told ≡ listingOf l
-      unfolding listingOf
-      listed told t = rw (sym is ∙ e, sym (area-is c) ∙ t)
-
-      pub lists-sound : (files free held aside : ℕ) → v ≡ Sound files free held aside → PutsIn listingRoom (volumeText k l (Sound files free held aside)) o 0 r m → PutsIn listingRoom (listingOf l) o 0 r m
-      lists-sound files free held aside t p = rw (← listed (Sound files free held aside) t) p
-
-      pub lists-finding : (number place : ℕ) → v ≡ Finding number place → PutsIn unsoundRoom (unsoundText number place) o 0 r m → PutsIn listingRoom (listingOf l) o 0 r m
-      unfolding volumeText
-      lists-finding number place t p = rw (← listed (Finding number place) t) (unsound-fits number place o r m p)
-
-  pub lists-no-kind : w ≡ Unknown → PutsIn unsoundRoom (unsoundText 1 0) o 0 r m → PutsIn listingRoom (listingOf l) o 0 r m
+  pub puts-no-kind : (o : List ℕ) (r : ℕ) (m : List ℕ) → w ≡ Unknown → PutsIn unsoundRoom (unsoundText 1 0) o 0 r m → PutsIn listingRoom (listingOf l) o 0 r m
   unfolding listingOf
-  lists-no-kind e p = rw (sym is ∙ e) (unsound-fits 1 0 o r m p)
+  puts-no-kind o r m e p = rw (sym is ∙ e) (unsound-fits 1 0 o r m p)
+
+  pub puts-listing : (k : Kind) (v : Verdict) (files free held aside : ℕ) (o : List ℕ) (r : ℕ) (m : List ℕ)
+      → w ≡ Known k → CheckedArea l v → v ≡ Sound files free held aside → PutsIn listingRoom (volumeText k l (Sound files free held aside)) o 0 r m → PutsIn listingRoom (listingOf l) o 0 r m
+  puts-listing k v files free held aside o r m e c t p = rw (listing-by-check l k v (area-found k e) c, t) p
+
+pub puts-finding : (l : List ℕ) (v : Verdict) (number place : ℕ) (o : List ℕ) (r : ℕ) (m : List ℕ)
+    → CheckedArea l v → v ≡ Finding number place → PutsIn unsoundRoom (unsoundText number place) o 0 r m → PutsIn listingRoom (listingOf l) o 0 r m
+puts-finding l v number place o r m c t p = rw (listing-of-finding l number place (rw t at c)) (unsound-fits number place o r m p)

@@ -1,5 +1,5 @@
 -- By the kind that was found and by what check answered.
-use Rattle.listing.specs.Laws.Listing.{area-found, lists-sound, lists-finding, lists-no-kind}
+use Rattle.listing.specs.Laws.Listing.{area-found, puts-listing, puts-finding, puts-no-kind}
 use borrow.Author.Needs.{needs}
 use Rattle.listing.proofs.area.list.Statement.{statement}
 use Rattle.listing.proofs.area.list.Tie as tie
@@ -35,19 +35,19 @@ same-length : tie.Need-same-length
 same-length c = search needs
 
 returns : tie.Need-returns
-returns c = search lists-sound
+returns c = search puts-listing
 
 same-length-2 : tie.Need-same-length-2
 same-length-2 c = search needs
 
 returns-2 : tie.Need-returns-2
-returns-2 c = search lists-finding
+returns-2 c = search puts-finding
 
 same-length-3 : tie.Need-same-length-3
 same-length-3 c = search needs
 
 returns-3 : tie.Need-returns-3
-returns-3 c = search lists-no-kind
+returns-3 c = search puts-no-kind
 
 pub list-spec : {M : Type 1} → statement M
 list-spec =
