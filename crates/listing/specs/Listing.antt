@@ -1,0 +1,51 @@
+-- What the listing program prints of a system area.
+use Prim.Native.Nat.{ℕ, zero, suc, _+_}
+use mathlib.Core.Bool.{cond}
+use mathlib.Core.List.{List, [], _++_}
+use Rattle.diskette.specs.Images.{kindOfArea}
+use Rattle.diskette.specs.Places.{clusters, rootEntries, rootAt}
+use Rattle.diskette.specs.declared.Kind.{Kind}
+use Rattle.diskette.specs.declared.WhichKind.{WhichKind}
+use Rattle.diskette.specs.declared.WhichKind.the-variants.{Known, Unknown}
+use Rattle.directory.specs.Fields.{nameOf, attrOf, timeOf, dateOf, startOf, sizeOf}
+use Rattle.directory.specs.Slots.{standingOf, isPlain}
+use Rattle.directory.specs.Search.{slotFrom}
+use Rattle.sound.specs.Judged.{checkOfArea}
+use Rattle.sound.specs.declared.Verdict.{Verdict}
+use Rattle.sound.specs.declared.Verdict.the-variants.{Sound, Finding}
+use Rattle.text.specs.Lines.{fileText, soundText, unsoundText}
+
+-- ---- the files
+
+-- a file's lines, with the fields as stored in the entry that stands at byte a
+unfoldable pub entryText : List ℕ → ℕ → List ℕ
+entryText l a = fileText (nameOf l a) (attrOf l a) (sizeOf l a) (startOf l a) (dateOf l a) (timeOf l a)
+
+-- the label, an erased and a never used entry have none
+unfoldable pub slotText : List ℕ → ℕ → List ℕ
+slotText l a = cond (isPlain (standingOf l a)) (entryText l a) []
+
+-- Files come in slot order: those of n slots from slot s on, in a directory that stands at byte root
+unfoldable pub filesText : List ℕ → ℕ → ℕ → ℕ → List ℕ
+filesText l root s zero = []
+filesText l root s (suc n) = slotText l (slotFrom root s) ++ filesText l root (s + 1) n
+
+-- ---- the whole
+
+-- of a volume of the kind k, by what check answers of it. If not sound: `sound=no`, `finding=`, `place=` only.
+unfoldable pub volumeText : Kind → List ℕ → Verdict → List ℕ
+volumeText k l (Sound files free held aside) =
+    soundText (k .byte) (clusters k) free held aside files ++ filesText l (rootAt k) 0 (rootEntries k)
+volumeText k l (Finding number place) = unsoundText number place
+
+-- finding 1: Not of a kind, or a system area that ends before the first data sector; place 0.
+abbrev pub listingBy : WhichKind → List ℕ → List ℕ
+listingBy (Known k) l = volumeText k l (checkOfArea l)
+listingBy Unknown l = unsoundText 1 0
+
+unfoldable pub listingOf : List ℕ → List ℕ
+listingOf area = listingBy (kindOfArea area) area
+
+-- the buffer lent for the text; no listing is longer
+abbrev pub listingRoom : ℕ
+listingRoom = 16384
