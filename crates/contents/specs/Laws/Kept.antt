@@ -1,0 +1,1 @@
+-- What a store along a chain leaves.
