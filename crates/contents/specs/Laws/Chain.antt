@@ -1,7 +1,8 @@
 -- The chain that a walk finds in an image: its clusters are in range, and each leads to the next.
 use Prim.Native.Nat.{ℕ, _+_, _-_, _*_, _/_, _%_, _≤_, _<_}
 use native.Mathlib.Omega.{arith}
-use native.Mathlib.Nat.{div-lt-iff-lt-mul}
+use native.Mathlib.Nat.{div-lt-iff-lt-mul, mul-le-mul-right}
+use native.Mathlib.Decide.{decLt}
 use mathlib.Core.Option.{Option, none, some}
 use mathlib.Core.Path.{_≡_, refl, sym, _∙_, ap}
 use mathlib.Core.List.{List, [], _∷_}
@@ -14,7 +15,7 @@ use Rattle.chains.specs.Walk.{walk}
 use Rattle.chains.specs.Steps.{followed}
 use Rattle.chains.specs.Content.{Room, clusterAt}
 use Rattle.chains.specs.Laws.Lists.{index-mem}
-use Rattle.chains.specs.Laws.Chain.{chain-mem, chain-once, chain-frame}
+use Rattle.chains.specs.Laws.Chain.{chain-mem, chain-length}
 use Rattle.chains.specs.Laws.Walk.{walk-chain, chain-walk}
 use Rattle.chains.specs.Laws.Clusters.{chain-clusters}
 use Rattle.chains.specs.Laws.Follow.{chain-followed}
@@ -51,6 +52,13 @@ module _ (base cb last : ℕ) (l : List ℕ) (start : ℕ) (a : Area base cb las
   pub chain-room : Room base cb l (chainFrom last l start)
   chain-room c m = (chain-links c m .0, omega (arith, a .clusters, cluster-high base cb (a .wide) (geometry a) c (chain-links c m)))
 
+  -- so many bytes are never more than the image has
+  pub chain-small : length (chainFrom last l start) * cb ≤ length l
+  chain-small = elim (decLt 0 (length (chainFrom last l start))) [
+    | no n ↦ let e : length (chainFrom last l start) ≡ 0 = omega arith in rw e (omega arith)
+    | yes h ↦ omega (arith, a .clusters, mul-le-mul-right cb (chain-length (geometry a) (tableOf last l) start (chainFrom last l start) (chain-found h)))
+  ]
+
   -- the cluster that holds byte p of the chain
   module _ (p : ℕ) (h : p < length (chainFrom last l start) * cb) where
     inside : p / cb < length (chainFrom last l start)
@@ -69,6 +77,6 @@ module _ (base cb last : ℕ) (l : List ℕ) (start : ℕ) (a : Area base cb las
   holder-next k h = chain-clusters last (tableOf last l) start (chainFrom last l start) (omega arith) (chain-found (omega arith)) .naming k h
 
 -- an image with the same table has the same chains
-pub chain-kept : (base cb last : ℕ) (l m : List ℕ) (start : ℕ) → ((c : ℕ) → tableOf last m c ≡ tableOf last l c) → chainFrom last m start ≡ chainFrom last l start
+pub chain-kept : (last : ℕ) (l m : List ℕ) (start : ℕ) → ((c : ℕ) → tableOf last m c ≡ tableOf last l c) → chainFrom last m start ≡ chainFrom last l start
 unfolding chainFrom
-chain-kept base cb last l m start e = ap (λ (f : ℕ → ℕ). orNone (walk last f start)) (λ k c. e c k)
+chain-kept last l m start e = ap (λ (f : ℕ → ℕ). orNone (walk last f start)) (λ k c. e c k)

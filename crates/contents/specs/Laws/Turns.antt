@@ -1,17 +1,28 @@
 -- One turn of each loop, and what the code owes on the way: in the form of its needs.
 use Prim.Native.Nat.{ℕ, _+_, _-_, _*_, _/_, _%_, _≤_, _<_}
 use native.Mathlib.Omega.{arith}
-use native.Mathlib.Nat.{mod-lt, mod-le}
+use native.Mathlib.Nat.{mod-lt, div-lt-iff-lt-mul}
 use mathlib.Core.Logic.{inl, inr}
 use mathlib.Core.Path.{_≡_, refl, sym, _∙_, ap}
 use mathlib.Core.List.{List}
-use lib.ListN.{length, getD, replicate}
-use Rattle.chains.specs.Content.{clusterAt}
+use lib.ListN.{length, getD, take, drop, replicate, length-replicate, length-take, length-drop, getD-replicate}
+use lib.Seq.{ext-getD}
+use Rattle.image.specs.Store.{stored, part}
+use Rattle.image.specs.Laws.Store.{length-stored, length-part, part-at}
+use Rattle.chains.specs.Content.{byteAt, clusterAt}
+use Rattle.chains.specs.Values.{Link}
+use Rattle.chains.specs.Laws.Content.{cluster-high}
+use Rattle.chains.specs.Write.{poured}
+use Rattle.chains.specs.Laws.Poured.{poured-length}
 use Rattle.chains.specs.Steps.{followed}
 use Rattle.table.specs.Entries.{entryOf, tableOf}
 use Rattle.table.specs.Laws.View.{table-inside, table-outside}
-use Rattle.contents.specs.Contents.{chainFrom, Area}
-use Rattle.contents.specs.Loops.{runOf, Stands}
+use Rattle.contents.specs.Contents.{chainFrom, Area, placeOf, fetched}
+use Rattle.contents.specs.Loops.{runOf, Stands, Pouring, Fetching}
+use Rattle.contents.specs.Laws.Chain.{geometry, chain-room, chain-small, holder-link, holder-followed, holder-next}
+use Rattle.contents.specs.Laws.Places.{run-left, run-some, run-inside, run-ends}
+use Rattle.contents.specs.Laws.Stores.{run-fits, poured-more, fetched-more}
+use Rattle.contents.specs.Laws.Kept.{poured-table}
 
 -- ---- the value of an entry
 
@@ -51,3 +62,168 @@ module _ (base cb c p : ℕ) (wide : 0 < cb) (fits : clusterAt base cb c + cb < 
   pub place-fits : base + (c - 2) * cb + p % cb < 18446744073709551616
   unfolding clusterAt
   place-fits = omega (arith, mod-lt p wide)
+
+-- ---- parts as the code names them, by start and end
+
+span : (at n : ℕ) → at + n - at ≡ n
+span at n = omega arith
+
+short : (l : List ℕ) (at n : ℕ) → length (take (at + n - at) (drop at l)) ≤ n
+short l at n = omega (arith, length-take (at + n - at) (drop at l))
+
+zeros : (n at k : ℕ) → at + k ≤ n → part (replicate n 0) at k ≡ replicate k 0
+zeros n at k h =
+    let here : length (part (replicate n 0) at k) ≡ k = length-part (replicate n 0) at k (omega (arith, length-replicate {A = ℕ} n 0)) in
+    ext-getD 0 _ _ (here ∙ sym (length-replicate {A = ℕ} k 0)) (λ i j.
+    part-at (replicate n 0) at k i (omega arith) ∙ getD-replicate {A = ℕ} n (at + i) 0 0 (omega arith) ∙ sym (getD-replicate {A = ℕ} k i 0 0 (omega arith)))
+
+-- ---- along a chain
+
+module _ (base cb last : ℕ) (l : List ℕ) (start : ℕ) (a : Area base cb last (length l)) (pos n : ℕ) (full : pos + n ≤ length (chainFrom last l start) * cb) where
+  first-stands : (c : ℕ) → c ≡ followed (tableOf last l) (pos / cb) start → Stands cb (chainFrom last l start) pos n c 0
+  first-stands c e = record {
+    far = omega arith;
+    holds = λ h.
+        let z : pos + 0 ≡ pos = omega arith in
+        e ∙ holder-followed base cb last l start a pos (omega arith) ∙ sym (ap (λ (x : ℕ). getD (chainFrom last l start) (x / cb) 0) z);
+  }
+
+  module _ (c done : ℕ) (s : Stands cb (chainFrom last l start) pos n c done) (more : done < n) where
+    -- the number of the next byte, and its cluster
+    pub next-fits : length l < 18446744073709551616 → pos + done < 18446744073709551616
+    next-fits h = omega (arith, chain-small base cb last l start a)
+
+    link : Link last c
+    link = rw (s .holds more) (holder-link base cb last l start a (pos + done) (omega arith))
+
+    pub cluster-from : 2 ≤ c
+    cluster-from = link .0
+
+    pub cluster-fits : length l < 18446744073709551616 → clusterAt base cb c + cb < 18446744073709551616
+    cluster-fits h = omega (arith, a .clusters, cluster-high base cb (a .wide) (geometry a) c link)
+
+    -- the place of that byte
+    pub place-is : (at : ℕ) → at ≡ clusterAt base cb c + (pos + done) % cb → at ≡ byteAt base cb (chainFrom last l start) (pos + done)
+    unfolding byteAt
+    place-is at e = rw (s .holds more) at e
+
+    module _ (r : ℕ) (q : r ≡ runOf cb (pos + done) (n - done)) where
+      pub run-end : done + r ≤ n
+      run-end = omega (arith, run-left cb (pos + done) (n - done) (a .wide))
+
+      any : 0 < r
+      any = rw q (run-some cb (pos + done) (n - done) (a .wide) (omega arith))
+
+      within : (pos + done) % cb + r ≤ cb
+      within = rw q (run-inside cb (pos + done) (n - done) (a .wide))
+
+      pub run-less : n - (done + r) < n - done
+      run-less = omega (arith, any)
+
+      pub run-stays : (at : ℕ) → at ≡ clusterAt base cb c + (pos + done) % cb → at + r ≤ length l
+      run-stays at e = rw (place-is at e) (run-fits base cb (a .wide) l (chainFrom last l start) (pos + done) r (chain-room base cb last l start a) (omega arith) within)
+
+      next-stands : (v : ℕ) → v ≡ tableOf last l c → Stands cb (chainFrom last l start) pos n v (done + r)
+      next-stands v e = record {
+        far = run-end;
+        holds = λ h.
+            let d : (pos + done + r) / cb ≡ (pos + done) / cb + 1 = rw q (run-ends cb (pos + done) (n - done) (a .wide) (omega arith)) in
+            let z : pos + (done + r) ≡ pos + done + r = omega arith in
+            let i : (pos + done + r) / cb < length (chainFrom last l start) = div-lt-iff-lt-mul (a .wide) .1 (omega arith) in
+            e ∙ ap (tableOf last l) (s .holds more) ∙ holder-next base cb last l start a ((pos + done) / cb) (omega arith)
+            ∙ sym (ap (λ (x : ℕ). getD (chainFrom last l start) (x / cb) 0) z ∙ ap (λ (x : ℕ). getD (chainFrom last l start) x 0) d);
+      }
+
+  -- ---- bytes are put
+
+  module _ (bs : List ℕ) where
+    pub pour-first : (c : ℕ) → c ≡ followed (tableOf last l) (pos / cb) start → Pouring base cb last l start pos bs n l c 0
+    unfolding poured
+    pour-first c e = record { stands = first-stands c e; image = refl }
+
+    module _ (m : List ℕ) (c done : ℕ) (s : Pouring base cb last l start pos bs n m c done) where
+      pub pour-length : length m ≡ length l
+      pour-length = ap length (s .image) ∙ poured-length base cb l (chainFrom last l start) pos bs done
+
+      pub pour-done : n ≤ done → m ≡ poured base cb l (chainFrom last l start) pos bs n
+      pour-done h = let e : done ≡ n = omega (arith, s .stands .far) in rw e at (s .image)
+
+      module _ (more : done < n) (r at : ℕ) (q : r ≡ runOf cb (pos + done) (n - done)) (e : at ≡ clusterAt base cb c + (pos + done) % cb) where
+        pub pour-stays : at + r ≤ length m
+        pour-stays = rw pour-length (run-stays c done (s .stands) more r q at e)
+
+        pour-again : (m′ : List ℕ) (v : ℕ) → n ≤ length bs → m′ ≡ stored m at (part bs done r) → v ≡ tableOf last m′ c → Pouring base cb last l start pos bs n m′ v (done + r)
+        pour-again m′ v enough t w = record {
+          stands = next-stands c done (s .stands) more r q v (w ∙ ap (λ (x : List ℕ). tableOf last x c) image′ ∙ poured-table base cb (a .wide) l (chainFrom last l start) pos bs (done + r) last (a .table) c);
+          image = image′;
+        }
+          where
+            image′ : m′ ≡ poured base cb l (chainFrom last l start) pos bs (done + r)
+            image′ =
+                t ∙ rw (s .image, place-is c done (s .stands) more at e)
+                (poured-more base cb (a .wide) l (chainFrom last l start) (chain-room base cb last l start a) pos done r (any c done (s .stands) more r q) (within c done (s .stands) more r q)
+                (omega (arith, run-end c done (s .stands) more r q)) bs (omega (arith, run-end c done (s .stands) more r q)))
+
+  -- ---- bytes are read
+
+  module _ (out : List ℕ) where
+    pub fetch-first : (c : ℕ) → c ≡ followed (tableOf last l) (pos / cb) start → Fetching base cb last l start pos out n out c 0
+    unfolding stored
+    fetch-first c e = record { stands = first-stands c e; buffer = refl }
+
+    module _ (by : List ℕ) (c done : ℕ) (s : Fetching base cb last l start pos out n by c done) where
+      pub fetch-length : length by ≡ length out
+      fetch-length = ap length (s .buffer) ∙ length-stored out 0 (fetched base cb last l start pos done)
+
+      pub fetch-done : n ≤ done → by ≡ stored out 0 (fetched base cb last l start pos n)
+      fetch-done h = let e : done ≡ n = omega (arith, s .stands .far) in rw e at (s .buffer)
+
+      module _ (more : done < n) (r at : ℕ) (q : r ≡ runOf cb (pos + done) (n - done)) (e : at ≡ clusterAt base cb c + (pos + done) % cb) where
+        pub fetch-fits : n ≤ length out → done + length (take (at + r - at) (drop at l)) ≤ length by
+        fetch-fits h = omega (arith, fetch-length, run-end c done (s .stands) more r q, short l at r)
+
+        pub fetch-again : (by′ : List ℕ) (v : ℕ) → by′ ≡ stored by done (take (at + r - at) (drop at l)) → v ≡ tableOf last l c → Fetching base cb last l start pos out n by′ v (done + r)
+        fetch-again by′ v t w = record {
+          stands = next-stands c done (s .stands) more r q v w;
+          buffer =
+              t ∙ rw (span at r, s .buffer, place-is c done (s .stands) more at e)
+              (fetched-more base cb (a .wide) l (chainFrom last l start) (chain-room base cb last l start a) pos done r (any c done (s .stands) more r q) (within c done (s .stands) more r q)
+              (omega (arith, run-end c done (s .stands) more r q)) out);
+        }
+
+-- ---- the two ways to put them
+
+module _ (base cb last : ℕ) (l : List ℕ) (start : ℕ) (a : Area base cb last (length l)) (pos : ℕ) where
+  module _ (src : List ℕ) (full : pos + length src ≤ length (chainFrom last l start) * cb) (m : List ℕ) (c done : ℕ) (s : Pouring base cb last l start pos src (length src) m c done) (more : done < length src)
+      (r at : ℕ) (q : r ≡ runOf cb (pos + done) (length src - done)) (e : at ≡ clusterAt base cb c + (pos + done) % cb) where
+    pub copy-fits : at + length (take (done + r - done) (drop done src)) ≤ length m
+    copy-fits = omega (arith, pour-stays base cb last l start a pos (length src) full src m c done s more r at q e, short src done r)
+
+    pub copy-again : (m′ : List ℕ) (v : ℕ) → m′ ≡ stored m at (take (done + r - done) (drop done src)) → v ≡ tableOf last m′ c → Pouring base cb last l start pos src (length src) m′ v (done + r)
+    copy-again m′ v t w = pour-again base cb last l start a pos (length src) full src m c done s more r at q e m′ v (omega arith) (rw (span done r) at t) w
+
+  module _ (n : ℕ) (full : pos + n ≤ length (chainFrom last l start) * cb) (m : List ℕ) (c done : ℕ) (s : Pouring base cb last l start pos (replicate n 0) n m c done) (more : done < n)
+      (r at : ℕ) (q : r ≡ runOf cb (pos + done) (n - done)) (e : at ≡ clusterAt base cb c + (pos + done) % cb) where
+    pub fill-again : (m′ : List ℕ) (v : ℕ) → m′ ≡ stored m at (replicate r 0) → v ≡ tableOf last m′ c → Pouring base cb last l start pos (replicate n 0) n m′ v (done + r)
+    fill-again m′ v t w =
+        pour-again base cb last l start a pos n full (replicate n 0) m c done s more r at q e m′ v (omega (arith, length-replicate {A = ℕ} n 0))
+        (t ∙ ap (stored m at) (sym (zeros n done r (run-end base cb last l start a pos n full c done (s .stands) more r q)))) w
+
+-- ---- one byte's place
+
+module _ (base cb last : ℕ) (l : List ℕ) (start : ℕ) (a : Area base cb last (length l)) (pos c : ℕ) (h : pos < length (chainFrom last l start) * cb) (e : c ≡ followed (tableOf last l) (pos / cb) start) where
+  holder : c ≡ getD (chainFrom last l start) (pos / cb) 0
+  holder = e ∙ holder-followed base cb last l start a pos h
+
+  holder-is : Link last c
+  holder-is = rw holder (holder-link base cb last l start a pos h)
+
+  pub holder-from : 2 ≤ c
+  holder-from = holder-is .0
+
+  pub holder-fits : length l < 18446744073709551616 → clusterAt base cb c + cb < 18446744073709551616
+  holder-fits k = omega (arith, a .clusters, cluster-high base cb (a .wide) (geometry a) c holder-is)
+
+  pub holder-place : (at : ℕ) → at ≡ clusterAt base cb c + pos % cb → at ≡ placeOf base cb last l start pos
+  unfolding byteAt
+  holder-place at t = rw holder at t
