@@ -5,7 +5,7 @@ use table::entry;
 ghost use mathlib.Core.Path.{_≡_};
 ghost use Prim.Native.Nat.{_+_, _-_, _*_, _%_, _≤_, _<_};
 ghost use lib.ListN.{length};
-ghost use Rattle.image.specs.Store.{stored};
+ghost use Rattle.image.specs.Store.{stored, part};
 ghost use Rattle.chains.specs.Steps.{followed};
 ghost use Rattle.chains.specs.Content.{clusterAt};
 ghost use Rattle.table.specs.Entries.{wordAt, tableOf};
@@ -70,6 +70,15 @@ pub fn place_of(img: &[u8], base: usize, cb: usize, last: usize, start: usize, p
     byte_in(base, cb, nth_cluster(img, last, start, pos / cb), pos)
 }
 
+// Stores n bytes of src, from its byte from on, at byte at of s.
+fn copy_part(s: &mut [u8], at: usize, src: &[u8], from: usize, n: usize)
+    requires { ⌜ at + n ≤ length (now s) ⌝ }
+    requires { ⌜ from + n ≤ length (now src) ⌝ }
+    ensures { λ _. ⌜ now (s .exit) ≡ stored (now (s .entry)) at (part (now (src .entry)) from n) ⌝ }
+{
+    copy_in(s, at, &src[from..from + n]);
+}
+
 // Puts the bytes of src into the chain, from its byte pos on.
 pub fn pour(img: &mut [u8], base: usize, cb: usize, last: usize, start: usize, pos: usize, src: &[u8])
     requires { ⌜ Area base cb last (length (now img)) ⌝ }
@@ -80,8 +89,9 @@ pub fn pour(img: &mut [u8], base: usize, cb: usize, last: usize, start: usize, p
     let mut done: usize = 0;
     while done < src.len() {
         let run = run_of(cb, pos + done, src.len() - done);
-        copy_in(img, byte_in(base, cb, cluster, pos + done), &src[done..done + run]);
+        let at = byte_in(base, cb, cluster, pos + done);
         cluster = value_of(img, last, cluster);
+        copy_part(img, at, src, done, run);
         done += run;
     }
 }
@@ -96,8 +106,9 @@ pub fn pour_zeros(img: &mut [u8], base: usize, cb: usize, last: usize, start: us
     let mut done: usize = 0;
     while done < n {
         let run = run_of(cb, pos + done, n - done);
-        fill(img, byte_in(base, cb, cluster, pos + done), run, 0);
+        let at = byte_in(base, cb, cluster, pos + done);
         cluster = value_of(img, last, cluster);
+        fill(img, at, run, 0);
         done += run;
     }
 }
@@ -114,8 +125,8 @@ pub fn fetch(img: &[u8], base: usize, cb: usize, last: usize, start: usize, pos:
     while done < n {
         let run = run_of(cb, pos + done, n - done);
         let at = byte_in(base, cb, cluster, pos + done);
-        copy_in(out, done, &img[at..at + run]);
         cluster = value_of(img, last, cluster);
+        copy_part(out, done, img, at, run);
         done += run;
     }
 }

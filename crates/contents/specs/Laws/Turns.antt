@@ -15,7 +15,7 @@ use Rattle.chains.specs.Laws.Content.{cluster-high}
 use Rattle.chains.specs.Write.{poured}
 use Rattle.chains.specs.Laws.Poured.{poured-length}
 use Rattle.chains.specs.Steps.{followed}
-use Rattle.table.specs.Entries.{entryOf, tableOf}
+use Rattle.table.specs.Entries.{wordAt, entryOf, tableOf}
 use Rattle.table.specs.Laws.View.{table-inside, table-outside}
 use Rattle.contents.specs.Contents.{chainFrom, Area, placeOf, fetched}
 use Rattle.contents.specs.Loops.{runOf, Stands, Pouring, Fetching}
@@ -63,13 +63,11 @@ module _ (base cb c p : ℕ) (wide : 0 < cb) (fits : clusterAt base cb c + cb < 
   unfolding clusterAt
   place-fits = omega (arith, mod-lt p wide)
 
--- ---- parts as the code names them, by start and end
+-- ---- parts
 
-span : (at n : ℕ) → at + n - at ≡ n
-span at n = omega arith
-
-short : (l : List ℕ) (at n : ℕ) → length (take (at + n - at) (drop at l)) ≤ n
-short l at n = omega (arith, length-take (at + n - at) (drop at l))
+-- a part as the code names it, by start and end
+pub part-between : (l m s : List ℕ) (at from n : ℕ) → m ≡ stored l at (take (from + n - from) (drop from s)) → m ≡ stored l at (part s from n)
+part-between l m s at from n e = let z : from + n - from ≡ n = omega arith in rw z at e
 
 zeros : (n at k : ℕ) → at + k ≤ n → part (replicate n 0) at k ≡ replicate k 0
 zeros n at k h =
@@ -117,6 +115,9 @@ module _ (base cb last : ℕ) (l : List ℕ) (start : ℕ) (a : Area base cb las
       within : (pos + done) % cb + r ≤ cb
       within = rw q (run-inside cb (pos + done) (n - done) (a .wide))
 
+      pub run-end-fits : n < 18446744073709551616 → done + r < 18446744073709551616
+      run-end-fits h = omega (arith, run-end)
+
       pub run-less : n - (done + r) < n - done
       run-less = omega (arith, any)
 
@@ -145,6 +146,9 @@ module _ (base cb last : ℕ) (l : List ℕ) (start : ℕ) (a : Area base cb las
       pub pour-length : length m ≡ length l
       pour-length = ap length (s .image) ∙ poured-length base cb l (chainFrom last l start) pos bs done
 
+      pub pour-reaches : wordAt 512 last + 2 ≤ length m
+      pour-reaches = omega (arith, pour-length, a .table, a .clusters)
+
       pub pour-done : n ≤ done → m ≡ poured base cb l (chainFrom last l start) pos bs n
       pour-done h = let e : done ≡ n = omega (arith, s .stands .far) in rw e at (s .image)
 
@@ -152,9 +156,9 @@ module _ (base cb last : ℕ) (l : List ℕ) (start : ℕ) (a : Area base cb las
         pub pour-stays : at + r ≤ length m
         pour-stays = rw pour-length (run-stays c done (s .stands) more r q at e)
 
-        pour-again : (m′ : List ℕ) (v : ℕ) → n ≤ length bs → m′ ≡ stored m at (part bs done r) → v ≡ tableOf last m′ c → Pouring base cb last l start pos bs n m′ v (done + r)
+        pour-again : (m′ : List ℕ) (v : ℕ) → n ≤ length bs → m′ ≡ stored m at (part bs done r) → v ≡ tableOf last m c → Pouring base cb last l start pos bs n m′ v (done + r)
         pour-again m′ v enough t w = record {
-          stands = next-stands c done (s .stands) more r q v (w ∙ ap (λ (x : List ℕ). tableOf last x c) image′ ∙ poured-table base cb (a .wide) l (chainFrom last l start) pos bs (done + r) last (a .table) c);
+          stands = next-stands c done (s .stands) more r q v (w ∙ ap (λ (x : List ℕ). tableOf last x c) (s .image) ∙ poured-table base cb (a .wide) l (chainFrom last l start) pos bs done last (a .table) c);
           image = image′;
         }
           where
@@ -179,14 +183,14 @@ module _ (base cb last : ℕ) (l : List ℕ) (start : ℕ) (a : Area base cb las
       fetch-done h = let e : done ≡ n = omega (arith, s .stands .far) in rw e at (s .buffer)
 
       module _ (more : done < n) (r at : ℕ) (q : r ≡ runOf cb (pos + done) (n - done)) (e : at ≡ clusterAt base cb c + (pos + done) % cb) where
-        pub fetch-fits : n ≤ length out → done + length (take (at + r - at) (drop at l)) ≤ length by
-        fetch-fits h = omega (arith, fetch-length, run-end c done (s .stands) more r q, short l at r)
+        pub fetch-fits : n ≤ length out → done + r ≤ length by
+        fetch-fits h = omega (arith, fetch-length, run-end c done (s .stands) more r q)
 
-        pub fetch-again : (by′ : List ℕ) (v : ℕ) → by′ ≡ stored by done (take (at + r - at) (drop at l)) → v ≡ tableOf last l c → Fetching base cb last l start pos out n by′ v (done + r)
+        pub fetch-again : (by′ : List ℕ) (v : ℕ) → by′ ≡ stored by done (part l at r) → v ≡ tableOf last l c → Fetching base cb last l start pos out n by′ v (done + r)
         fetch-again by′ v t w = record {
           stands = next-stands c done (s .stands) more r q v w;
           buffer =
-              t ∙ rw (span at r, s .buffer, place-is c done (s .stands) more at e)
+              t ∙ rw (s .buffer, place-is c done (s .stands) more at e)
               (fetched-more base cb (a .wide) l (chainFrom last l start) (chain-room base cb last l start a) pos done r (any c done (s .stands) more r q) (within c done (s .stands) more r q)
               (omega (arith, run-end c done (s .stands) more r q)) out);
         }
@@ -196,15 +200,12 @@ module _ (base cb last : ℕ) (l : List ℕ) (start : ℕ) (a : Area base cb las
 module _ (base cb last : ℕ) (l : List ℕ) (start : ℕ) (a : Area base cb last (length l)) (pos : ℕ) where
   module _ (src : List ℕ) (full : pos + length src ≤ length (chainFrom last l start) * cb) (m : List ℕ) (c done : ℕ) (s : Pouring base cb last l start pos src (length src) m c done) (more : done < length src)
       (r at : ℕ) (q : r ≡ runOf cb (pos + done) (length src - done)) (e : at ≡ clusterAt base cb c + (pos + done) % cb) where
-    pub copy-fits : at + length (take (done + r - done) (drop done src)) ≤ length m
-    copy-fits = omega (arith, pour-stays base cb last l start a pos (length src) full src m c done s more r at q e, short src done r)
-
-    pub copy-again : (m′ : List ℕ) (v : ℕ) → m′ ≡ stored m at (take (done + r - done) (drop done src)) → v ≡ tableOf last m′ c → Pouring base cb last l start pos src (length src) m′ v (done + r)
-    copy-again m′ v t w = pour-again base cb last l start a pos (length src) full src m c done s more r at q e m′ v (omega arith) (rw (span done r) at t) w
+    pub copy-again : (m′ : List ℕ) (v : ℕ) → m′ ≡ stored m at (part src done r) → v ≡ tableOf last m c → Pouring base cb last l start pos src (length src) m′ v (done + r)
+    copy-again m′ v t w = pour-again base cb last l start a pos (length src) full src m c done s more r at q e m′ v (omega arith) t w
 
   module _ (n : ℕ) (full : pos + n ≤ length (chainFrom last l start) * cb) (m : List ℕ) (c done : ℕ) (s : Pouring base cb last l start pos (replicate n 0) n m c done) (more : done < n)
       (r at : ℕ) (q : r ≡ runOf cb (pos + done) (n - done)) (e : at ≡ clusterAt base cb c + (pos + done) % cb) where
-    pub fill-again : (m′ : List ℕ) (v : ℕ) → m′ ≡ stored m at (replicate r 0) → v ≡ tableOf last m′ c → Pouring base cb last l start pos (replicate n 0) n m′ v (done + r)
+    pub fill-again : (m′ : List ℕ) (v : ℕ) → m′ ≡ stored m at (replicate r 0) → v ≡ tableOf last m c → Pouring base cb last l start pos (replicate n 0) n m′ v (done + r)
     fill-again m′ v t w =
         pour-again base cb last l start a pos n full (replicate n 0) m c done s more r at q e m′ v (omega (arith, length-replicate {A = ℕ} n 0))
         (t ∙ ap (stored m at) (sym (zeros n done r (run-end base cb last l start a pos n full c done (s .stands) more r q)))) w

@@ -1,0 +1,20 @@
+-- The cluster that was found holds that byte.
+use Rattle.contents.specs.Laws.Turns.{holder-from, holder-fits, holder-place}
+use borrow.Author.Needs.{needs}
+use Rattle.contents.proofs.place_of.Statement.{statement}
+use Rattle.contents.proofs.place_of.Tie as tie
+
+div-nth-cluster : tie.Need-div-nth-cluster
+div-nth-cluster c = search needs
+
+nth-cluster-requires : tie.Need-nth-cluster-requires
+nth-cluster-requires c κs = search needs
+
+byte-in-requires : tie.Need-byte-in-requires
+byte-in-requires c κs = search (needs, holder-from, holder-fits)
+
+returns : tie.Need-returns
+returns c = search holder-place
+
+pub place-of-spec : {M : Type 1} → statement M
+place-of-spec = tie.close (tie.spec div-nth-cluster nth-cluster-requires byte-in-requires returns)
