@@ -3,7 +3,7 @@ use Prim.Native.Nat.{ℕ, _+_, _-_, _*_, _≤_, _<_}
 use mathlib.Core.Option.{Option, none, some}
 use mathlib.Core.List.{List, []}
 use lib.ListN.{length, replicate}
-use Rattle.image.specs.Store.{stored, part}
+use Rattle.image.specs.Store.{part}
 use Rattle.chains.specs.Walk.{walk}
 use Rattle.chains.specs.Content.{byteAt, chainBytes}
 use Rattle.chains.specs.Write.{poured}
@@ -22,7 +22,6 @@ chainFrom last l start = orNone (walk last (tableOf last l) start)
 pub record Area (base cb last bytes : ℕ) : Type 0 where
   pub small : last ≤ 4079
   pub wide : 0 < cb
-  pub narrow : cb ≤ 4096
   pub table : wordAt 512 last + 2 ≤ base
   pub clusters : base + (last - 1) * cb ≤ bytes
 

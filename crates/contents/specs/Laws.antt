@@ -4,3 +4,4 @@ pub mod Places
 pub mod Stores
 pub mod Turns
 pub mod Kept
+pub mod Read

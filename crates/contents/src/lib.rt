@@ -3,7 +3,7 @@ use image::copy_in;
 use image::fill;
 use table::entry;
 ghost use mathlib.Core.Path.{_≡_};
-ghost use Prim.Native.Nat.{_+_, _-_, _*_, _%_, _≤_, _<_};
+ghost use Prim.Native.Nat.{_+_, _*_, _/_, _%_, _≤_, _<_};
 ghost use lib.ListN.{length};
 ghost use Rattle.image.specs.Store.{stored, part};
 ghost use Rattle.chains.specs.Steps.{followed};
@@ -13,7 +13,7 @@ ghost use Rattle.contents.specs.Contents.{chainFrom, Area, placeOf, fetc
 ghost use Rattle.contents.specs.Loops.{runOf};
 
 // The value of a cluster's entry, 0 where there is no such cluster.
-pub fn value_of(img: &[u8], last: usize, cluster: usize) -> usize
+fn value_of(img: &[u8], last: usize, cluster: usize) -> usize
     requires { ⌜ last ≤ 4079 ⌝ }
     requires { ⌜ wordAt 512 last + 2 ≤ length (now img) ⌝ }
     ensures { λ r. ⌜ r ≡ tableOf last (now (img .entry)) cluster ⌝ }
@@ -27,28 +27,29 @@ pub fn value_of(img: &[u8], last: usize, cluster: usize) -> usize
     entry(img, cluster) as usize
 }
 
-// The cluster that is met after so many links from start on.
-pub fn nth_cluster(img: &[u8], last: usize, start: usize, links: usize) -> usize
+// The cluster that holds byte pos of the chain.
+fn cluster_holding(img: &[u8], cb: usize, last: usize, start: usize, pos: usize) -> usize
+    requires { ⌜ 0 < cb ⌝ }
     requires { ⌜ last ≤ 4079 ⌝ }
     requires { ⌜ wordAt 512 last + 2 ≤ length (now img) ⌝ }
-    ensures { λ r. ⌜ r ≡ followed (tableOf last (now (img .entry))) links start ⌝ }
+    ensures { λ r. ⌜ r ≡ followed (tableOf last (now (img .entry))) (pos / cb) start ⌝ }
 {
     let mut cluster = start;
-    let mut left = links;
-    while 0 < left {
+    let mut links = pos / cb;
+    while 0 < links {
         cluster = value_of(img, last, cluster);
-        left -= 1;
+        links -= 1;
     }
     cluster
 }
 
-// How many of left bytes from byte p of a chain on lie in one cluster.
+// How many of left bytes from byte p of a chain on lie in one cluster: byte p, and those behind it.
 fn run_of(cb: usize, p: usize, left: usize) -> usize
     requires { ⌜ 0 < cb ⌝ }
     ensures { λ r. ⌜ r ≡ runOf cb p left ⌝ }
 {
-    let room = cb - p % cb;
-    if room < left { room } else { left }
+    let behind = cb - 1 - p % cb;
+    if behind < left { behind + 1 } else { left }
 }
 
 // Where byte p of a chain lies, if it is in that cluster.
@@ -67,7 +68,7 @@ pub fn place_of(img: &[u8], base: usize, cb: usize, last: usize, start: usize, p
     requires { ⌜ pos < length (chainFrom last (now img) start) * cb ⌝ }
     ensures { λ r. ⌜ r ≡ placeOf base cb last (now (img .entry)) start pos ⌝ }
 {
-    byte_in(base, cb, nth_cluster(img, last, start, pos / cb), pos)
+    byte_in(base, cb, cluster_holding(img, cb, last, start, pos), pos)
 }
 
 // Stores n bytes of src, from its byte from on, at byte at of s.
@@ -80,12 +81,20 @@ fn copy_part(s: &mut [u8], at: usize, src: &[u8], from: usize, n: usize)
 }
 
 // Puts the bytes of src into the chain, from its byte pos on.
-pub fn pour(img: &mut [u8], base: usize, cb: usize, last: usize, start: usize, pos: usize, src: &[u8])
+pub fn pour(
+    img: &mut [u8],
+    base: usize,
+    cb: usize,
+    last: usize,
+    start: usize,
+    pos: usize,
+    src: &[u8],
+)
     requires { ⌜ Area base cb last (length (now img)) ⌝ }
     requires { ⌜ pos + length (now src) ≤ length (chainFrom last (now img) start) * cb ⌝ }
     ensures { λ _. ⌜ now (img .exit) ≡ bytesPut base cb last (now (img .entry)) start pos (now (src .entry)) ⌝ }
 {
-    let mut cluster = nth_cluster(img, last, start, pos / cb);
+    let mut cluster = cluster_holding(img, cb, last, start, pos);
     let mut done: usize = 0;
     while done < src.len() {
         let run = run_of(cb, pos + done, src.len() - done);
@@ -97,12 +106,20 @@ pub fn pour(img: &mut [u8], base: usize, cb: usize, last: usize, start: usize, p
 }
 
 // Puts n zeros into the chain, from its byte pos on.
-pub fn pour_zeros(img: &mut [u8], base: usize, cb: usize, last: usize, start: usize, pos: usize, n: usize)
+pub fn pour_zeros(
+    img: &mut [u8],
+    base: usize,
+    cb: usize,
+    last: usize,
+    start: usize,
+    pos: usize,
+    n: usize,
+)
     requires { ⌜ Area base cb last (length (now img)) ⌝ }
     requires { ⌜ pos + n ≤ length (chainFrom last (now img) start) * cb ⌝ }
     ensures { λ _. ⌜ now (img .exit) ≡ zerosPut base cb last (now (img .entry)) start pos n ⌝ }
 {
-    let mut cluster = nth_cluster(img, last, start, pos / cb);
+    let mut cluster = cluster_holding(img, cb, last, start, pos);
     let mut done: usize = 0;
     while done < n {
         let run = run_of(cb, pos + done, n - done);
@@ -114,13 +131,22 @@ pub fn pour_zeros(img: &mut [u8], base: usize, cb: usize, last: usize, start: us
 }
 
 // Copies n bytes of the chain, from its byte pos on, to the front of out.
-pub fn fetch(img: &[u8], base: usize, cb: usize, last: usize, start: usize, pos: usize, out: &mut [u8], n: usize)
+pub fn fetch(
+    img: &[u8],
+    base: usize,
+    cb: usize,
+    last: usize,
+    start: usize,
+    pos: usize,
+    out: &mut [u8],
+    n: usize,
+)
     requires { ⌜ Area base cb last (length (now img)) ⌝ }
     requires { ⌜ pos + n ≤ length (chainFrom last (now img) start) * cb ⌝ }
     requires { ⌜ n ≤ length (now out) ⌝ }
     ensures { λ _. ⌜ now (out .exit) ≡ stored (now (out .entry)) 0 (fetched base cb last (now (img .entry)) start pos n) ⌝ }
 {
-    let mut cluster = nth_cluster(img, last, start, pos / cb);
+    let mut cluster = cluster_holding(img, cb, last, start, pos);
     let mut done: usize = 0;
     while done < n {
         let run = run_of(cb, pos + done, n - done);

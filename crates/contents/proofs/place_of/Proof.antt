@@ -4,11 +4,8 @@ use borrow.Author.Needs.{needs}
 use Rattle.contents.proofs.place_of.Statement.{statement}
 use Rattle.contents.proofs.place_of.Tie as tie
 
-div-nth-cluster : tie.Need-div-nth-cluster
-div-nth-cluster c = search needs
-
-nth-cluster-requires : tie.Need-nth-cluster-requires
-nth-cluster-requires c κs = search needs
+cluster-holding-requires : tie.Need-cluster-holding-requires
+cluster-holding-requires c κs = search needs
 
 byte-in-requires : tie.Need-byte-in-requires
 byte-in-requires c κs = search (needs, holder-from, holder-fits)
@@ -17,4 +14,4 @@ returns : tie.Need-returns
 returns c = search holder-place
 
 pub place-of-spec : {M : Type 1} → statement M
-place-of-spec = tie.close (tie.spec div-nth-cluster nth-cluster-requires byte-in-requires returns)
+place-of-spec = tie.close (tie.spec cluster-holding-requires byte-in-requires returns)

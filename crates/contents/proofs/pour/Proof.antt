@@ -13,11 +13,8 @@ Inv-loop img₀ base cb last start pos src cluster₀ done₀ img cluster done =
 abbrev μ-loop : tie.MeasureT-loop
 μ-loop img₀ base cb last start pos src cluster₀ done₀ img cluster done = length src - done
 
-div-nth-cluster : tie.Need-div-nth-cluster Inv-loop μ-loop
-div-nth-cluster c = search needs
-
-nth-cluster-requires : tie.Need-nth-cluster-requires Inv-loop μ-loop
-nth-cluster-requires c κs = search needs
+cluster-holding-requires : tie.Need-cluster-holding-requires Inv-loop μ-loop
+cluster-holding-requires c κs = search needs
 
 loop-holds : tie.Need-loop-holds Inv-loop μ-loop
 loop-holds c = search pour-first
@@ -64,8 +61,7 @@ pour-spec =
     (tie.spec
     Inv-loop
     μ-loop
-    div-nth-cluster
-    nth-cluster-requires
+    cluster-holding-requires
     loop-holds
     add-run-of
     sub-run-of

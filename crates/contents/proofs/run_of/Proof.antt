@@ -4,11 +4,17 @@ use borrow.Author.Needs.{needs}
 use Rattle.contents.proofs.run_of.Statement.{statement}
 use Rattle.contents.proofs.run_of.Tie as tie
 
-rem-room : tie.Need-rem-room
-rem-room c = search needs
+sub-behind : tie.Need-sub-behind
+sub-behind c = search needs
 
-sub-room : tie.Need-sub-room
-sub-room c = search rest-inside
+rem-behind : tie.Need-rem-behind
+rem-behind c = search needs
+
+sub-behind-2 : tie.Need-sub-behind-2
+sub-behind-2 c = search rest-inside
+
+add-result : tie.Need-add-result
+add-result c = search needs
 
 returns : tie.Need-returns
 returns c = search run-short
@@ -17,4 +23,4 @@ returns-2 : tie.Need-returns-2
 returns-2 c = search run-whole
 
 pub run-of-spec : {M : Type 1} → statement M
-run-of-spec = tie.close (tie.spec rem-room sub-room returns returns-2)
+run-of-spec = tie.close (tie.spec sub-behind rem-behind sub-behind-2 add-result returns returns-2)

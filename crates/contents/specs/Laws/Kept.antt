@@ -2,9 +2,9 @@
 -- other cluster.
 use Prim.Native.Nat.{ℕ, zero, suc, _+_, _*_, _≤_, _<_}
 use native.Mathlib.Omega.{arith}
-use mathlib.Core.Path.{_≡_, refl, sym, _∙_}
+use mathlib.Core.Path.{_≡_}
 use mathlib.Core.List.{List}
-use lib.ListN.{length, getD}
+use lib.ListN.{length, getD, replicate}
 use Rattle.image.specs.Bytes.{Bytes}
 use Rattle.image.specs.Laws.Store.{bytes-set}
 use Rattle.chains.specs.Content.{Touches, byteAt}
@@ -21,6 +21,11 @@ pub bytes-poured : (base cb : ℕ) (l cs : List ℕ) (pos : ℕ) (bs : List ℕ)
 unfolding poured
 bytes-poured base cb l cs pos bs zero b h = b
 bytes-poured base cb l cs pos bs (suc n) b h = bytes-set (poured base cb l cs pos bs n) (byteAt base cb cs (pos + n)) (getD bs n 0) (bytes-poured base cb l cs pos bs n b h) (h n)
+
+pub bytes-zeros : (n : ℕ) → Bytes (replicate n 0)
+bytes-zeros zero i = omega arith
+bytes-zeros (suc n) zero = omega arith
+bytes-zeros (suc n) (suc i) = bytes-zeros n i
 
 module _ (base cb : ℕ) (wide : 0 < cb) (l cs : List ℕ) (pos : ℕ) (bs : List ℕ) (n : ℕ) where
   pub poured-before : (j : ℕ) → j < base → getD (poured base cb l cs pos bs n) j 0 ≡ getD l j 0

@@ -1,8 +1,8 @@
 -- Runs on numbers alone: a run stays in its cluster, and where it ends before the bytes do, the next cluster begins.
-use Prim.Native.Nat.{ℕ, suc, _+_, _-_, _*_, _/_, _%_, _≤_, _<_}
+use Prim.Native.Nat.{ℕ, _+_, _-_, _*_, _/_, _%_, _≤_, _<_}
 use native.Mathlib.Omega.{arith}
 use native.Mathlib.Nat.{div-eq-of-lt, mul-add-div-right, div-add-mod', mod-lt}
-use mathlib.Core.Path.{_≡_, sym, _∙_, ap}
+use mathlib.Core.Path.{_≡_, _∙_, ap}
 use Rattle.contents.specs.Loops.{runOf}
 
 module _ (cb p left : ℕ) (wide : 0 < cb) where

@@ -2,20 +2,20 @@
 use Prim.Native.Nat.{ℕ, _+_, _-_, _*_, _/_, _%_, _≤_, _<_}
 use native.Mathlib.Omega.{arith}
 use native.Mathlib.Nat.{div-lt-iff-lt-mul}
-use mathlib.Core.Path.{_≡_, refl, sym, _∙_, ap}
+use mathlib.Core.Path.{_≡_, sym, _∙_, ap}
 use mathlib.Core.Logic.{inl, inr}
 use mathlib.Core.List.{List, _++_}
-use lib.ListN.{length, getD, take, drop, replicate, length-drop, length-append}
-use lib.Seq.{ext-getD, length-take-le, take-add, drop-drop, take-all}
+use lib.ListN.{length, getD, take, drop, length-drop}
+use lib.Seq.{ext-getD, take-add, drop-drop, take-all}
 use Rattle.image.specs.Store.{stored, part}
-use Rattle.image.specs.Laws.Store.{length-stored, stored-outside, stored-byte, stored-append, part-at, length-part}
+use Rattle.image.specs.Laws.Store.{length-stored, stored-byte, stored-append, part-same, length-part}
 use Rattle.chains.specs.Content.{Room, byteAt, chainBytes, content}
 use Rattle.chains.specs.Write.{splice, poured}
 use Rattle.chains.specs.Laws.Lists.{index-mem}
-use Rattle.chains.specs.Laws.Content.{chain-bytes-length}
+use Rattle.chains.specs.Laws.Content.{chain-bytes-length, chain-bytes-at, content-length, content-at}
 use Rattle.chains.specs.Laws.Splice.{splice-length, splice-before, splice-in, splice-after}
 use Rattle.chains.specs.Laws.Poured.{poured-length}
-use Rattle.chains.specs.Laws.Runs.{byte-run, content-run, poured-run, poured-split}
+use Rattle.chains.specs.Laws.Runs.{content-run, poured-run, poured-split}
 
 -- a store inside the list puts the bytes over those that were there
 pub stored-splice : (l : List ℕ) (at : ℕ) (s : List ℕ) → at + length s ≤ length l → stored l at s ≡ splice l at s
@@ -36,6 +36,14 @@ module _ (base cb : ℕ) (wide : 0 < cb) where
   chain-whole : (l cs : List ℕ) → Room base cb l cs → content base cb l cs (length cs * cb) ≡ chainBytes base cb l cs
   unfolding content
   chain-whole l cs r = take-all (length cs * cb) (chainBytes base cb l cs) (omega (arith, chain-bytes-length base cb wide l cs r))
+
+  -- so are the bytes of any file that reaches that far
+  pub content-part : (l cs : List ℕ) (size pos n : ℕ) → Room base cb l cs → pos + n ≤ size → size ≤ length cs * cb → part (content base cb l cs size) pos n ≡ part (chainBytes base cb l cs) pos n
+  content-part l cs size pos n r h k =
+      let long : length (content base cb l cs size) ≡ size = content-length base cb wide l cs size r k in
+      let whole : length (chainBytes base cb l cs) ≡ length cs * cb = chain-bytes-length base cb wide l cs r in
+      part-same (content base cb l cs size) (chainBytes base cb l cs) pos pos n (omega arith) (omega arith)
+      (λ i j. content-at base cb wide l cs size r k (pos + i) (omega arith) ∙ sym (chain-bytes-at base cb wide l cs r (pos + i) (omega arith)))
 
   -- a run in a cluster lies in the image
   pub run-fits : (l cs : List ℕ) (p k : ℕ) → Room base cb l cs → p < length cs * cb → p % cb + k ≤ cb → byteAt base cb cs p + k ≤ length l

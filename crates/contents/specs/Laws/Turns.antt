@@ -5,7 +5,7 @@ use native.Mathlib.Nat.{mod-lt, div-lt-iff-lt-mul}
 use mathlib.Core.Logic.{inl, inr}
 use mathlib.Core.Path.{_≡_, refl, sym, _∙_, ap}
 use mathlib.Core.List.{List}
-use lib.ListN.{length, getD, take, drop, replicate, length-replicate, length-take, length-drop, getD-replicate}
+use lib.ListN.{length, getD, take, drop, replicate, length-replicate, getD-replicate}
 use lib.Seq.{ext-getD}
 use Rattle.image.specs.Store.{stored, part}
 use Rattle.image.specs.Laws.Store.{length-stored, length-part, part-at}
@@ -39,14 +39,14 @@ module _ (last : ℕ) (l : List ℕ) (c : ℕ) where
 -- ---- runs and places, on numbers alone
 
 module _ (cb p left : ℕ) (wide : 0 < cb) where
-  pub rest-inside : p % cb ≤ cb
+  pub rest-inside : p % cb ≤ cb - 1
   rest-inside = omega (arith, mod-lt p wide)
 
-  pub run-short : cb - p % cb < left → cb - p % cb ≡ runOf cb p left
+  pub run-short : cb - 1 - p % cb < left → cb - 1 - p % cb + 1 ≡ runOf cb p left
   unfolding runOf
-  run-short h = omega arith
+  run-short h = omega (arith, mod-lt p wide)
 
-  pub run-whole : left ≤ cb - p % cb → left ≡ runOf cb p left
+  pub run-whole : left ≤ cb - 1 - p % cb → left ≡ runOf cb p left
   unfolding runOf
   run-whole h = omega arith
 
