@@ -1,7 +1,9 @@
 -- The laws of the definitions beside this folder.
+pub mod Kinds
 pub mod Chain
-pub mod Places
+pub mod Runs
 pub mod Stores
-pub mod Turns
 pub mod Kept
 pub mod Read
+pub mod Leaves
+pub mod Turns

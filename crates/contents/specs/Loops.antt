@@ -16,12 +16,12 @@ pub record Stands (cb : ℕ) (cs : List ℕ) (pos n c done : ℕ) : Type 0 where
   pub far : done ≤ n
   pub holds : done < n → c ≡ getD cs ((pos + done) / cb) 0
 
--- of the bytes bs, done are put into the chain of the image l, which is m by now
+-- of the bytes bs, done are put into the chain of the image, which was l at first and is m by now
 pub record Pouring (base cb last : ℕ) (l : List ℕ) (start pos : ℕ) (bs : List ℕ) (n : ℕ) (m : List ℕ) (c done : ℕ) : Type 0 where
   pub stands : Stands cb (chainFrom last l start) pos n c done
   pub image : m ≡ poured base cb l (chainFrom last l start) pos bs done
 
--- done bytes of the chain of the image l are copied to the buffer, which was out and is by now
-pub record Fetching (base cb last : ℕ) (l : List ℕ) (start pos : ℕ) (out : List ℕ) (n : ℕ) (by : List ℕ) (c done : ℕ) : Type 0 where
+-- done bytes of the chain of the image l are copied to the buffer, which was out at first and is filled by now
+pub record Fetching (base cb last : ℕ) (l : List ℕ) (start pos : ℕ) (out : List ℕ) (n : ℕ) (filled : List ℕ) (c done : ℕ) : Type 0 where
   pub stands : Stands cb (chainFrom last l start) pos n c done
-  pub buffer : by ≡ stored out 0 (fetched base cb last l start pos done)
+  pub buffer : filled ≡ stored out 0 (fetched base cb last l start pos done)

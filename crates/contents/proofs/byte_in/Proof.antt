@@ -1,6 +1,6 @@
 -- The cluster lies below the largest number, and so does each of its bytes.
 use Rattle.chains.specs.Content.{clusterAt}
-use Rattle.contents.specs.Laws.Turns.{steps-fit, start-fits, place-fits}
+use Rattle.contents.specs.Laws.Leaves.{steps-fit, start-fits, place-fits}
 use borrow.Author.Needs.{needs}
 use Rattle.contents.proofs.byte_in.Statement.{statement}
 use Rattle.contents.proofs.byte_in.Tie as tie

@@ -1,5 +1,5 @@
 -- The part from a start to an end is the part of so many bytes.
-use Rattle.contents.specs.Laws.Turns.{part-between}
+use Rattle.contents.specs.Laws.Leaves.{part-between}
 use borrow.Author.Needs.{needs}
 use Rattle.contents.proofs.copy_part.Statement.{statement}
 use Rattle.contents.proofs.copy_part.Tie as tie

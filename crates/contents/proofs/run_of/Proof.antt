@@ -1,5 +1,5 @@
 -- What is left of the cluster, or of the bytes if they are fewer.
-use Rattle.contents.specs.Laws.Turns.{rest-inside, run-short, run-whole}
+use Rattle.contents.specs.Laws.Leaves.{rest-inside, run-short, run-whole}
 use borrow.Author.Needs.{needs}
 use Rattle.contents.proofs.run_of.Statement.{statement}
 use Rattle.contents.proofs.run_of.Tie as tie

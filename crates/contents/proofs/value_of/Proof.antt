@@ -1,5 +1,5 @@
 -- The table has an entry of each cluster, and 0 elsewhere.
-use Rattle.contents.specs.Laws.Turns.{value-low, value-high, value-inside}
+use Rattle.contents.specs.Laws.Leaves.{value-low, value-high, value-inside}
 use borrow.Author.Needs.{needs}
 use Rattle.contents.proofs.value_of.Statement.{statement}
 use Rattle.contents.proofs.value_of.Tie as tie

@@ -1,74 +1,27 @@
--- One turn of each loop, and what the code owes on the way: in the form of its needs.
+-- One turn of each loop along a chain, and what it owes on the way: in the form of its needs.
 use Prim.Native.Nat.{ℕ, _+_, _-_, _*_, _/_, _%_, _≤_, _<_}
 use native.Mathlib.Omega.{arith}
-use native.Mathlib.Nat.{mod-lt, div-lt-iff-lt-mul}
-use mathlib.Core.Logic.{inl, inr}
+use native.Mathlib.Nat.{div-lt-iff-lt-mul}
 use mathlib.Core.Path.{_≡_, refl, sym, _∙_, ap}
 use mathlib.Core.List.{List}
-use lib.ListN.{length, getD, take, drop, replicate, length-replicate, getD-replicate}
+use lib.ListN.{length, getD, replicate, length-replicate, getD-replicate}
 use lib.Seq.{ext-getD}
 use Rattle.image.specs.Store.{stored, part}
 use Rattle.image.specs.Laws.Store.{length-stored, length-part, part-at}
-use Rattle.chains.specs.Content.{byteAt, clusterAt}
-use Rattle.chains.specs.Values.{Link}
-use Rattle.chains.specs.Laws.Content.{cluster-high}
+use Rattle.chains.specs.Content.{clusterAt}
 use Rattle.chains.specs.Write.{poured}
 use Rattle.chains.specs.Laws.Poured.{poured-length}
 use Rattle.chains.specs.Steps.{followed}
-use Rattle.table.specs.Entries.{wordAt, entryOf, tableOf}
-use Rattle.table.specs.Laws.View.{table-inside, table-outside}
+use Rattle.table.specs.Entries.{wordAt, tableOf}
 use Rattle.contents.specs.Contents.{chainFrom, Area, placeOf, fetched}
 use Rattle.contents.specs.Loops.{runOf, Stands, Pouring, Fetching}
-use Rattle.contents.specs.Laws.Chain.{geometry, chain-room, chain-small, holder-link, holder-followed, holder-next}
-use Rattle.contents.specs.Laws.Places.{run-left, run-some, run-inside, run-ends}
+use Rattle.contents.specs.Laws.Chain.{chain-room, chain-small, holder-next}
+use Rattle.contents.specs.Laws.Leaves.{in-range, in-reach, in-place, met-holds}
+use Rattle.contents.specs.Laws.Runs.{run-left, run-some, run-inside, run-ends}
 use Rattle.contents.specs.Laws.Stores.{run-fits, poured-more, fetched-more}
 use Rattle.contents.specs.Laws.Kept.{poured-table}
 
--- ---- the value of an entry
-
-module _ (last : ℕ) (l : List ℕ) (c : ℕ) where
-  pub value-low : c < 2 → 0 ≡ tableOf last l c
-  value-low h = sym (table-outside last l c (inl h))
-
-  pub value-high : last < c → 0 ≡ tableOf last l c
-  value-high h = sym (table-outside last l c (inr h))
-
-  pub value-inside : (e : ℕ) → e ≡ entryOf l c → 2 ≤ c → c ≤ last → e ≡ tableOf last l c
-  value-inside e r h k = r ∙ sym (table-inside last l c h k)
-
--- ---- runs and places, on numbers alone
-
-module _ (cb p left : ℕ) (wide : 0 < cb) where
-  pub rest-inside : p % cb ≤ cb - 1
-  rest-inside = omega (arith, mod-lt p wide)
-
-  pub run-short : cb - 1 - p % cb < left → cb - 1 - p % cb + 1 ≡ runOf cb p left
-  unfolding runOf
-  run-short h = omega (arith, mod-lt p wide)
-
-  pub run-whole : left ≤ cb - 1 - p % cb → left ≡ runOf cb p left
-  unfolding runOf
-  run-whole h = omega arith
-
-module _ (base cb c p : ℕ) (wide : 0 < cb) (fits : clusterAt base cb c + cb < 18446744073709551616) where
-  pub steps-fit : (c - 2) * cb < 18446744073709551616
-  unfolding clusterAt
-  steps-fit = omega arith
-
-  pub start-fits : base + (c - 2) * cb < 18446744073709551616
-  unfolding clusterAt
-  start-fits = omega arith
-
-  pub place-fits : base + (c - 2) * cb + p % cb < 18446744073709551616
-  unfolding clusterAt
-  place-fits = omega (arith, mod-lt p wide)
-
--- ---- parts
-
--- a part as the code names it, by start and end
-pub part-between : (l m s : List ℕ) (at from n : ℕ) → m ≡ stored l at (take (from + n - from) (drop from s)) → m ≡ stored l at (part s from n)
-part-between l m s at from n e = let z : from + n - from ≡ n = omega arith in rw z at e
-
+-- a part of zeros
 zeros : (n at k : ℕ) → at + k ≤ n → part (replicate n 0) at k ≡ replicate k 0
 zeros n at k h =
     let here : length (part (replicate n 0) at k) ≡ k = length-part (replicate n 0) at k (omega (arith, length-replicate {A = ℕ} n 0)) in
@@ -83,7 +36,7 @@ module _ (base cb last : ℕ) (l : List ℕ) (start : ℕ) (a : Area base cb las
     far = omega arith;
     holds = λ h.
         let z : pos + 0 ≡ pos = omega arith in
-        e ∙ holder-followed base cb last l start a pos (omega arith) ∙ sym (ap (λ (x : ℕ). getD (chainFrom last l start) (x / cb) 0) z);
+        met-holds base cb last l start a pos c (omega arith) e ∙ sym (ap (λ (x : ℕ). getD (chainFrom last l start) (x / cb) 0) z);
   }
 
   module _ (c done : ℕ) (s : Stands cb (chainFrom last l start) pos n c done) (more : done < n) where
@@ -91,19 +44,15 @@ module _ (base cb last : ℕ) (l : List ℕ) (start : ℕ) (a : Area base cb las
     pub next-fits : length l < 18446744073709551616 → pos + done < 18446744073709551616
     next-fits h = omega (arith, chain-small base cb last l start a)
 
-    link : Link last c
-    link = rw (s .holds more) (holder-link base cb last l start a (pos + done) (omega arith))
-
     pub cluster-from : 2 ≤ c
-    cluster-from = link .0
+    cluster-from = in-range base cb last l start a (pos + done) c (omega arith) (s .holds more) .0
 
     pub cluster-fits : length l < 18446744073709551616 → clusterAt base cb c + cb < 18446744073709551616
-    cluster-fits h = omega (arith, a .clusters, cluster-high base cb (a .wide) (geometry a) c link)
+    cluster-fits = in-reach base cb last l start a (pos + done) c (omega arith) (s .holds more)
 
     -- the place of that byte
-    pub place-is : (at : ℕ) → at ≡ clusterAt base cb c + (pos + done) % cb → at ≡ byteAt base cb (chainFrom last l start) (pos + done)
-    unfolding byteAt
-    place-is at e = rw (s .holds more) at e
+    place-is : (at : ℕ) → at ≡ clusterAt base cb c + (pos + done) % cb → at ≡ placeOf base cb last l start (pos + done)
+    place-is = in-place base cb last l start a (pos + done) c (omega arith) (s .holds more)
 
     module _ (r : ℕ) (q : r ≡ runOf cb (pos + done) (n - done)) where
       pub run-end : done + r ≤ n
@@ -175,19 +124,19 @@ module _ (base cb last : ℕ) (l : List ℕ) (start : ℕ) (a : Area base cb las
     unfolding stored
     fetch-first c e = record { stands = first-stands c e; buffer = refl }
 
-    module _ (by : List ℕ) (c done : ℕ) (s : Fetching base cb last l start pos out n by c done) where
-      pub fetch-length : length by ≡ length out
+    module _ (filled : List ℕ) (c done : ℕ) (s : Fetching base cb last l start pos out n filled c done) where
+      pub fetch-length : length filled ≡ length out
       fetch-length = ap length (s .buffer) ∙ length-stored out 0 (fetched base cb last l start pos done)
 
-      pub fetch-done : n ≤ done → by ≡ stored out 0 (fetched base cb last l start pos n)
+      pub fetch-done : n ≤ done → filled ≡ stored out 0 (fetched base cb last l start pos n)
       fetch-done h = let e : done ≡ n = omega (arith, s .stands .far) in rw e at (s .buffer)
 
       module _ (more : done < n) (r at : ℕ) (q : r ≡ runOf cb (pos + done) (n - done)) (e : at ≡ clusterAt base cb c + (pos + done) % cb) where
-        pub fetch-fits : n ≤ length out → done + r ≤ length by
+        pub fetch-fits : n ≤ length out → done + r ≤ length filled
         fetch-fits h = omega (arith, fetch-length, run-end c done (s .stands) more r q)
 
-        pub fetch-again : (by′ : List ℕ) (v : ℕ) → by′ ≡ stored by done (part l at r) → v ≡ tableOf last l c → Fetching base cb last l start pos out n by′ v (done + r)
-        fetch-again by′ v t w = record {
+        pub fetch-again : (filled′ : List ℕ) (v : ℕ) → filled′ ≡ stored filled done (part l at r) → v ≡ tableOf last l c → Fetching base cb last l start pos out n filled′ v (done + r)
+        fetch-again filled′ v t w = record {
           stands = next-stands c done (s .stands) more r q v w;
           buffer =
               t ∙ rw (s .buffer, place-is c done (s .stands) more at e)
@@ -209,22 +158,3 @@ module _ (base cb last : ℕ) (l : List ℕ) (start : ℕ) (a : Area base cb las
     fill-again m′ v t w =
         pour-again base cb last l start a pos n full (replicate n 0) m c done s more r at q e m′ v (omega (arith, length-replicate {A = ℕ} n 0))
         (t ∙ ap (stored m at) (sym (zeros n done r (run-end base cb last l start a pos n full c done (s .stands) more r q)))) w
-
--- ---- one byte's place
-
-module _ (base cb last : ℕ) (l : List ℕ) (start : ℕ) (a : Area base cb last (length l)) (pos c : ℕ) (h : pos < length (chainFrom last l start) * cb) (e : c ≡ followed (tableOf last l) (pos / cb) start) where
-  holder : c ≡ getD (chainFrom last l start) (pos / cb) 0
-  holder = e ∙ holder-followed base cb last l start a pos h
-
-  holder-is : Link last c
-  holder-is = rw holder (holder-link base cb last l start a pos h)
-
-  pub holder-from : 2 ≤ c
-  holder-from = holder-is .0
-
-  pub holder-fits : length l < 18446744073709551616 → clusterAt base cb c + cb < 18446744073709551616
-  holder-fits k = omega (arith, a .clusters, cluster-high base cb (a .wide) (geometry a) c holder-is)
-
-  pub holder-place : (at : ℕ) → at ≡ clusterAt base cb c + pos % cb → at ≡ placeOf base cb last l start pos
-  unfolding byteAt
-  holder-place at t = rw holder at t
