@@ -2,7 +2,6 @@
 use diskette::Kind;
 use diskette::WhichKind;
 use sound::Verdict;
-ghost use mathlib.Core.Path.{_≡_};
 ghost use Prim.Native.Nat.{_+_, _*_, _≤_};
 ghost use lib.ListN.{length};
 ghost use Rattle.diskette.specs.Images.{AreaOf};

@@ -3,14 +3,14 @@ use Prim.Native.Nat.{ℕ, suc, _+_, _*_, _-_, _≤_, _<_}
 use native.Mathlib.Omega.{arith}
 use mathlib.Core.Bool.{Bool, true, false}
 use mathlib.Core.List.{List, [], _++_}
-use mathlib.Core.Path.{_≡_, refl, sym, _∙_, ap}
+use mathlib.Core.Path.{_≡_, sym, _∙_, ap}
 use lib.ListN.{length, length-append}
 use Rattle.image.specs.Store.{stored}
 use Rattle.image.specs.Laws.Store.{stored-append}
 use Rattle.directory.specs.Fields.{nameOf, attrOf, timeOf, dateOf, startOf, sizeOf}
 use Rattle.directory.specs.Slots.{standingOf, isPlain}
 use Rattle.directory.specs.Search.{slotFrom}
-use Rattle.text.specs.Puts.{Puts, PutsIn}
+use Rattle.text.specs.Puts.{PutsIn}
 use Rattle.text.specs.Lines.{fileText, fileRoom}
 use Rattle.text.specs.Laws.Puts.{puts-nothing}
 use Rattle.listing.specs.Listing.{entryText, slotText, filesText}

@@ -2,12 +2,12 @@
 use Prim.Native.Nat.{ℕ, _+_, _*_, _≤_}
 use native.Mathlib.Omega.{arith}
 use mathlib.Core.List.{List, []}
-use mathlib.Core.Path.{_≡_, refl, sym, _∙_, ap, subst}
+use mathlib.Core.Path.{_≡_, sym, _∙_, ap, subst}
 use lib.Dec.{eqb}
 use lib.ListN.{length}
 use Rattle.image.specs.Laws.Store.{length-stored}
 use Rattle.diskette.specs.Kinds.{named, Usable}
-use Rattle.diskette.specs.Places.{firstData, clusters, rootEntries, rootAt}
+use Rattle.diskette.specs.Places.{clusters, rootEntries, rootAt}
 use Rattle.diskette.specs.Images.{AreaOf, kindOfArea}
 use Rattle.diskette.specs.Laws.Kinds.{OfKnown, of-cond}
 use Rattle.diskette.specs.Laws.Images.{area-of-kind, area-usable}
