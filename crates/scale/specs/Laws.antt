@@ -2,3 +2,4 @@
 pub mod Packing
 pub mod Out
 pub mod Calls
+pub mod Fits

@@ -2,4 +2,5 @@
 pub mod Packing
 pub mod Out
 pub mod Calls
+pub mod Fits
 pub mod Laws

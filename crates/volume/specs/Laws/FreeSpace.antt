@@ -1,16 +1,13 @@
 -- Free space: in the form of the code's needs, what its answer means, and that one answer only is allowed.
 use Prim.Native.Nat.{ℕ}
-use native.Mathlib.Omega.{arith}
-use mathlib.Core.Bool.{Bool, true, false}
 use mathlib.Core.List.{List}
 use mathlib.Core.Logic.{inl, inr}
-use mathlib.Core.Path.{_≡_, refl, sym, ap, _∙_, subst}
+use mathlib.Core.Path.{_≡_, sym, ap, _∙_, subst}
 use lib.Dec.{ltb}
 use Rattle.chains.specs.Verdict.{OrElse}
 use Rattle.chains.specs.Laws.Tests.{true-says, false-says}
 use Rattle.diskette.specs.Images.{kindOfImage}
 use Rattle.diskette.specs.Kinds.{Usable}
-use Rattle.diskette.specs.Places.{clusters}
 use Rattle.diskette.specs.Laws.Images.{image-usable}
 use Rattle.diskette.specs.declared.Kind.{Kind}
 use Rattle.diskette.specs.declared.WhichKind.{WhichKind}

@@ -1,3 +1,4 @@
+-- Both halves are below 2^32, so the sum is what the definition says.
 use Rattle.scale.specs.Packing.{packed}
 use borrow.Author.Needs.{needs}
 use Rattle.scale.proofs.answer.pack.Statement.{statement}

@@ -1,3 +1,4 @@
+-- A run of one byte stored is that byte set.
 use Rattle.image.specs.Store.{stored}
 use borrow.Author.Needs.{needs}
 use Rattle.scale.proofs.put.byte.Statement.{statement}

@@ -1,0 +1,140 @@
+-- Every number that check and free space answer fits 32 bits.
+use Prim.Native.Nat.{ℕ, zero, suc, _/_, _%_, _≤_, _<_}
+use native.Mathlib.Omega.{arith}
+use mathlib.Core.Bool.{Bool, true, false}
+use mathlib.Core.List.{List, _∷_}
+use mathlib.Core.Logic.{inl, inr}
+use mathlib.Core.Path.{_≡_, refl, sym, subst}
+use lib.Dec.{ltb, eqb}
+use lib.ListN.{length, getD}
+use Rattle.chains.specs.Holders.{none-of-it, as-many}
+use Rattle.chains.specs.Lists.{_∈_}
+use Rattle.chains.specs.Sums.{tally}
+use Rattle.chains.specs.Tests.{bit}
+use Rattle.chains.specs.Values.{Link}
+use Rattle.chains.specs.Verdict.{None, OrElse}
+use Rattle.chains.specs.Laws.Tests.{says-dec}
+use Rattle.diskette.specs.Images.{kindOfImage, kindOfArea}
+use Rattle.diskette.specs.Kinds.{named, Usable}
+use Rattle.diskette.specs.Places.{lastCluster, rootEntries, rootAt}
+use Rattle.diskette.specs.Laws.Images.{image-of-kind, area-of-kind, image-usable, area-usable}
+use Rattle.diskette.specs.Laws.Kinds.{OfKnown, of-cond}
+use Rattle.diskette.specs.declared.Kind.{Kind}
+use Rattle.diskette.specs.declared.WhichKind.{WhichKind}
+use Rattle.diskette.specs.declared.WhichKind.the-variants.{Known, Unknown}
+use Rattle.sound.specs.Answer.{AnswersOf, AnswersBy}
+use Rattle.sound.specs.Counts.{plainSlot}
+use Rattle.sound.specs.Files.{ChainOf}
+use Rattle.sound.specs.Findings.{TablesDiffer, BadValue, BadSlot, BadChain, InTwoChains, Lost}
+use Rattle.sound.specs.FromFinding.{FromLost, FromTwo, FromChains, FromSlots, FromValues, Counted, NoFinding}
+use Rattle.sound.specs.Judged.{checkOf, checkOfArea}
+use Rattle.sound.specs.Laws.Answer.{check-answers, area-answers}
+use Rattle.sound.specs.Laws.IsSound.{known-says}
+use Rattle.sound.specs.Laws.Sound.{sound-exactly}
+use Rattle.sound.specs.Laws.Total.{total}
+use Rattle.sound.specs.declared.Verdict.{Verdict}
+use Rattle.sound.specs.declared.Verdict.the-variants.{Finding}
+use Rattle.volume.specs.FreeSpace.{freeSpace}
+use Rattle.volume.specs.Laws.FreeSpace.{space-unknown, space-unsound, space-sound}
+use Rattle.scale.specs.Calls.{verdictTold, checkCall, checkSystemCall}
+use Rattle.scale.specs.Fits.{Fits, VerdictFits, SpaceFits}
+use Rattle.scale.specs.Laws.Packing.{upper-half, lower-half}
+
+-- ---- what bounds them
+
+-- no kind has more than two sectors in a copy of the table
+few-sectors : (b : ℕ) → OfKnown (λ (k : Kind). k .fat ≤ 2) (named b)
+unfolding named
+few-sectors b =
+    let P : Kind → Type 0 = λ (k : Kind). k .fat ≤ 2 in
+    of-cond P (eqb b 0xFE) _ _ (λ e. omega arith)
+    (of-cond P (eqb b 0xFF) _ _ (λ e. omega arith)
+    (of-cond P (eqb b 0xFC) _ _ (λ e. omega arith)
+    (of-cond P (eqb b 0xFD) _ _ (λ e. omega arith)
+    tt)))
+
+few : (k : Kind) → named (k .byte) ≡ Known k → k .fat ≤ 2
+few k e = subst (OfKnown (λ (x : Kind). x .fat ≤ 2)) e (few-sectors (k .byte))
+
+-- a tally is at most what it counts over
+bit-low : (b : Bool) → bit b ≤ 1
+bit-low true = omega arith
+bit-low false = omega arith
+
+tally-low : (t : ℕ → Bool) (n c : ℕ) → tally t n c ≤ n
+unfolding tally
+tally-low t zero c = omega arith
+tally-low t (suc n) c = omega (arith, bit-low (t c), tally-low t n (suc c))
+
+-- what is so at each index is so of each member
+each : (P : ℕ → Type 0) (cs : List ℕ) → ((i : ℕ) → i < length cs → P (getD cs i 0)) → (a : ℕ) → a ∈ cs → P a
+each P (x ∷ xs) h a (inl e) = subst P (sym e) (h 0 (omega arith))
+each P (x ∷ xs) h a (inr m) = each P xs (λ i p. h (suc i) (omega arith)) a m
+
+chain-link : (k : Kind) (l : List ℕ) (s c : ℕ) (cs : List ℕ) → ChainOf k l s cs → c ∈ cs → Link (lastCluster k) c
+chain-link k l s c cs (none-of-it z o e) m = absurd (subst (λ (ds : List ℕ). c ∈ ds) e m)
+chain-link k l s c cs (as-many z n q) m = each (Link (lastCluster k)) cs (q .in-range) c m
+
+-- ---- a verdict
+
+module _ (k : Kind) (u : Usable k) (f : k .fat ≤ 2) (l : List ℕ) where
+  after : (B : ℕ → Type 0) (n : ℕ) (Rest : Verdict → Type 0) (v : Verdict) → n < 8 → ((p : ℕ) → B p → Fits p) → (None B → Rest v → VerdictFits v)
+      → OrElse ltb B (Finding n) Rest v → VerdictFits v
+  after B n Rest v h fits rest (inl x) = subst VerdictFits (sym (x .2)) (omega arith, fits (x .0) (x .1 .0))
+  after B n Rest v h fits rest (inr x) = rest (x .0) (x .1)
+
+  counts-fit : (v : Verdict) → NoFinding k l → Counted k l v → VerdictFits v
+  counts-fit v n e =
+      let t = total k u l (sound-exactly k u l .1 n) in
+      let files = tally-low (plainSlot l (rootAt k)) (rootEntries k) 0 in
+      let c = u .below-aside in
+      let r = u .few-slots in
+      subst VerdictFits (sym e) (omega arith, omega arith, omega arith, omega arith)
+
+  answer-fits : (v : Verdict) → AnswersOf k l v → VerdictFits v
+  answer-fits v =
+      after (TablesDiffer k l) 2 (FromValues k l) v (omega arith) (λ p b. let x = b .0 in omega arith) (λ n2.
+      after (BadValue k l) 3 (FromSlots k l) v (omega arith) (λ p b. let x = b .0 .1 in omega (arith, u .below-aside)) (λ n3.
+      after (BadSlot k l) 4 (FromChains k l) v (omega arith) (λ p b. let x = b .0 in omega (arith, u .few-slots)) (λ n4.
+      after (BadChain k l) 5 (FromTwo k l) v (omega arith) (λ p b. let x = b .0 .0 in omega (arith, u .few-slots)) (λ n5.
+      after (InTwoChains k l) 6 (FromLost k l) v (omega arith) (λ p b. let x = chain-link k l (b .0) p (b .3 .1 .0) (b .3 .1 .1) (b .3 .1 .2) .1 in omega (arith, u .below-aside)) (λ n6.
+      after (Lost k l) 7 (Counted k l) v (omega arith) (λ p b. let x = b .0 .1 in omega (arith, u .below-aside)) (λ n7.
+      counts-fit v (record { tables = n2; values = n3; slots = n4; chains = n5; two = n6; lost = n7 })))))))
+
+fits-by : (w : WhichKind) (l : List ℕ) (v : Verdict) → ((k : Kind) → w ≡ Known k → Usable k × (k .fat ≤ 2)) → AnswersBy w l v → VerdictFits v
+fits-by (Known k) l v known a = answer-fits k (known k refl .0) (known k refl .1) l v a
+fits-by Unknown l v known a = subst VerdictFits (sym a) (omega arith, omega arith)
+
+pub check-fits : (img : List ℕ) → VerdictFits (checkOf img)
+check-fits img = fits-by (kindOfImage img) img (checkOf img) (λ k e. (image-usable img k e, few k (image-of-kind img k .0 e .listed))) (check-answers img .is)
+
+pub area-fits : (area : List ℕ) → VerdictFits (checkOfArea area)
+area-fits area = fits-by (kindOfArea area) area (checkOfArea area) (λ k e. (area-usable area k e, few k (area-of-kind area k .0 e .listed))) (area-answers area .is)
+
+-- ---- free space
+
+pub space-fits : (img : List ℕ) → SpaceFits (freeSpace img)
+space-fits img = go (kindOfImage img) refl
+  where
+    go : (w : WhichKind) → kindOfImage img ≡ w → SpaceFits (freeSpace img)
+    go (Known k) e = elim (says-dec (known-says img k e)) [
+      | yes s ↦ let u = image-usable img k e in let t = total k u img s in
+          subst SpaceFits (sym (space-sound img k e s)) (omega arith, omega (arith, u .below-aside), omega (arith, u .below-aside), omega arith, omega (arith, u .per-high))
+      | no n ↦ subst SpaceFits (sym (space-unsound img k e n)) (omega arith, omega arith, omega arith, omega arith, omega arith)
+    ]
+    go Unknown e = subst SpaceFits (sym (space-unknown img e)) (omega arith, omega arith, omega arith, omega arith, omega arith)
+
+-- ---- so a finding and its place can be had back from the answer
+
+told-halves : (v : Verdict) (out : List ℕ) (number place : ℕ) → VerdictFits v → v ≡ Finding number place
+    → (verdictTold v out .answer / 4294967296 ≡ number) × (verdictTold v out .answer % 4294967296 ≡ place)
+unfolding verdictTold
+told-halves v out number place f e = let g = subst VerdictFits e f in rw e (upper-half number place (g .0), lower-half number place (g .1))
+
+pub check-halves : (img out : List ℕ) (number place : ℕ) → checkOf img ≡ Finding number place
+    → (checkCall img out .answer / 4294967296 ≡ number) × (checkCall img out .answer % 4294967296 ≡ place)
+check-halves img out number place e = told-halves (checkOf img) out number place (check-fits img) e
+
+pub area-halves : (area out : List ℕ) (number place : ℕ) → checkOfArea area ≡ Finding number place
+    → (checkSystemCall area out .answer / 4294967296 ≡ number) × (checkSystemCall area out .answer % 4294967296 ≡ place)
+area-halves area out number place e = told-halves (checkOfArea area) out number place (area-fits area) e
