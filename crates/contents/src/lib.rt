@@ -1,7 +1,6 @@
 // The bytes of a file along its chain: put, zeroed, fetched, and where they lie. Each loop goes cluster by cluster.
 use image::copy_in;
 use image::fill;
-use table::entry;
 ghost use mathlib.Core.Path.{_≡_};
 ghost use Prim.Native.Nat.{_+_, _*_, _/_, _%_, _≤_, _<_};
 ghost use lib.ListN.{length};
@@ -11,21 +10,6 @@ ghost use Rattle.chains.specs.Content.{clusterAt};
 ghost use Rattle.table.specs.Entries.{wordAt, tableOf};
 ghost use Rattle.contents.specs.Contents.{chainFrom, Area, placeOf, fetched, bytesPut, zerosPut};
 ghost use Rattle.contents.specs.Loops.{runOf};
-
-// The value of a cluster's entry, 0 where there is no such cluster.
-fn value_of(img: &[u8], last: usize, cluster: usize) -> usize
-    requires { ⌜ last ≤ 4079 ⌝ }
-    requires { ⌜ wordAt 512 last + 2 ≤ length (now img) ⌝ }
-    ensures { λ r. ⌜ r ≡ tableOf last (now (img .entry)) cluster ⌝ }
-{
-    if cluster < 2 {
-        return 0;
-    }
-    if last < cluster {
-        return 0;
-    }
-    entry(img, cluster) as usize
-}
 
 // The cluster that holds byte pos of the chain.
 fn cluster_holding(img: &[u8], cb: usize, last: usize, start: usize, pos: usize) -> usize
@@ -37,7 +21,7 @@ fn cluster_holding(img: &[u8], cb: usize, last: usize, start: usize, pos: usize)
     let mut cluster = start;
     let mut links = pos / cb;
     while 0 < links {
-        cluster = value_of(img, last, cluster);
+        cluster = links::value_of(img, last, cluster);
         links -= 1;
     }
     cluster
@@ -99,7 +83,7 @@ pub fn pour(
     while done < src.len() {
         let run = run_of(cb, pos + done, src.len() - done);
         let at = byte_in(base, cb, cluster, pos + done);
-        cluster = value_of(img, last, cluster);
+        cluster = links::value_of(img, last, cluster);
         copy_part(img, at, src, done, run);
         done += run;
     }
@@ -124,7 +108,7 @@ pub fn pour_zeros(
     while done < n {
         let run = run_of(cb, pos + done, n - done);
         let at = byte_in(base, cb, cluster, pos + done);
-        cluster = value_of(img, last, cluster);
+        cluster = links::value_of(img, last, cluster);
         fill(img, at, run, 0);
         done += run;
     }
@@ -151,7 +135,7 @@ pub fn fetch(
     while done < n {
         let run = run_of(cb, pos + done, n - done);
         let at = byte_in(base, cb, cluster, pos + done);
-        cluster = value_of(img, last, cluster);
+        cluster = links::value_of(img, last, cluster);
         copy_part(out, done, img, at, run);
         done += run;
     }

@@ -2,7 +2,6 @@
 use Prim.Native.Nat.{ℕ, _+_, _-_, _*_, _/_, _%_, _≤_, _<_}
 use native.Mathlib.Omega.{arith}
 use native.Mathlib.Nat.{mod-lt}
-use mathlib.Core.Logic.{inl, inr}
 use mathlib.Core.Path.{_≡_, sym, _∙_}
 use mathlib.Core.List.{List}
 use lib.ListN.{length, getD, take, drop}
@@ -11,23 +10,10 @@ use Rattle.chains.specs.Content.{byteAt, clusterAt}
 use Rattle.chains.specs.Values.{Link}
 use Rattle.chains.specs.Laws.Content.{cluster-high}
 use Rattle.chains.specs.Steps.{followed}
-use Rattle.table.specs.Entries.{entryOf, tableOf}
-use Rattle.table.specs.Laws.View.{table-inside, table-outside}
+use Rattle.table.specs.Entries.{tableOf}
 use Rattle.contents.specs.Contents.{chainFrom, Area, placeOf}
 use Rattle.contents.specs.Loops.{runOf}
 use Rattle.contents.specs.Laws.Chain.{geometry, holder-link, holder-followed}
-
--- ---- the value of an entry
-
-module _ (last : ℕ) (l : List ℕ) (c : ℕ) where
-  pub value-low : c < 2 → 0 ≡ tableOf last l c
-  value-low h = sym (table-outside last l c (inl h))
-
-  pub value-high : last < c → 0 ≡ tableOf last l c
-  value-high h = sym (table-outside last l c (inr h))
-
-  pub value-inside : (e : ℕ) → e ≡ entryOf l c → 2 ≤ c → c ≤ last → e ≡ tableOf last l c
-  value-inside e r h k = r ∙ sym (table-inside last l c h k)
 
 -- ---- runs and places, on numbers alone
 
