@@ -1,4 +1,4 @@
-# make           proves every crate, builds the programs and shows the worked numbers
+# make           proves every crate, builds the programs, shows the worked numbers and lists the sample volume
 # make test      the gate: everything from nothing, with the must-fail edits and all tests
 # make compare   the archive against the independent implementation; N=1000000 volumes, SEED=5 from this seed on
 # make bench     the archive's speed against the independent implementation's
@@ -7,6 +7,7 @@
 all:
 	rt check
 	tests/x86.sh target/bin/worked
+	tests/x86.sh target/bin/listing < crates/listing/stdin
 
 test:
 	.ci/run

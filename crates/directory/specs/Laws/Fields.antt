@@ -4,11 +4,10 @@ use native.Mathlib.Omega.{arith}
 use mathlib.Core.Path.{_≡_, _∙_, sym}
 use mathlib.Core.List.{List, [], _∷_, _++_}
 use lib.ListN.{length-replicate, length, replicate, take, drop, length-append}
-use lib.Seq.{ext-getD}
 use Rattle.image.specs.Bytes.{Bytes}
 use Rattle.image.specs.Store.{stored, part}
 use Rattle.image.specs.Numbers.{digits}
-use Rattle.image.specs.Laws.Store.{length-stored, stored-inside, stored-append, length-part}
+use Rattle.image.specs.Laws.Store.{bytes-one, bytes-append, bytes-zeros, stored-whole, and-then, length-part}
 use Rattle.image.specs.Laws.Numbers.{length-digits, bytes-digits}
 use Rattle.directory.specs.Fields.{nameOf, reservedOf, headBytes, tailBytes, entryBytes}
 
@@ -21,20 +20,6 @@ unfolding entryBytes tailBytes digits
 length-entry name attr time date start size e =
     length-append (headBytes name attr) (tailBytes time date start size) ∙ omega (arith, length-head name attr e)
 
-pub bytes-one : (v : ℕ) → v < 256 → Bytes (v ∷ [])
-bytes-one v h zero = h
-bytes-one v h (suc i) = omega arith
-
-bytes-append : (s t : List ℕ) → Bytes s → Bytes t → Bytes (s ++ t)
-bytes-append [] t b c i = c i
-bytes-append (x ∷ s) t b c zero = b 0
-bytes-append (x ∷ s) t b c (suc i) = bytes-append s t (λ j. b (suc j)) c i
-
-bytes-zeros : (n : ℕ) → Bytes (replicate n 0)
-bytes-zeros zero i = omega arith
-bytes-zeros (suc n) zero = omega arith
-bytes-zeros (suc n) (suc i) = bytes-zeros n i
-
 pub bytes-entry : (name : List ℕ) (attr time date start size : ℕ) → Bytes name → attr < 256 → Bytes (entryBytes name attr time date start size)
 unfolding entryBytes headBytes tailBytes
 bytes-entry name attr time date start size b h =
@@ -42,12 +27,6 @@ bytes-entry name attr time date start size b h =
     (bytes-append (digits time 2) _ (bytes-digits time 2) (bytes-append (digits date 2) _ (bytes-digits date 2) (bytes-append (digits start 2) _ (bytes-digits start 2) (bytes-digits size 4))))
 
 -- ---- the code's needs
-
--- a list of which every byte is stored anew
-stored-whole : (l s : List ℕ) → length l ≡ length s → stored l 0 s ≡ s
-stored-whole l s e =
-    ext-getD 0 (stored l 0 s) s (length-stored l 0 s ∙ e)
-    (λ i k. let z : 0 + i ≡ i = omega arith in rw z at (stored-inside l 0 s i (omega (arith, length-stored l 0 s)) (omega arith)))
 
 -- n bytes copied into an array of n
 copied : (l r : List ℕ) (at n : ℕ) → at + n ≤ length l → r ≡ stored (replicate n 0) 0 (take (at + n - at) (drop at l)) → r ≡ part l at n
@@ -60,10 +39,6 @@ name-copied l r a h p = copied l r a 11 (omega arith) p
 
 pub reserved-copied : (l r : List ℕ) (a : ℕ) → a + 32 ≤ length l → r ≡ stored (replicate 10 0) 0 (take (a + 12 + 10 - (a + 12)) (drop (a + 12) l)) → r ≡ reservedOf l a
 reserved-copied l r a h p = copied l r (a + 12) 10 (omega arith) p
-
--- a store that goes on where another ended
-and-then : (l m k : List ℕ) (a b : ℕ) (s t : List ℕ) → m ≡ stored l a s → k ≡ stored m b t → b ≡ a + length s → k ≡ stored l a (s ++ t)
-and-then l m k a b s t p q e = rw (q, p, e, stored-append l a s t)
 
 pub head-stored : (l l₁ l₂ l₃ : List ℕ) (a : ℕ) (name : List ℕ) (attr : ℕ) → length name ≡ 11
     → l₁ ≡ stored l a name → l₂ ≡ stored l₁ (a + 11) (attr ∷ []) → l₃ ≡ stored l₂ (a + 12) (replicate 10 0)

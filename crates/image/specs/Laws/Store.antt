@@ -22,6 +22,22 @@ bytes-set l i x b h j = elim (ℕ-discrete j i) [
   ]
 ]
 
+-- ---- lists of bytes
+
+pub bytes-one : (v : ℕ) → v < 256 → Bytes (v ∷ [])
+bytes-one v h zero = h
+bytes-one v h (suc i) = omega arith
+
+pub bytes-append : (s t : List ℕ) → Bytes s → Bytes t → Bytes (s ++ t)
+bytes-append [] t b c i = c i
+bytes-append (x ∷ s) t b c zero = b 0
+bytes-append (x ∷ s) t b c (suc i) = bytes-append s t (λ j. b (suc j)) c i
+
+pub bytes-zeros : (n : ℕ) → Bytes (replicate n 0)
+bytes-zeros zero i = omega arith
+bytes-zeros (suc n) zero = omega arith
+bytes-zeros (suc n) (suc i) = bytes-zeros n i
+
 -- ---- a run
 
 pub length-stored : (l : List ℕ) (at : ℕ) (s : List ℕ) → length (stored l at s) ≡ length l
@@ -70,6 +86,16 @@ stored-append l at [] t = let e : at + 0 ≡ at = omega arith in rw e
 stored-append l at (x ∷ xs) t =
     let e : at + suc (length xs) ≡ at + 1 + length xs = omega arith in
     rw e (stored-append (set l at x) (at + 1) xs t)
+
+-- a store that goes on where another ended
+pub and-then : (l m k : List ℕ) (a b : ℕ) (s t : List ℕ) → m ≡ stored l a s → k ≡ stored m b t → b ≡ a + length s → k ≡ stored l a (s ++ t)
+and-then l m k a b s t p q e = rw (q, p, e, stored-append l a s t)
+
+-- a list of which every byte is stored anew
+pub stored-whole : (l s : List ℕ) → length l ≡ length s → stored l 0 s ≡ s
+stored-whole l s e =
+    ext-getD 0 (stored l 0 s) s (length-stored l 0 s ∙ e)
+    (λ i k. let z : 0 + i ≡ i = omega arith in rw z at (stored-inside l 0 s i (omega (arith, length-stored l 0 s)) (omega arith)))
 
 -- two stores that touch no common byte change places
 pub stored-swap : (l : List ℕ) (a : ℕ) (s : List ℕ) (b : ℕ) (t : List ℕ) → a + length s ≤ length l → b + length t ≤ length l

@@ -11,9 +11,8 @@ use lib.ListN.{length, getD, set, replicate}
 use Rattle.image.specs.Bytes.{Bytes}
 use Rattle.image.specs.Store.{stored}
 use Rattle.image.specs.Numbers.{number, digits}
-use Rattle.image.specs.Laws.Store.{bytes-stored, stored-inside, stored-append}
+use Rattle.image.specs.Laws.Store.{bytes-one, bytes-append, and-then, bytes-stored, stored-inside}
 use Rattle.image.specs.Laws.Numbers.{length-digits, bytes-digits, number-same, number-stored}
-use Rattle.directory.specs.Laws.Fields.{bytes-one}
 use Rattle.directory.specs.Laws.Entries.{byte-back}
 use Rattle.opened.specs.Records.{placeCount, placeAt, usedOf, slotOf, accessOf, pointerOf, writtenOf, mark, markBytes, numberBytes, recordBytes, withRecord, withPointer, withWritten, cleared}
 use Rattle.opened.specs.Changes.{Holds, OnlyAt}
@@ -24,11 +23,6 @@ use Rattle.opened.specs.Laws.Records.{untouched, only-place}
 length-record : (access slot pointer : ℕ) (written : Bool) → length (recordBytes access slot pointer written) ≡ 16
 unfolding recordBytes markBytes numberBytes digits
 length-record access slot pointer written = refl
-
-bytes-append : (s t : List ℕ) → Bytes s → Bytes t → Bytes (s ++ t)
-bytes-append [] t b c i = c i
-bytes-append (x ∷ s) t b c zero = b 0
-bytes-append (x ∷ s) t b c (suc i) = bytes-append s t (λ j. b (suc j)) c i
 
 mark-small : (b : Bool) → mark b < 256
 mark-small true = omega arith
@@ -168,10 +162,6 @@ marks-stored t p access =
     let d : 16 * p + 1 + 1 ≡ 16 * p + 2 = omega arith in
     let e : 16 * p + 2 + 1 ≡ 16 * p + 3 = omega arith in
     rw (d, e)
-
--- a store that goes on where another ended
-and-then : (l m k : List ℕ) (a b : ℕ) (s t : List ℕ) → m ≡ stored l a s → k ≡ stored m b t → b ≡ a + length s → k ≡ stored l a (s ++ t)
-and-then l m k a b s t p q e = rw (q, p, e, stored-append l a s t)
 
 zeros : digits 0 4 ≡ replicate 4 0
 unfolding digits

@@ -6,10 +6,9 @@ use mathlib.Core.List.{List, _++_}
 use mathlib.Core.Logic.{_≢_}
 use mathlib.Core.Path.{_≡_, sym, ap, _∙_}
 use lib.ListN.{length, set, replicate, length-append, length-replicate}
-use lib.Seq.{ext-getD}
 use borrow.Author.Tests.{eq-eqb, ne-eqb}
 use Rattle.image.specs.Store.{stored}
-use Rattle.image.specs.Laws.Store.{length-stored, stored-inside, stored-append}
+use Rattle.image.specs.Laws.Store.{stored-append, stored-whole}
 use Rattle.diskette.specs.Kinds.{named, Usable}
 use Rattle.diskette.specs.Places.{firstData, copyTwo}
 use Rattle.diskette.specs.Laws.Kinds.{OfKnown, NamedBy, named-is}
@@ -31,12 +30,6 @@ above-bytes kind h = rw (ne-eqb kind 0xFE (omega arith), ne-eqb kind 0xFF (omega
 pub head-stored : (l : List ℕ) (at byte : ℕ) → set (set (set l at byte) (at + 1) 0xFF) (at + 2) 0xFF ≡ stored l at (tableHead byte)
 unfolding stored
 head-stored l at byte = let e : at + 2 ≡ at + 1 + 1 = omega arith in rw e
-
--- a list of which every byte is stored anew
-stored-whole : (l s : List ℕ) → length l ≡ length s → stored l 0 s ≡ s
-stored-whole l s e =
-    ext-getD 0 (stored l 0 s) s (length-stored l 0 s ∙ e)
-    (λ i k. let z : 0 + i ≡ i = omega arith in rw z at (stored-inside l 0 s i (omega (arith, length-stored l 0 s)) (omega arith)))
 
 -- zeros, and then data
 filled-twice : (l : List ℕ) (a b : ℕ) → length l ≡ a + b → stored (stored l 0 (replicate a 0)) a (replicate b 0xF6) ≡ replicate a 0 ++ replicate b 0xF6

@@ -18,7 +18,8 @@ use compare::{archive, volume};
 /// twenty volumes.
 const LEAST: u64 = 500;
 
-const GUARD: usize = 64;
+/// Odd, so that the bytes begin at an odd address.
+const GUARD: usize = 61;
 const GUARD_BYTE: u8 = 0xA5;
 
 /// Bytes in the middle of a larger buffer, whose ends nobody may alter.
@@ -228,9 +229,11 @@ impl Met {
     }
 
     fn print(&self) {
-        for (kind, times) in KINDS.iter().zip(self.sound) {
-            println!("sound {:02X}: {times}", kind.byte);
-        }
+        let kinds = KINDS.iter().zip(self.sound);
+        let kinds: Vec<String> = kinds
+            .map(|(kind, times)| format!("{:02X}: {times}", kind.byte))
+            .collect();
+        println!("sound: {} ({})", self.findings[0], kinds.join(", "));
         for (finding, times) in self.findings.iter().enumerate().skip(1) {
             println!("finding {finding}: {times}");
         }
