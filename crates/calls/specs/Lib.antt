@@ -1,4 +1,6 @@
--- The calls. Read Outcome and Refusals, then each call's file; the laws are for the proofs.
+-- The calls. Read Outcome and Refusals, then each call's file; Ready is what every call does first. The laws are for the proofs.
 pub mod Outcome
 pub mod Refusals
+pub mod Ready
 pub mod Open
+pub mod Laws
