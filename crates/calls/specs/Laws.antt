@@ -1,3 +1,5 @@
 -- The laws of the definitions beside this folder.
 pub mod Rows
 pub mod Ready
+pub mod Files
+pub mod Open

@@ -1,7 +1,9 @@
 // The calls on a volume and an open table.
+pub mod files;
+pub mod open;
+
 use diskette::Kind;
 use diskette::WhichKind;
-use search::Found;
 use sound::Verdict;
 ghost use mathlib.Core.Path.{_≡_};
 ghost use Rattle.calls.specs.Ready.{readyOf};

@@ -93,8 +93,8 @@ first-by img (Known j) (Finding m p) ew ev n q =
     let e : 41 ≡ n = cc in
     record {
       answer = λ rows effect t b. rw (← e)
-      (row-passed effect img t b (notOfKind img) 40 ((notSound img, 41) ∷ rows) (ap isUnknown ew)
-      ∙ row-holds effect img t b (notSound img) 41 rows (ap not (sound-by img (Finding m p) ev)) (omega arith));
+          (row-passed effect img t b (notOfKind img) 40 ((notSound img, 41) ∷ rows) (ap isUnknown ew)
+          ∙ row-holds effect img t b (notSound img) 41 rows (ap not (sound-by img (Finding m p) ev)) (omega arith));
     }
 first-by img Unknown v ew ev n q =
     let e : 40 ≡ n = cc in
