@@ -3,3 +3,4 @@ pub mod Rows
 pub mod Ready
 pub mod Files
 pub mod Open
+pub mod Seek

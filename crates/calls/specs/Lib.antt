@@ -3,4 +3,5 @@ pub mod Outcome
 pub mod Refusals
 pub mod Ready
 pub mod Open
+pub mod Seek
 pub mod Laws

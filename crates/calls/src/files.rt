@@ -5,6 +5,7 @@ ghost use Prim.Native.Nat.{_<_};
 ghost use mathlib.Core.Path.{_≡_};
 ghost use Rattle.diskette.specs.Places.{rootAt, rootEntries};
 ghost use Rattle.directory.specs.Search.{slotNamed};
+ghost use Rattle.opened.specs.Places.{liveSlot};
 ghost use Rattle.calls.specs.Ready.{OnVolume};
 ghost use Rattle.calls.specs.Refusals.{readOnly};
 
@@ -23,4 +24,12 @@ pub fn is_read_only(img: &[u8], k: Kind, slot: usize) -> bool
     ensures { λ r. ⌜ r ≡ readOnly (now (img .entry)) slot ⌝ }
 {
     directory::has_bit(directory::attr_at(img, k.slot_at(slot)), 0x01)
+}
+
+// The slot of the file that the handle reaches.
+pub fn file_open(img: &[u8], k: Kind, t: &[u8], handle: u32) -> Found
+    requires { ⌜ OnVolume (now img) k ⌝ }
+    ensures { λ r. ⌜ r ≡ liveSlot (now (t .entry)) handle (now (img .entry)) (rootAt k) (rootEntries k) ⌝ }
+{
+    opened::live_slot(t, handle, img, k.root_at(), k.root_entries())
 }

@@ -1,17 +1,33 @@
 // The calls on a volume and an open table.
 pub mod files;
 pub mod open;
+pub mod seek;
 
 use diskette::Kind;
 use diskette::WhichKind;
 use sound::Verdict;
 ghost use mathlib.Core.Path.{_≡_};
+ghost use Rattle.calls.specs.Outcome.{refusedBy, answering};
 ghost use Rattle.calls.specs.Ready.{readyOf};
 
 // What a call answers: a refusal number with value 0, or 0 with the call's value.
 pub struct Answer {
     pub number: u32,
     pub value: u32,
+}
+
+impl Answer {
+    pub fn refused(number: u32) -> Answer
+        ensures { λ r. ⌜ r ≡ refusedBy number ⌝ }
+    {
+        Answer { number, value: 0 }
+    }
+
+    pub fn well(value: u32) -> Answer
+        ensures { λ r. ⌜ r ≡ answering value ⌝ }
+    {
+        Answer { number: 0, value }
+    }
 }
 
 // What every call does first: refused by 40 or 41, else the kind and how many clusters are free.

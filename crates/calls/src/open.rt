@@ -33,42 +33,24 @@ fn open_on(img: &[u8], k: Kind, t: &mut [u8], s: &[u8], access: u32) -> Answer
     ensures { λ r. ⌜ Opens (now (img .entry)) (now (t .entry)) (now (s .entry)) access r (now (t .exit)) ⌝ }
 {
     if 2 < access {
-        return Answer {
-            number: 12,
-            value: 0,
-        };
+        return Answer::refused(12);
     }
     let given = names::name_given(s);
     if !given.fits {
-        return Answer {
-            number: 42,
-            value: 0,
-        };
+        return Answer::refused(42);
     }
     let name = given.name;
     match files::file_named(img, k, name) {
-        Found::Nothing => Answer {
-            number: 2,
-            value: 0,
-        },
+        Found::Nothing => Answer::refused(2),
         Found::At(slot) => {
             if is_barred(img, k, slot, access) {
-                return Answer {
-                    number: 5,
-                    value: 0,
-                };
+                return Answer::refused(5);
             }
             match opened::lowest_unused(t) {
-                Found::Nothing => Answer {
-                    number: 4,
-                    value: 0,
-                },
+                Found::Nothing => Answer::refused(4),
                 Found::At(place) => {
                     opened::put_record(t, place, access as u8, slot as u32, 0);
-                    Answer {
-                        number: 0,
-                        value: place as u32,
-                    }
+                    Answer::well(place as u32)
                 }
             }
         }
@@ -79,7 +61,7 @@ pub fn open(img: &[u8], t: &mut [u8], s: &[u8], access: u32) -> Answer
     ensures { λ r. ⌜ Opens (now (img .entry)) (now (t .entry)) (now (s .entry)) access r (now (t .exit)) ⌝ }
 {
     match make_ready(img) {
-        Ready::Refused(number) => Answer { number, value: 0 },
+        Ready::Refused(number) => Answer::refused(number),
         Ready::Volume(k, _) => open_on(img, k, t, s, access),
     }
 }

@@ -1,7 +1,7 @@
 -- Files, slots and places of a volume that is ready, in the form of the code's needs.
 use Prim.Native.Nat.{ℕ, _+_, _*_, _≤_, _<_}
 use native.Mathlib.Omega.{arith}
-use mathlib.Core.Bool.{Bool, true, false, cond}
+use mathlib.Core.Bool.{Bool, true, false, not}
 use mathlib.Core.List.{List}
 use mathlib.Core.Path.{_≡_, refl, sym, ap, _∙_}
 use lib.ListN.{length}
@@ -17,9 +17,10 @@ use Rattle.directory.specs.Slots.{hasBit}
 use Rattle.directory.specs.Search.{namedSlot, slotNamed}
 use Rattle.names.specs.Reading.{nameOf}
 use Rattle.names.specs.declared.Spelled.{Spelled}
-use Rattle.opened.specs.Records.{placeCount}
-use Rattle.opened.specs.Places.{unusedAt, lowestUnused}
-use Rattle.calls.specs.Refusals.{fileFound, readOnly, theKind}
+use Rattle.opened.specs.Records.{placeCount, slotOf}
+use Rattle.opened.specs.Places.{isLive, liveSlot, unusedAt, lowestUnused}
+use Rattle.opened.specs.Laws.Places.{live-slot-is, live-slot-none, live-is}
+use Rattle.calls.specs.Refusals.{fileFound, readOnly, notLive}
 use Rattle.calls.specs.Ready.{OnVolume}
 use Rattle.calls.specs.Laws.Ready.{on-kind, on-usable, on-area}
 
@@ -66,3 +67,33 @@ module _ (img : List ℕ) (k : Kind) (v : OnVolume img k) where
   pub read-only-is : (slot a attr : ℕ) → a ≡ slotAt k slot → attr ≡ attrOf img a → (b : Bool) → b ≡ hasBit attr 0x01 → b ≡ readOnly img slot
   unfolding readOnly
   read-only-is slot a attr e f b q = rw (on-kind img k v, q, f, e)
+
+-- ---- the slot that a handle reaches
+
+not-live-by : (b : Bool) → (b ≡ true → ⊥) → not b ≡ true
+not-live-by true n = absurd (n refl)
+not-live-by false n = refl
+
+module _ (img : List ℕ) (k : Kind) (t : List ℕ) (h : ℕ) (f : Found) (e : f ≡ liveSlot t h img (rootAt k) (rootEntries k)) where
+  pub not-live : OnVolume img k → f ≡ Nothing → notLive img t h ≡ true
+  unfolding notLive
+  not-live v q = rw (on-kind img k v)
+      (not-live-by (isLive t h img (rootAt k) (rootEntries k))
+      (λ x. live-slot-none t h img (rootAt k) (rootEntries k) .0 (sym e ∙ q) (live-is t h img (rootAt k) (rootEntries k) .0 x)))
+
+  module _ (slot : ℕ) (q : f ≡ At slot) where
+    pub live-passed : OnVolume img k → notLive img t h ≡ false
+    unfolding notLive
+    live-passed v = rw (on-kind img k v, live-is t h img (rootAt k) (rootEntries k) .1 (live-slot-is t h img (rootAt k) (rootEntries k) slot (sym e ∙ q) .0))
+
+    pub live-slot : slot ≡ slotOf t h
+    live-slot = sym (live-slot-is t h img (rootAt k) (rootEntries k) slot (sym e ∙ q) .1)
+
+    pub live-below : slot < rootEntries k
+    live-below =
+        let x : slotOf t h < rootEntries k = live-slot-is t h img (rootAt k) (rootEntries k) slot (sym e ∙ q) .0 .slot in
+        let y : slot ≡ slotOf t h = live-slot in
+        omega arith
+
+    pub live-counted : h < placeCount t
+    live-counted = live-slot-is t h img (rootAt k) (rootEntries k) slot (sym e ∙ q) .0 .counted

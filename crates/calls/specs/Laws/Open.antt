@@ -14,7 +14,7 @@ use Rattle.names.specs.Reading.{nameOf}
 use Rattle.names.specs.declared.Spelled.{Spelled}
 use Rattle.opened.specs.Records.{withRecord}
 use Rattle.opened.specs.Places.{lowestUnused}
-use Rattle.calls.specs.Outcome.{Outcome, outcome, refusal, decided}
+use Rattle.calls.specs.Outcome.{Outcome, outcome, refusal, decided, refusedBy, answering}
 use Rattle.calls.specs.Refusals.{readOnly, badName}
 use Rattle.calls.specs.Ready.{readyOf, OnVolume}
 use Rattle.calls.specs.Open.{openOutcome, Opens}
@@ -32,41 +32,41 @@ opens-only x y =
 
 module _ (img t s : List ℕ) (access : ℕ) where
   abbrev Refuses : ℕ → Type 0
-  Refuses n = Opens img t s access (record { number = n; value = 0 }) t
+  Refuses n = (a : Answer) → a ≡ refusedBy n → Opens img t s access a t
 
   pub open-not-ready : (r : Ready) → r ≡ readyOf img → (n : ℕ) → r ≡ Refused n → Refuses n
   unfolding openOutcome
-  open-not-ready r e n q = record { is = sym (ready-refused img r e n q .answer _ _ t []) }
+  open-not-ready r e n q a x = record { is = rw x (sym (ready-refused img r e n q .answer _ _ t [])) }
 
   module _ (k : Kind) (v : OnVolume img k) where
     pub open-12 : 2 < access → Refuses 12
     unfolding openOutcome decided refusal
-    open-12 h = record { is = rw (known-passed img k v, sound-passed img k v, lt-ltb 2 access h) }
+    open-12 h a x = record { is = rw (x, known-passed img k v, sound-passed img k v, lt-ltb 2 access h) }
 
     module _ (small : access ≤ 2) (g : Spelled) (given : g ≡ nameOf s) where
       pub open-42 : not (g .fits) ≡ true → Refuses 42
       unfolding openOutcome decided refusal
-      open-42 h = record { is = rw (known-passed img k v, sound-passed img k v, le-ltb 2 access small, ← given, h) }
+      open-42 h a x = record { is = rw (x, known-passed img k v, sound-passed img k v, le-ltb 2 access small, ← given, h) }
 
       module _ (fits : not (g .fits) ≡ false) (f : Found) (found : f ≡ slotNamed img (rootAt k) (rootEntries k) (g .name)) where
         pub open-2 : f ≡ Nothing → Refuses 2
         unfolding openOutcome decided refusal
-        open-2 h = record { is = rw (known-passed img k v, sound-passed img k v, le-ltb 2 access small, found-is img k v s g given f found, ← given, fits, h) }
+        open-2 h a x = record { is = rw (x, known-passed img k v, sound-passed img k v, le-ltb 2 access small, found-is img k v s g given f found, ← given, fits, h) }
 
         module _ (slot : ℕ) (at : f ≡ At slot) (b : Bool) (barred : b ≡ (ltb 0 access && readOnly img slot)) where
           pub open-5 : b ≡ true → Refuses 5
           unfolding openOutcome decided refusal
-          open-5 h = record { is = rw (known-passed img k v, sound-passed img k v, le-ltb 2 access small, found-is img k v s g given f found, ← given, fits, at, ← barred, h) }
+          open-5 h a x = record { is = rw (x, known-passed img k v, sound-passed img k v, le-ltb 2 access small, found-is img k v s g given f found, ← given, fits, at, ← barred, h) }
 
           module _ (free : b ≡ false) (p : Found) (lowest : p ≡ lowestUnused t) where
             pub open-4 : p ≡ Nothing → Refuses 4
             unfolding openOutcome decided refusal
-            open-4 h = record { is = rw (known-passed img k v, sound-passed img k v, le-ltb 2 access small, found-is img k v s g given f found, ← given, fits, at, ← barred, free, ← lowest, h) }
+            open-4 h a x = record { is = rw (x, known-passed img k v, sound-passed img k v, le-ltb 2 access small, found-is img k v s g given f found, ← given, fits, at, ← barred, free, ← lowest, h) }
 
             pub open-well : (place : ℕ) → p ≡ At place → (m : List ℕ) → m ≡ withRecord t place access slot 0 false
-                → Opens img t s access (record { number = 0; value = place }) m
+                → (a : Answer) → a ≡ answering place → Opens img t s access a m
             unfolding openOutcome decided refusal
-            open-well place h m e = record { is = rw (known-passed img k v, sound-passed img k v, le-ltb 2 access small, found-is img k v s g given f found, ← given, fits, at, ← barred, free, ← lowest, h, e) }
+            open-well place h m e a x = record { is = rw (x, known-passed img k v, sound-passed img k v, le-ltb 2 access small, found-is img k v s g given f found, ← given, fits, at, ← barred, free, ← lowest, h, e) }
 
 -- ---- a read-only file opens with access 0 alone
 

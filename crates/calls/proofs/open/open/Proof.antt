@@ -11,6 +11,9 @@ make-ready-requires c κs = search needs
 enum-known-number : tie.Need-enum-known-number
 enum-known-number c = search needs
 
+refused-requires : tie.Need-refused-requires
+refused-requires c κs = search needs
+
 enum-known-k : tie.Need-enum-known-k
 enum-known-k c = search needs
 
@@ -32,6 +35,7 @@ open-spec =
     (tie.spec
     make-ready-requires
     enum-known-number
+    refused-requires
     enum-known-k
     open-on-requires
     returns
