@@ -4,3 +4,4 @@ pub mod Ready
 pub mod Files
 pub mod Open
 pub mod Seek
+pub mod Close

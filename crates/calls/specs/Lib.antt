@@ -4,4 +4,5 @@ pub mod Refusals
 pub mod Ready
 pub mod Open
 pub mod Seek
+pub mod Close
 pub mod Laws

@@ -1,4 +1,5 @@
 // The calls on a volume and an open table.
+pub mod close;
 pub mod files;
 pub mod open;
 pub mod seek;

@@ -35,6 +35,9 @@ module _ (img : List ℕ) (k : Kind) (name : List ℕ) (f : Found) (e : f ≡ sl
   unfolding slotNamed
   named-below slot q = below-by (namedSlot img (rootAt k) name) (rootEntries k) slot f (rw e (lowest-is (namedSlot img (rootAt k) name) 0 (rootEntries k))) q
 
+  pub named-at-most : (slot : ℕ) → f ≡ At slot → slot ≤ rootEntries k
+  named-at-most slot q = let x : slot < rootEntries k = named-below slot q in omega arith
+
   -- so it fits 32 bits
   pub named-fits : OnVolume img k → (slot : ℕ) → f ≡ At slot → slot < 4294967296
   named-fits v slot q =
@@ -94,6 +97,13 @@ module _ (img : List ℕ) (k : Kind) (t : List ℕ) (h : ℕ) (f : Found) (e : f
         let x : slotOf t h < rootEntries k = live-slot-is t h img (rootAt k) (rootEntries k) slot (sym e ∙ q) .0 .slot in
         let y : slot ≡ slotOf t h = live-slot in
         omega arith
+
+    pub live-at-most : slot ≤ rootEntries k
+    live-at-most = let x : slot < rootEntries k = live-below in omega arith
+
+    -- its entry stands within the image
+    pub live-within : OnVolume img k → (a : ℕ) → a ≡ slotAt k slot → a + 32 ≤ length img
+    live-within v a i = slot-within img k v slot a live-below i
 
     pub live-counted : h < placeCount t
     live-counted = live-slot-is t h img (rootAt k) (rootEntries k) slot (sym e ∙ q) .0 .counted
