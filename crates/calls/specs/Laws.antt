@@ -5,3 +5,4 @@ pub mod Files
 pub mod Open
 pub mod Seek
 pub mod Close
+pub mod Mode

@@ -5,4 +5,5 @@ pub mod Ready
 pub mod Open
 pub mod Seek
 pub mod Close
+pub mod Mode
 pub mod Laws

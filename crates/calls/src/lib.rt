@@ -1,6 +1,7 @@
 // The calls on a volume and an open table.
 pub mod close;
 pub mod files;
+pub mod mode;
 pub mod open;
 pub mod seek;
 

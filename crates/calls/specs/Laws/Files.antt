@@ -71,6 +71,10 @@ module _ (img : List ℕ) (k : Kind) (v : OnVolume img k) where
   unfolding readOnly
   read-only-is slot a attr e f b q = rw (on-kind img k v, q, f, e)
 
+  -- the entry of a file that was found stands within the image
+  pub named-within : (name : List ℕ) (f : Found) → f ≡ slotNamed img (rootAt k) (rootEntries k) name → (slot : ℕ) → f ≡ At slot → (a : ℕ) → a ≡ slotAt k slot → a + 32 ≤ length img
+  named-within name f e slot q a i = slot-within slot a (named-below img k name f e slot q) i
+
 -- ---- the slot that a handle reaches
 
 not-live-by : (b : Bool) → (b ≡ true → ⊥) → not b ≡ true
