@@ -6,3 +6,4 @@ pub mod Open
 pub mod Seek
 pub mod Close
 pub mod Mode
+pub mod Rename

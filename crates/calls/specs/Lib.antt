@@ -6,4 +6,5 @@ pub mod Open
 pub mod Seek
 pub mod Close
 pub mod Mode
+pub mod Rename
 pub mod Laws

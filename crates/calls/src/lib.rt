@@ -3,6 +3,7 @@ pub mod close;
 pub mod files;
 pub mod mode;
 pub mod open;
+pub mod rename;
 pub mod seek;
 
 use diskette::Kind;
