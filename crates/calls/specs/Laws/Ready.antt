@@ -3,7 +3,7 @@ use Prim.Native.Nat.{ℕ, _+_, _*_, _≤_}
 use native.Mathlib.Omega.{arith}
 use mathlib.Core.Bool.{Bool, true, false, not}
 use mathlib.Core.List.{List, _∷_}
-use mathlib.Core.Path.{_≡_, refl, sym, ap, _∙_}
+use mathlib.Core.Path.{_≡_, refl, sym, ap, _∙_, subst}
 use lib.ListN.{length}
 use Rattle.diskette.specs.Images.{kindOfImage, OfKind}
 use Rattle.diskette.specs.Kinds.{Usable}
@@ -12,7 +12,13 @@ use Rattle.diskette.specs.Laws.Images.{image-of-kind, image-usable, image-has-a
 use Rattle.diskette.specs.declared.Kind.{Kind}
 use Rattle.diskette.specs.declared.WhichKind.{WhichKind}
 use Rattle.diskette.specs.declared.WhichKind.the-variants.{Known, Unknown}
-use Rattle.sound.specs.Answer.{Checked}
+use Rattle.sound.specs.Answer.{AnswersBy, Checked}
+use Rattle.sound.specs.Findings.{TablesDiffer, BadValue, BadSlot, BadChain, InTwoChains, Lost}
+use Rattle.sound.specs.FromFinding.{Counted, FromLost, FromTwo, FromChains, FromSlots, FromValues}
+use Rattle.sound.specs.Laws.Answer.{check-answers}
+use Rattle.chains.specs.Verdict.{OrElse}
+use lib.Dec.{ltb}
+use mathlib.Core.Logic.{inl, inr}
 use Rattle.sound.specs.Counts.{freeOf}
 use Rattle.sound.specs.Judged.{checkOf, isSound, isSoundVerdict}
 use Rattle.sound.specs.Laws.OneAnswer.{checked-is}
@@ -83,6 +89,34 @@ on-by img (Known j) (Sound files x held aside) ew ev k free q =
 on-by img (Known j) (Finding n p) ew ev k free q = refused-not (OnVolume img k) 41 k free q
 on-by img Unknown v ew ev k free q = refused-not (OnVolume img k) 40 k free q
 
+-- a finding is no count: what is left after it holds
+counted : (B : ℕ → Type 0) (n : ℕ) (Rest : Verdict → Type 0) (files free held aside : ℕ) → OrElse ltb B (Finding n) Rest (Sound files free held aside)
+    → Rest (Sound files free held aside)
+counted B n Rest files free held aside (inl x) = absurd (let z : _≡_ {A = ℕ} 0 1 = cc (x .2) in omega arith)
+counted B n Rest files free held aside (inr x) = x .1
+
+free-by : (k : Kind) (l : List ℕ) (w : WhichKind) (files free held aside : ℕ) → w ≡ Known k → AnswersBy w l (Sound files free held aside) → free ≡ freeOf k l
+free-by k l (Known j) files free held aside q x =
+    let e : j ≡ k = cc (q) in
+    let c =
+    counted (Lost j l) 7 (Counted j l) files free held aside
+    (counted (InTwoChains j l) 6 (FromLost j l) files free held aside
+    (counted (BadChain j l) 5 (FromTwo j l) files free held aside
+    (counted (BadSlot j l) 4 (FromChains j l) files free held aside
+    (counted (BadValue j l) 3 (FromSlots j l) files free held aside
+    (counted (TablesDiffer j l) 2 (FromValues j l) files free held aside x))))) in
+    let f : free ≡ freeOf j l = cc (c) in
+    rw e at f
+free-by k l Unknown files free held aside q x = absurd (let z : _≡_ {A = ℕ} 0 1 = cc (q) in omega arith)
+
+count-by : (img : List ℕ) (w : WhichKind) (v : Verdict) → kindOfImage img ≡ w → checkOf img ≡ v → (k : Kind) (free : ℕ) → readyBy w v ≡ Volume k free → free ≡ freeOf k img
+count-by img (Known j) (Sound files x held aside) ew ev k free q =
+    let o = one-ready j k x free q in
+    let c : AnswersBy (kindOfImage img) img (Sound files x held aside) = subst (AnswersBy (kindOfImage img) img) ev (check-answers img .is) in
+    sym (o .1) ∙ free-by k img (kindOfImage img) files x held aside (ew ∙ ap Known (o .0)) c
+count-by img (Known j) (Finding n p) ew ev k free q = refused-not (free ≡ freeOf k img) 41 k free q
+count-by img Unknown v ew ev k free q = refused-not (free ≡ freeOf k img) 40 k free q
+
 -- the number and the first two rows
 pub record FirstRows (img : List ℕ) (n : ℕ) : Type 0 where
   pub answer : (rows : List Row) (effect : Outcome) (t b : List ℕ) → decided ((notOfKind img, 40) ∷ (notSound img, 41) ∷ rows) effect img t b ≡ outcome n 0 img t b
@@ -106,6 +140,10 @@ module _ (img : List ℕ) (r : Ready) (e : r ≡ readyOf img) where
   pub ready-on : (k : Kind) (free : ℕ) → r ≡ Volume k free → OnVolume img k
   unfolding readyOf
   ready-on k free q = on-by img (kindOfImage img) (checkOf img) refl refl k free (sym e ∙ q)
+
+  pub ready-free : (k : Kind) (free : ℕ) → r ≡ Volume k free → free ≡ freeOf k img
+  unfolding readyOf
+  ready-free k free q = count-by img (kindOfImage img) (checkOf img) refl refl k free (sym e ∙ q)
 
   pub ready-refused : (n : ℕ) → r ≡ Refused n → FirstRows img n
   unfolding readyOf
