@@ -1,8 +1,8 @@
 -- Document 01, "Refusal numbers, in order of test": each row's "when" as a test of what came in.
 use Prim.Native.Nat.{ℕ, _+_, _*_, _/_, _%_}
-use mathlib.Core.Bool.{Bool, true, false, _&&_, _||_, not}
+use mathlib.Core.Bool.{Bool, true, false, not}
 use mathlib.Core.List.{List}
-use lib.Dec.{eqb, ltb}
+use lib.Dec.{eqb}
 use Rattle.diskette.specs.Images.{kindOfImage}
 use Rattle.diskette.specs.Kinds.{kindFE}
 use Rattle.diskette.specs.Places.{rootAt, rootEntries, slotAt}
@@ -19,8 +19,7 @@ use Rattle.stamps.specs.Stamps.{packed}
 use Rattle.stamps.specs.declared.Stamp.{Stamp}
 use Rattle.stamps.specs.declared.Packed.{Packed}
 use Rattle.stamps.specs.declared.Packed.the-variants.{Words, OutOfRange}
-use Rattle.opened.specs.Records.{accessOf, slotOf}
-use Rattle.opened.specs.Places.{isOpen, isLive, lowestUnused}
+use Rattle.opened.specs.Places.{isLive, lowestUnused}
 use Rattle.sound.specs.Judged.{isSound}
 
 -- ---- what a search found, as a test and as a number (0 where there is nothing; no rule rests on it then)

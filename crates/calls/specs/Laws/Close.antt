@@ -15,16 +15,16 @@ use Rattle.stamps.specs.Stamps.{packed}
 use Rattle.stamps.specs.declared.Stamp.{Stamp}
 use Rattle.stamps.specs.declared.Packed.{Packed}
 use Rattle.stamps.specs.declared.Packed.the-variants.{Words, OutOfRange}
-use Rattle.opened.specs.Records.{slotOf, writtenOf, cleared}
+use Rattle.opened.specs.Records.{writtenOf, cleared}
 use Rattle.opened.specs.Places.{liveSlot}
-use Rattle.calls.specs.Outcome.{Outcome, outcome, refusal, decided, refusedBy, answering}
+use Rattle.calls.specs.Outcome.{Outcome, refusal, decided, refusedBy, answering}
 use Rattle.calls.specs.Ready.{readyOf, OnVolume}
 use Rattle.calls.specs.Close.{archived, stamped, closeOutcome, Closes}
 use Rattle.calls.specs.Laws.Ready.{on-kind, known-passed, sound-passed, ready-refused}
 use Rattle.calls.specs.Laws.Files.{not-live, live-passed, live-slot}
 use Rattle.calls.specs.declared.Answer.{Answer}
 use Rattle.calls.specs.declared.Ready.{Ready}
-use Rattle.calls.specs.declared.Ready.the-variants.{Refused, Volume}
+use Rattle.calls.specs.declared.Ready.the-variants.{Refused}
 
 pub closes-only : {img t : List ℕ} {h : ℕ} {s : Stamp} {r r′ : Answer} {l l′ m m′ : List ℕ} → Closes img t h s r l m → Closes img t h s r′ l′ m′
     → (r .number ≡ r′ .number) × (r .value ≡ r′ .value) × (l ≡ l′) × (m ≡ m′)

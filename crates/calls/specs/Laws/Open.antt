@@ -14,15 +14,15 @@ use Rattle.names.specs.Reading.{nameOf}
 use Rattle.names.specs.declared.Spelled.{Spelled}
 use Rattle.opened.specs.Records.{withRecord}
 use Rattle.opened.specs.Places.{lowestUnused}
-use Rattle.calls.specs.Outcome.{Outcome, outcome, refusal, decided, refusedBy, answering}
-use Rattle.calls.specs.Refusals.{readOnly, badName}
+use Rattle.calls.specs.Outcome.{Outcome, refusal, decided, refusedBy, answering}
+use Rattle.calls.specs.Refusals.{readOnly}
 use Rattle.calls.specs.Ready.{readyOf, OnVolume}
 use Rattle.calls.specs.Open.{openOutcome, Opens}
 use Rattle.calls.specs.Laws.Ready.{known-passed, sound-passed, ready-refused}
 use Rattle.calls.specs.Laws.Files.{found-is}
 use Rattle.calls.specs.declared.Answer.{Answer}
 use Rattle.calls.specs.declared.Ready.{Ready}
-use Rattle.calls.specs.declared.Ready.the-variants.{Refused, Volume}
+use Rattle.calls.specs.declared.Ready.the-variants.{Refused}
 
 pub opens-only : {img t s : List ℕ} {access : ℕ} {r r′ : Answer} {m m′ : List ℕ} → Opens img t s access r m → Opens img t s access r′ m′
     → (r .number ≡ r′ .number) × (r .value ≡ r′ .value) × (m ≡ m′)

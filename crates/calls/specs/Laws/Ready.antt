@@ -1,7 +1,7 @@
 -- What the first two rows settle, in the form of the calls' needs: r is what ready answered.
-use Prim.Native.Nat.{ℕ, _+_, _*_, _≤_}
+use Prim.Native.Nat.{ℕ, _*_, _≤_}
 use native.Mathlib.Omega.{arith}
-use mathlib.Core.Bool.{Bool, true, false, not}
+use mathlib.Core.Bool.{false, not}
 use mathlib.Core.List.{List, _∷_}
 use mathlib.Core.Path.{_≡_, refl, sym, ap, _∙_, subst}
 use lib.ListN.{length}
@@ -26,7 +26,7 @@ use Rattle.sound.specs.declared.Verdict.{Verdict}
 use Rattle.sound.specs.declared.Verdict.the-variants.{Sound, Finding}
 use Rattle.calls.specs.Outcome.{Row, Outcome, outcome, decided}
 use Rattle.calls.specs.Refusals.{notOfKind, notSound, isUnknown, kindFound, theKind}
-use Rattle.calls.specs.Ready.{readyWith, readyBy, readyOf, OnVolume}
+use Rattle.calls.specs.Ready.{readyBy, readyOf, OnVolume}
 use Rattle.calls.specs.Laws.Rows.{row-holds, row-passed}
 use Rattle.calls.specs.declared.Ready.{Ready}
 use Rattle.calls.specs.declared.Ready.the-variants.{Refused, Volume}

@@ -12,7 +12,7 @@ use Rattle.directory.specs.Search.{slotNamed}
 use Rattle.names.specs.Reading.{nameOf}
 use Rattle.names.specs.declared.Spelled.{Spelled}
 use Rattle.opened.specs.Places.{isOpen}
-use Rattle.calls.specs.Outcome.{Outcome, outcome, refusal, decided, refusedBy, answering}
+use Rattle.calls.specs.Outcome.{Outcome, refusal, decided, refusedBy, answering}
 use Rattle.calls.specs.Refusals.{isNothing, readOnly}
 use Rattle.calls.specs.Ready.{readyOf, OnVolume}
 use Rattle.calls.specs.Rename.{renameOutcome, Renames, RenamesSlot}
@@ -20,7 +20,7 @@ use Rattle.calls.specs.Laws.Ready.{on-kind, known-passed, sound-passed, 
 use Rattle.calls.specs.Laws.Files.{found-is}
 use Rattle.calls.specs.declared.Answer.{Answer}
 use Rattle.calls.specs.declared.Ready.{Ready}
-use Rattle.calls.specs.declared.Ready.the-variants.{Refused, Volume}
+use Rattle.calls.specs.declared.Ready.the-variants.{Refused}
 
 pub renames-only : {img t s n : List ℕ} {r r′ : Answer} {m m′ : List ℕ} → Renames img t s n r m → Renames img t s n r′ m′
     → (r .number ≡ r′ .number) × (r .value ≡ r′ .value) × (m ≡ m′)

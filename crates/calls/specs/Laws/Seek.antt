@@ -1,6 +1,5 @@
 -- Seek: each way out, by the rows passed before it. Only one outcome fits.
 use Prim.Native.Nat.{ℕ, _≤_, _<_}
-use mathlib.Core.Bool.{Bool, true, false, not}
 use mathlib.Core.List.{List, []}
 use mathlib.Core.Logic.{_≢_}
 use mathlib.Core.Path.{_≡_, sym, ap, _∙_, subst}
@@ -19,14 +18,14 @@ use Rattle.offset.specs.declared.Moved.{Moved}
 use Rattle.offset.specs.declared.Moved.the-variants.{To, Beyond}
 use Rattle.opened.specs.Records.{slotOf, pointerOf, withPointer}
 use Rattle.opened.specs.Places.{liveSlot}
-use Rattle.calls.specs.Outcome.{Outcome, outcome, refusal, decided, refusedBy, answering}
+use Rattle.calls.specs.Outcome.{Outcome, refusal, decided, refusedBy, answering}
 use Rattle.calls.specs.Ready.{readyOf, OnVolume}
 use Rattle.calls.specs.Seek.{seekBase, seekOutcome, Seeks}
 use Rattle.calls.specs.Laws.Ready.{on-kind, known-passed, sound-passed, ready-refused}
 use Rattle.calls.specs.Laws.Files.{not-live, live-passed}
 use Rattle.calls.specs.declared.Answer.{Answer}
 use Rattle.calls.specs.declared.Ready.{Ready}
-use Rattle.calls.specs.declared.Ready.the-variants.{Refused, Volume}
+use Rattle.calls.specs.declared.Ready.the-variants.{Refused}
 
 pub seeks-only : {img t : List ℕ} {h method : ℕ} {offset : ℤ} {r r′ : Answer} {m m′ : List ℕ} → Seeks img t h method offset r m → Seeks img t h method offset r′ m′
     → (r .number ≡ r′ .number) × (r .value ≡ r′ .value) × (m ≡ m′)
