@@ -1,3 +1,4 @@
+-- Three fields are stored one after the other.
 use Rattle.calls.specs.Laws.Close.{stamped-is}
 use borrow.Author.Needs.{needs}
 use Rattle.calls.proofs.close.stamp_entry.Statement.{statement}

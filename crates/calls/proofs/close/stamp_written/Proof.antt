@@ -1,3 +1,4 @@
+-- The entry is stamped where the place says written, else left.
 use Rattle.calls.specs.Laws.Close.{not-written, was-written}
 use borrow.Author.Needs.{needs}
 use Rattle.calls.proofs.close.stamp_written.Statement.{statement}

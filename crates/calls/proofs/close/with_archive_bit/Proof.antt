@@ -1,3 +1,4 @@
+-- An attribute without bit 20 has room for it.
 use Rattle.calls.specs.Laws.Close.{archived-before, archived-now, archived-fits}
 use borrow.Author.Needs.{needs}
 use Rattle.calls.proofs.close.with_archive_bit.Statement.{statement}

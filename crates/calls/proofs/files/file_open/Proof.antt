@@ -1,3 +1,4 @@
+-- The root of a ready volume stands within its image.
 use Rattle.calls.specs.Laws.Ready.{on-usable}
 use Rattle.calls.specs.Laws.Files.{root-within}
 use Rattle.calls.proofs.files.file_open.Statement.{statement}

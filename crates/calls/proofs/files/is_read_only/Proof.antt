@@ -1,3 +1,4 @@
+-- A slot of a ready volume stands within its image.
 use native.Mathlib.Omega.{arith}
 use Rattle.calls.specs.Laws.Ready.{on-usable}
 use Rattle.calls.specs.Laws.Files.{slot-within, read-only-is}

@@ -1,3 +1,4 @@
+-- The allowed bits are all that a good number has.
 use Rattle.calls.specs.Laws.Mode.{attr-good, attr-bad}
 use borrow.Author.Needs.{needs}
 use Rattle.calls.proofs.mode.is_bad_attr.Statement.{statement}

@@ -1,3 +1,4 @@
+-- Access 0 is never barred, another by the read-only bit.
 use Rattle.calls.specs.Laws.Open.{barred-by, not-barred}
 use borrow.Author.Needs.{needs}
 use Rattle.calls.proofs.open.is_barred.Statement.{statement}

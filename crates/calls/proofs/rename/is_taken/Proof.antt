@@ -1,3 +1,4 @@
+-- The search says whether there is such a file.
 use Rattle.calls.specs.Laws.Rename.{is-taken, not-taken}
 use borrow.Author.Needs.{needs}
 use Rattle.calls.proofs.rename.is_taken.Statement.{statement}
