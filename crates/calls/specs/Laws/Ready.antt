@@ -1,0 +1,150 @@
+-- What the first two rows settle, in the form of the calls' needs: r is what ready answered.
+use Prim.Native.Nat.{ℕ, _*_, _≤_}
+use native.Mathlib.Omega.{arith}
+use mathlib.Core.Bool.{false, not}
+use mathlib.Core.List.{List, _∷_}
+use mathlib.Core.Path.{_≡_, refl, sym, ap, _∙_, subst}
+use lib.ListN.{length}
+use Rattle.diskette.specs.Images.{kindOfImage, OfKind}
+use Rattle.diskette.specs.Kinds.{Usable}
+use Rattle.diskette.specs.Places.{firstData}
+use Rattle.diskette.specs.Laws.Images.{image-of-kind, image-usable, image-has-area}
+use Rattle.diskette.specs.declared.Kind.{Kind}
+use Rattle.diskette.specs.declared.WhichKind.{WhichKind}
+use Rattle.diskette.specs.declared.WhichKind.the-variants.{Known, Unknown}
+use Rattle.sound.specs.Answer.{AnswersBy, Checked}
+use Rattle.sound.specs.Findings.{TablesDiffer, BadValue, BadSlot, BadChain, InTwoChains, Lost}
+use Rattle.sound.specs.FromFinding.{Counted, FromLost, FromTwo, FromChains, FromSlots, FromValues}
+use Rattle.sound.specs.Laws.Answer.{check-answers}
+use Rattle.chains.specs.Verdict.{OrElse}
+use lib.Dec.{ltb}
+use mathlib.Core.Logic.{inl, inr}
+use Rattle.sound.specs.Counts.{freeOf}
+use Rattle.sound.specs.Judged.{checkOf, isSound, isSoundVerdict}
+use Rattle.sound.specs.Laws.OneAnswer.{checked-is}
+use Rattle.sound.specs.declared.Verdict.{Verdict}
+use Rattle.sound.specs.declared.Verdict.the-variants.{Sound, Finding}
+use Rattle.calls.specs.Outcome.{Row, Outcome, outcome, decided}
+use Rattle.calls.specs.Refusals.{notOfKind, notSound, isUnknown, kindFound, theKind}
+use Rattle.calls.specs.Ready.{readyBy, readyOf, OnVolume}
+use Rattle.calls.specs.Laws.Rows.{row-holds, row-passed}
+use Rattle.calls.specs.declared.Ready.{Ready}
+use Rattle.calls.specs.declared.Ready.the-variants.{Refused, Volume}
+
+-- ---- the code: w is the kind that was found, v what check answered
+
+module _ (img : List ℕ) (w : WhichKind) (e : w ≡ kindOfImage img) where
+  pub ready-no-kind : w ≡ Unknown → Refused 40 ≡ readyOf img
+  unfolding readyOf
+  ready-no-kind q = rw (sym e ∙ q)
+
+  module _ (k : Kind) (q : w ≡ Known k) (v : Verdict) (c : Checked img v) where
+    pub ready-unsound : (n p : ℕ) → v ≡ Finding n p → Refused 41 ≡ readyOf img
+    unfolding readyOf
+    ready-unsound n p f = rw (sym e ∙ q, sym (checked-is c) ∙ f)
+
+    pub ready-volume : (files free held aside : ℕ) → v ≡ Sound files free held aside → Volume k free ≡ readyOf img
+    unfolding readyOf
+    ready-volume files free held aside f = rw (sym e ∙ q, sym (checked-is c) ∙ f)
+
+-- ---- a volume that is ready
+
+module _ (img : List ℕ) (k : Kind) (v : OnVolume img k) where
+  pub on-kind : theKind img ≡ k
+  on-kind = ap kindFound (v .known)
+
+  pub on-usable : Usable k
+  on-usable = image-usable img k (v .known)
+
+  pub on-of-kind : OfKind img k
+  on-of-kind = image-of-kind img k .0 (v .known)
+
+  pub on-area : 512 * firstData k ≤ length img
+  on-area = image-has-area img k on-of-kind on-usable
+
+  pub known-passed : notOfKind img ≡ false
+  known-passed = ap isUnknown (v .known)
+
+  pub sound-passed : notSound img ≡ false
+  sound-passed = ap not (v .sound)
+
+-- ---- from what ready answered
+
+one-ready : (k j : Kind) (x y : ℕ) → Volume k x ≡ Volume j y → (k ≡ j) × (x ≡ y)
+one-ready k j x y e = (cc, cc)
+
+refused-not : (A : Type 0) (n : ℕ) (k : Kind) (x : ℕ) → Refused n ≡ Volume k x → A
+refused-not A n k x e = absurd (let z : _≡_ {A = ℕ} 0 1 = cc in omega arith)
+
+volume-not : (A : Type 0) (n : ℕ) (k : Kind) (x : ℕ) → Volume k x ≡ Refused n → A
+volume-not A n k x e = absurd (let z : _≡_ {A = ℕ} 0 1 = cc in omega arith)
+
+sound-by : (img : List ℕ) (v : Verdict) → checkOf img ≡ v → isSound img ≡ isSoundVerdict v
+unfolding isSound
+sound-by img v e = ap isSoundVerdict e
+
+on-by : (img : List ℕ) (w : WhichKind) (v : Verdict) → kindOfImage img ≡ w → checkOf img ≡ v → (k : Kind) (free : ℕ) → readyBy w v ≡ Volume k free → OnVolume img k
+on-by img (Known j) (Sound files x held aside) ew ev k free q =
+    record { known = ew ∙ ap Known (one-ready j k x free q .0); sound = sound-by img (Sound files x held aside) ev }
+on-by img (Known j) (Finding n p) ew ev k free q = refused-not (OnVolume img k) 41 k free q
+on-by img Unknown v ew ev k free q = refused-not (OnVolume img k) 40 k free q
+
+-- a finding is no count: what is left after it holds
+counted : (B : ℕ → Type 0) (n : ℕ) (Rest : Verdict → Type 0) (files free held aside : ℕ) → OrElse ltb B (Finding n) Rest (Sound files free held aside)
+    → Rest (Sound files free held aside)
+counted B n Rest files free held aside (inl x) = absurd (let z : _≡_ {A = ℕ} 0 1 = cc (x .2) in omega arith)
+counted B n Rest files free held aside (inr x) = x .1
+
+free-by : (k : Kind) (l : List ℕ) (w : WhichKind) (files free held aside : ℕ) → w ≡ Known k → AnswersBy w l (Sound files free held aside) → free ≡ freeOf k l
+free-by k l (Known j) files free held aside q x =
+    let e : j ≡ k = cc (q) in
+    let c =
+    counted (Lost j l) 7 (Counted j l) files free held aside
+    (counted (InTwoChains j l) 6 (FromLost j l) files free held aside
+    (counted (BadChain j l) 5 (FromTwo j l) files free held aside
+    (counted (BadSlot j l) 4 (FromChains j l) files free held aside
+    (counted (BadValue j l) 3 (FromSlots j l) files free held aside
+    (counted (TablesDiffer j l) 2 (FromValues j l) files free held aside x))))) in
+    let f : free ≡ freeOf j l = cc (c) in
+    rw e at f
+free-by k l Unknown files free held aside q x = absurd (let z : _≡_ {A = ℕ} 0 1 = cc (q) in omega arith)
+
+count-by : (img : List ℕ) (w : WhichKind) (v : Verdict) → kindOfImage img ≡ w → checkOf img ≡ v → (k : Kind) (free : ℕ) → readyBy w v ≡ Volume k free → free ≡ freeOf k img
+count-by img (Known j) (Sound files x held aside) ew ev k free q =
+    let o = one-ready j k x free q in
+    let c : AnswersBy (kindOfImage img) img (Sound files x held aside) = subst (AnswersBy (kindOfImage img) img) ev (check-answers img .is) in
+    sym (o .1) ∙ free-by k img (kindOfImage img) files x held aside (ew ∙ ap Known (o .0)) c
+count-by img (Known j) (Finding n p) ew ev k free q = refused-not (free ≡ freeOf k img) 41 k free q
+count-by img Unknown v ew ev k free q = refused-not (free ≡ freeOf k img) 40 k free q
+
+-- the number and the first two rows
+pub record FirstRows (img : List ℕ) (n : ℕ) : Type 0 where
+  pub answer : (rows : List Row) (effect : Outcome) (t b : List ℕ) → decided ((notOfKind img, 40) ∷ (notSound img, 41) ∷ rows) effect img t b ≡ outcome n 0 img t b
+
+first-by : (img : List ℕ) (w : WhichKind) (v : Verdict) → kindOfImage img ≡ w → checkOf img ≡ v → (n : ℕ) → readyBy w v ≡ Refused n → FirstRows img n
+first-by img (Known j) (Sound files x held aside) ew ev n q = volume-not (FirstRows img n) n j x q
+first-by img (Known j) (Finding m p) ew ev n q =
+    let e : 41 ≡ n = cc in
+    record {
+      answer = λ rows effect t b. rw (← e)
+          (row-passed effect img t b (notOfKind img) 40 ((notSound img, 41) ∷ rows) (ap isUnknown ew)
+          ∙ row-holds effect img t b (notSound img) 41 rows (ap not (sound-by img (Finding m p) ev)) (omega arith));
+    }
+first-by img Unknown v ew ev n q =
+    let e : 40 ≡ n = cc in
+    record {
+      answer = λ rows effect t b. rw (← e) (row-holds effect img t b (notOfKind img) 40 ((notSound img, 41) ∷ rows) (ap isUnknown ew) (omega arith));
+    }
+
+module _ (img : List ℕ) (r : Ready) (e : r ≡ readyOf img) where
+  pub ready-on : (k : Kind) (free : ℕ) → r ≡ Volume k free → OnVolume img k
+  unfolding readyOf
+  ready-on k free q = on-by img (kindOfImage img) (checkOf img) refl refl k free (sym e ∙ q)
+
+  pub ready-free : (k : Kind) (free : ℕ) → r ≡ Volume k free → free ≡ freeOf k img
+  unfolding readyOf
+  ready-free k free q = count-by img (kindOfImage img) (checkOf img) refl refl k free (sym e ∙ q)
+
+  pub ready-refused : (n : ℕ) → r ≡ Refused n → FirstRows img n
+  unfolding readyOf
+  ready-refused n q = first-by img (kindOfImage img) (checkOf img) refl refl n (sym e ∙ q)

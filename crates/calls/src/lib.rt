@@ -1,0 +1,52 @@
+// The calls on a volume and an open table.
+pub mod close;
+pub mod files;
+pub mod mode;
+pub mod open;
+pub mod rename;
+pub mod seek;
+
+use diskette::Kind;
+use diskette::WhichKind;
+use sound::Verdict;
+ghost use mathlib.Core.Path.{_≡_};
+ghost use Rattle.calls.specs.Outcome.{refusedBy, answering};
+ghost use Rattle.calls.specs.Ready.{readyOf};
+
+// What a call answers: a refusal number with value 0, or 0 with the call's value.
+pub struct Answer {
+    pub number: u32,
+    pub value: u32,
+}
+
+impl Answer {
+    pub fn refused(number: u32) -> Answer
+        ensures { λ r. ⌜ r ≡ refusedBy number ⌝ }
+    {
+        Answer { number, value: 0 }
+    }
+
+    pub fn well(value: u32) -> Answer
+        ensures { λ r. ⌜ r ≡ answering value ⌝ }
+    {
+        Answer { number: 0, value }
+    }
+}
+
+// What every call does first: refused by 40 or 41, else the kind and how many clusters are free.
+pub enum Ready {
+    Refused(u32),
+    Volume(Kind, usize),
+}
+
+pub fn make_ready(img: &[u8]) -> Ready
+    ensures { λ r. ⌜ r ≡ readyOf (now (img .entry)) ⌝ }
+{
+    match diskette::kind_of_image(img) {
+        WhichKind::Known(k) => match sound::check(img) {
+            Verdict::Sound(_, free, _, _) => Ready::Volume(k, free),
+            Verdict::Finding(_, _) => Ready::Refused(41),
+        },
+        WhichKind::Unknown => Ready::Refused(40),
+    }
+}

@@ -1,0 +1,63 @@
+// File mode.
+use crate::Answer;
+use crate::Ready;
+use crate::files;
+use crate::make_ready;
+use diskette::Kind;
+use search::Found;
+ghost use mathlib.Core.Path.{_≡_};
+ghost use Rattle.calls.specs.Mode.{Modes};
+ghost use Rattle.calls.specs.Ready.{OnVolume};
+ghost use Rattle.calls.specs.Refusals.{badAttr};
+
+// Whether the number has another bit than 01, 02, 04 and 20.
+pub fn is_bad_attr(attr: u32) -> bool
+    ensures { λ r. ⌜ r ≡ badAttr attr ⌝ }
+{
+    if attr == attr % 8 + attr / 32 % 2 * 32 {
+        false
+    } else {
+        true
+    }
+}
+
+// File mode on a volume that is ready.
+fn mode_on(img: &mut [u8], k: Kind, t: &[u8], s: &[u8], function: u32, attr: u32) -> Answer
+    requires { ⌜ OnVolume (now img) k ⌝ }
+    ensures { λ r. ⌜ Modes (now (img .entry)) (now (t .entry)) (now (s .entry)) function attr r (now (img .exit)) ⌝ }
+{
+    if 1 < function {
+        return Answer::refused(1);
+    }
+    let given = names::name_given(s);
+    if !given.fits {
+        return Answer::refused(42);
+    }
+    let name = given.name;
+    match files::file_named(img, k, name) {
+        Found::Nothing => Answer::refused(2),
+        Found::At(slot) => {
+            let a = k.slot_at(slot);
+            if function == 0 {
+                return Answer::well(directory::attr_at(img, a) as u32);
+            }
+            if is_bad_attr(attr) {
+                return Answer::refused(5);
+            }
+            if opened::is_open(t, slot) {
+                return Answer::refused(5);
+            }
+            directory::put_attr(img, a, attr as u8);
+            Answer::well(0)
+        }
+    }
+}
+
+pub fn mode(img: &mut [u8], t: &[u8], s: &[u8], function: u32, attr: u32) -> Answer
+    ensures { λ r. ⌜ Modes (now (img .entry)) (now (t .entry)) (now (s .entry)) function attr r (now (img .exit)) ⌝ }
+{
+    match make_ready(img) {
+        Ready::Refused(number) => Answer::refused(number),
+        Ready::Volume(k, _) => mode_on(img, k, t, s, function, attr),
+    }
+}
