@@ -24,7 +24,7 @@ use Rattle.calls.specs.Laws.Ready.{on-kind, on-usable, on-area}
 
 -- ---- what a search finds is one of those searched
 
-below-by : (p : ℕ → Bool) (n s : ℕ) (f : Found) → LowestIs p 0 n f → f ≡ At s → s < n
+pub below-by : (p : ℕ → Bool) (n s : ℕ) (f : Found) → LowestIs p 0 n f → f ≡ At s → s < n
 below-by p n s (At i) x e = let z : i ≡ s = cc in let y : i < 0 + n = x .1 in omega arith
 below-by p n s Nothing x e = absurd (let z : _≡_ {A = ℕ} 0 1 = cc in omega arith)
 

@@ -1,0 +1,58 @@
+-- "View takes a name and an offset and gives back the part of the image from that byte to the end of its cluster or file,
+-- whichever is first; an empty part at or past the end or on any refusal. A second call on the same inputs answers its
+-- refusal number, or 0."
+use Prim.Native.Nat.{ℕ, _+_, _-_, _*_, _%_, _≤_, min}
+use mathlib.Core.List.{List, [], _∷_}
+use mathlib.Core.Path.{_≡_}
+use lib.ListN.{length}
+use Rattle.image.specs.Store.{part}
+use Rattle.contents.specs.Contents.{placeOf}
+use Rattle.diskette.specs.Places.{firstData, clusterBytes, lastCluster, slotAt}
+use Rattle.diskette.specs.declared.Kind.{Kind}
+use Rattle.directory.specs.Fields.{startOf, sizeOf}
+use Rattle.calls.specs.Outcome.{Row, Outcome, outcome, decided}
+use Rattle.calls.specs.Refusals.{theKind, notOfKind, notSound, badName, noFile, fileSlot}
+
+-- where byte offset of the file in a slot lies in the image
+abbrev pub viewAt : Kind → List ℕ → ℕ → ℕ → ℕ
+viewAt k img slot offset = placeOf (512 * firstData k) (clusterBytes k) (lastCluster k) img (startOf img (slotAt k slot)) offset
+
+-- how many bytes there are from it on to the end of its cluster of cb bytes or of its file, whichever is first; none at or past the end
+abbrev pub viewCount : ℕ → ℕ → ℕ → ℕ
+viewCount cb size offset = min (cb - offset % cb) (size - offset)
+
+-- the part of the image
+unfoldable pub viewPart : Kind → List ℕ → ℕ → ℕ → List ℕ
+viewPart k img slot offset = part img (viewAt k img slot offset) (viewCount (clusterBytes k) (sizeOf img (slotAt k slot)) offset)
+
+abbrev pub viewRows : List ℕ → List ℕ → List Row
+viewRows img s =
+    (notOfKind img, 40)
+    ∷ (notSound img, 41)
+    ∷ (badName s, 42)
+    ∷ (noFile img s, 2)
+    ∷ []
+
+-- the part stands for the buffer; no table comes in
+unfoldable pub viewOutcome : List ℕ → List ℕ → ℕ → Outcome
+viewOutcome img s offset = decided (viewRows img s) (outcome 0 0 img [] (viewPart (theKind img) img (fileSlot img s) offset)) img [] []
+
+-- what the call promises: the part it gives back
+pub record Views (img s : List ℕ) (offset : ℕ) (seen : List ℕ) : Type 0 where
+  pub is : seen ≡ viewOutcome img s offset .buffer
+
+-- what the second call promises: the number it answers
+pub record ViewNumbers (img s : List ℕ) (offset number : ℕ) : Type 0 where
+  pub is : number ≡ viewOutcome img s offset .number
+
+-- ---- an aid to the proofs: the number, and bytes of the image from at on
+
+pub record Sees (img s : List ℕ) (offset number at bytes : ℕ) : Type 0 where
+  pub is : outcome number 0 img [] (part img at bytes) ≡ viewOutcome img s offset
+  pub within : at + bytes ≤ length img
+
+-- the same of the file in a slot
+pub record SeesFile (img : List ℕ) (k : Kind) (slot offset number at bytes : ℕ) : Type 0 where
+  pub number-is : number ≡ 0
+  pub part-is : part img at bytes ≡ viewPart k img slot offset
+  pub inside : at + bytes ≤ length img
