@@ -8,20 +8,16 @@ use common::model::Model;
 use compare::volume::answer::{packed, value};
 use compare::volume::{check, view, view_number};
 use compare::volumes::broken::{break_kind, break_plan};
-use compare::volumes::calls::{perform, random_call, Call, Scene};
+use compare::volumes::calls::{perform, Call, Scene};
 use compare::volumes::open_tables::open_table;
 use compare::volumes::plan::Plan;
 use compare::volumes::random::Random;
+use compare::volumes::random_calls::{buffer_for, random_call};
 use compare::volumes::sound::sound_plan;
 use compare::volumes::texts::callers_form;
 
 const HISTORIES: u64 = 150;
 const CALLS: usize = 120;
-
-fn buffer(random: &mut Random) -> Vec<u8> {
-    let length = *random.pick(&[0, 1, 15, 16, 21, 22, 100, 600, 2000, 400_000]);
-    vec![random.byte(); length]
-}
 
 /// Makes one call on both, and compares all that it can have touched.
 fn step(call: &Call, model: &mut Model, scene: &mut Scene, note: &str) -> u64 {
@@ -46,15 +42,13 @@ fn step(call: &Call, model: &mut Model, scene: &mut Scene, note: &str) -> u64 {
 #[derive(Debug, Default)]
 struct Tally {
     numbers: BTreeMap<u64, u64>,
-    ended_well: BTreeMap<String, u64>,
+    ended_well: BTreeMap<&'static str, u64>,
 }
 
 impl Tally {
     fn note(&mut self, call: &Call, answer: u64) {
         *self.numbers.entry(answer >> 32).or_default() += 1;
-        let text = format!("{call:?}");
-        let name = text.split(' ').next().unwrap_or_default();
-        *self.ended_well.entry(name.to_string()).or_default() += u64::from(answer >> 32 == 0);
+        *self.ended_well.entry(call.name()).or_default() += u64::from(answer >> 32 == 0);
     }
 }
 
@@ -70,8 +64,8 @@ fn run_history(seed: u64, tally: &mut Tally) {
     };
     let mut model = Model::new(plan, table);
     for number in 0..CALLS {
-        scene.buffer = buffer(&mut random);
         let call = random_call(kind, &scene, &mut random);
+        scene.buffer = buffer_for(&call, &mut random);
         let note = format!("seed {seed}, call {number}:");
         let answer = step(&call, &mut model, &mut scene, &note);
         tally.note(&call, answer);

@@ -56,22 +56,13 @@ fn p3_p4_p5_cluster_sectors() {
     assert_eq!(kind(0xFE).cluster_sector(314), 319);
 }
 
-fn stamp(numbers: [u32; 6]) -> Stamp {
-    let [hour, minute, step, year, month, day] = numbers;
-    Stamp {
-        hour,
-        minute,
-        step,
-        year,
-        month,
-        day,
-    }
-}
-
 #[test]
 fn p6_p7_p8_stamps() {
-    assert_eq!(stamp(EVENING).words(), Ok((0x90BD, 0x0721)));
-    assert_eq!(stamp([18, 5, 30, 3, 9, 1]).words(), Err(Refusal::BadStamp));
+    assert_eq!(Stamp::from(EVENING).words(), Ok((0x90BD, 0x0721)));
+    assert_eq!(
+        Stamp::from([18, 5, 30, 3, 9, 1]).words(),
+        Err(Refusal::BadStamp)
+    );
     assert_eq!(time_parts(0x90BD), Some((18, 5, 29)));
     assert_eq!(date_parts(0x0721), Some((3, 9, 1)));
 }

@@ -1,21 +1,49 @@
 //! Answers: the refusal number above, the value below.
 
-/// The reasons to refuse, by their numbers.
-#[derive(Clone, Copy, Debug, PartialEq, Eq)]
-#[repr(u32)]
+/// The reasons to refuse: the lines of the specification's table, in its order.
+#[derive(Clone, Copy, Debug, PartialEq, Eq, PartialOrd, Ord)]
 pub enum Refusal {
-    /// Seek method above 2, file mode function above 1, or a seek's result
-    /// outside 32 bits.
-    BadFunction = 1,
-    NoSuchFile = 2,
-    NoPlace = 4,
-    Denied = 5,
-    NotLive = 6,
-    BadAccess = 12,
-    NotOfAKind = 40,
-    NotSound = 41,
-    BadName = 42,
-    BadStamp = 43,
+    NotOfAKind,
+    NotSound,
+    /// Seek method above 2, file mode function above 1.
+    BadFunction,
+    BadAccess,
+    BadName,
+    BadStamp,
+    NotLive,
+    /// A seek's result outside 32 bits.
+    OutOfRange,
+    NoSuchFile,
+    BadAttribute,
+    FileOpen,
+    ReadOnly,
+    NameTaken,
+    NoSlot,
+    /// Read on access 1, write on access 0.
+    WrongAccess,
+    NoPlace,
+}
+
+impl Refusal {
+    pub const fn number(self) -> u32 {
+        match self {
+            Refusal::NotOfAKind => 40,
+            Refusal::NotSound => 41,
+            Refusal::BadFunction | Refusal::OutOfRange => 1,
+            Refusal::BadAccess => 12,
+            Refusal::BadName => 42,
+            Refusal::BadStamp => 43,
+            Refusal::NotLive => 6,
+            Refusal::NoSuchFile => 2,
+            Refusal::BadAttribute
+            | Refusal::FileOpen
+            | Refusal::ReadOnly
+            | Refusal::NameTaken
+            | Refusal::NoSlot
+            | Refusal::WrongAccess => 5,
+            Refusal::NoPlace => 4,
+        }
+    }
 }
 
 /// Packs a number and a value.
@@ -37,7 +65,7 @@ pub const fn value(answer: u64) -> u32 {
 pub fn answer(outcome: Result<u32, Refusal>) -> u64 {
     match outcome {
         Ok(value) => packed(0, value),
-        Err(refusal) => packed(refusal as u32, 0),
+        Err(refusal) => packed(refusal.number(), 0),
     }
 }
 

@@ -18,18 +18,16 @@ pub fn close(
     month: u32,
     day: u32,
 ) -> u64 {
-    let stamp = Stamp {
-        hour,
-        minute,
-        step,
-        year,
-        month,
-        day,
-    };
+    let stamp = Stamp::from([hour, minute, step, year, month, day]);
     answer(closed(image, table, handle, stamp))
 }
 
-fn closed(image: &mut [u8], table: &mut [u8], handle: u32, stamp: Stamp) -> Result<u32, Refusal> {
+pub fn closed(
+    image: &mut [u8],
+    table: &mut [u8],
+    handle: u32,
+    stamp: Stamp,
+) -> Result<u32, Refusal> {
     let volume = sound_volume(image)?;
     let (time, date) = stamp.words()?;
     let open = live(entries(volume.kind, image), table, handle)?;

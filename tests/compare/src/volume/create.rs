@@ -4,8 +4,8 @@ use super::answer::{answer, unless, Refusal};
 use super::chain::free;
 use super::check::{sound_volume, Sound};
 use super::directory::{
-    allowed, attribute, entries, entry_mut, find, is_plain_file, lowest_vacant, set_stamp, start,
-    Entry, ENTRY, READ_ONLY,
+    allowed, entries, entry_mut, find, is_plain_file, is_read_only, lowest_vacant, set_stamp,
+    start, Entry, ENTRY,
 };
 use super::names::stored;
 use super::open_table::{is_open, lowest_unused, store_open, BOTH};
@@ -24,18 +24,11 @@ pub fn create(
     month: u32,
     day: u32,
 ) -> u64 {
-    let stamp = Stamp {
-        hour,
-        minute,
-        step,
-        year,
-        month,
-        day,
-    };
+    let stamp = Stamp::from([hour, minute, step, year, month, day]);
     answer(created(image, table, name, attribute, stamp))
 }
 
-fn created(
+pub fn created(
     image: &mut [u8],
     table: &mut [u8],
     name: &[u8],
@@ -45,7 +38,7 @@ fn created(
     let volume = sound_volume(image)?;
     let name = stored(name)?;
     let (time, date) = stamp.words()?;
-    unless(allowed(attribute), Refusal::Denied)?;
+    unless(allowed(attribute), Refusal::BadAttribute)?;
     let slot = slot_for(entries(volume.kind, image), table, &name)?;
     let place = lowest_unused(table)?;
 
@@ -63,11 +56,11 @@ fn created(
 fn slot_for(entries: &[Entry], table: &[u8], name: &[u8; 11]) -> Result<usize, Refusal> {
     match find(entries, name) {
         Some(slot) => {
-            let read_only = attribute(&entries[slot]) & READ_ONLY != 0;
-            unless(!read_only && !is_open(table, slot), Refusal::Denied)?;
+            unless(!is_open(table, slot), Refusal::FileOpen)?;
+            unless(!is_read_only(&entries[slot]), Refusal::ReadOnly)?;
             Ok(slot)
         }
-        None => lowest_vacant(entries).ok_or(Refusal::Denied),
+        None => lowest_vacant(entries).ok_or(Refusal::NoSlot),
     }
 }
 

@@ -3,7 +3,7 @@
 use super::answer::{answer, unless, Refusal};
 use super::chain::free;
 use super::check::sound_volume;
-use super::directory::{attribute, entries, entry_mut, find, start, ERASED, READ_ONLY};
+use super::directory::{entries, entry_mut, find, is_read_only, start, ERASED};
 use super::names::stored;
 use super::open_table::is_open;
 
@@ -11,14 +11,14 @@ pub fn delete(image: &mut [u8], table: &[u8], name: &[u8]) -> u64 {
     answer(deleted(image, table, name))
 }
 
-fn deleted(image: &mut [u8], table: &[u8], name: &[u8]) -> Result<u32, Refusal> {
+pub fn deleted(image: &mut [u8], table: &[u8], name: &[u8]) -> Result<u32, Refusal> {
     let volume = sound_volume(image)?;
     let name = stored(name)?;
     let entries = entries(volume.kind, image);
     let slot = find(entries, &name).ok_or(Refusal::NoSuchFile)?;
     let entry = &entries[slot];
-    let read_only = attribute(entry) & READ_ONLY != 0;
-    unless(!read_only && !is_open(table, slot), Refusal::Denied)?;
+    unless(!is_open(table, slot), Refusal::FileOpen)?;
+    unless(!is_read_only(entry), Refusal::ReadOnly)?;
 
     let start = start(entry);
     free(volume.kind, &volume.values, image, start);

@@ -38,6 +38,10 @@ pub fn is_plain_file(entry: &Entry) -> bool {
     is_live(entry) && attribute(entry) & LABEL == 0
 }
 
+pub fn is_read_only(entry: &Entry) -> bool {
+    attribute(entry) & READ_ONLY != 0
+}
+
 /// The 11 name bytes.
 pub fn name(entry: &Entry) -> &[u8] {
     &entry[..11]

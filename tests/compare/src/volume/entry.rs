@@ -8,7 +8,7 @@ pub fn entry(image: &[u8], slot: u32, out: &mut [u8]) -> u64 {
     answer(stored_entry(image, slot, out))
 }
 
-fn stored_entry(image: &[u8], slot: u32, out: &mut [u8]) -> Result<u32, Refusal> {
+pub fn stored_entry(image: &[u8], slot: u32, out: &mut [u8]) -> Result<u32, Refusal> {
     let kind = Kind::of_image(image).ok_or(Refusal::NotOfAKind)?;
     match entries(kind, image).get(slot as usize) {
         Some(entry) if is_live(entry) => {

@@ -7,7 +7,7 @@ pub fn format(image: &mut [u8], kind: u32) -> u64 {
     answer(formatted(image, kind))
 }
 
-fn formatted(image: &mut [u8], number: u32) -> Result<u32, Refusal> {
+pub fn formatted(image: &mut [u8], number: u32) -> Result<u32, Refusal> {
     let fits = |kind: &&Kind| image.len() == kind.image_bytes();
     let kind = Kind::of_number(number)
         .filter(fits)

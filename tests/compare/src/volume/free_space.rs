@@ -8,7 +8,7 @@ pub fn free_space(image: &[u8], out: &mut [u8]) -> u64 {
     answer(counted(image, out))
 }
 
-fn counted(image: &[u8], out: &mut [u8]) -> Result<u32, Refusal> {
+pub fn counted(image: &[u8], out: &mut [u8]) -> Result<u32, Refusal> {
     let volume = sound_volume(image)?;
     let free = volume.counts.free;
     let clusters = volume.kind.clusters() as u32;

@@ -40,3 +40,20 @@ pub use rename::rename;
 pub use seek::seek;
 pub use view::{view, view_number};
 pub use write::write;
+
+/// The calls that can refuse once more, each with the line that it refuses by.
+pub mod outcomes {
+    pub use super::close::closed as close;
+    pub use super::create::created as create;
+    pub use super::delete::deleted as delete;
+    pub use super::entry::stored_entry as entry;
+    pub use super::format::formatted as format;
+    pub use super::free_space::counted as free_space;
+    pub use super::mode::answered_or_set as mode;
+    pub use super::open::opened as open;
+    pub use super::read::moved as read;
+    pub use super::rename::renamed as rename;
+    pub use super::seek::sought as seek;
+    pub use super::view::viewed as view;
+    pub use super::write::stored as write;
+}

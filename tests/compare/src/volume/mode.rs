@@ -10,7 +10,7 @@ pub fn mode(image: &mut [u8], table: &[u8], name: &[u8], function: u32, attribut
     answer(answered_or_set(image, table, name, function, attribute))
 }
 
-fn answered_or_set(
+pub fn answered_or_set(
     image: &mut [u8],
     table: &[u8],
     name: &[u8],
@@ -25,7 +25,8 @@ fn answered_or_set(
     if function == 0 {
         return Ok(u32::from(directory::attribute(&entries[slot])));
     }
-    unless(allowed(attribute) && !is_open(table, slot), Refusal::Denied)?;
+    unless(allowed(attribute), Refusal::BadAttribute)?;
+    unless(!is_open(table, slot), Refusal::FileOpen)?;
     entry_mut(volume.kind, image, slot)[11] = attribute as u8;
     Ok(0)
 }

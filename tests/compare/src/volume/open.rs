@@ -2,7 +2,7 @@
 
 use super::answer::{answer, unless, Refusal};
 use super::check::sound_volume;
-use super::directory::{attribute, entries, find, READ_ONLY};
+use super::directory::{entries, find, is_read_only};
 use super::names::stored;
 use super::open_table::{lowest_unused, store_open, BOTH, READ};
 
@@ -10,15 +10,15 @@ pub fn open(image: &[u8], table: &mut [u8], name: &[u8], access: u32) -> u64 {
     answer(opened(image, table, name, access))
 }
 
-fn opened(image: &[u8], table: &mut [u8], name: &[u8], access: u32) -> Result<u32, Refusal> {
+pub fn opened(image: &[u8], table: &mut [u8], name: &[u8], access: u32) -> Result<u32, Refusal> {
     let volume = sound_volume(image)?;
     unless(access <= u32::from(BOTH), Refusal::BadAccess)?;
     let access = access as u8;
     let name = stored(name)?;
     let entries = entries(volume.kind, image);
     let slot = find(entries, &name).ok_or(Refusal::NoSuchFile)?;
-    let read_only = attribute(&entries[slot]) & READ_ONLY != 0;
-    unless(access == READ || !read_only, Refusal::Denied)?;
+    let writable = !is_read_only(&entries[slot]);
+    unless(access == READ || writable, Refusal::ReadOnly)?;
     let place = lowest_unused(table)?;
     store_open(table, place, slot, access);
     Ok(place as u32)

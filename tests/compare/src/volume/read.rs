@@ -10,11 +10,16 @@ pub fn read(image: &[u8], table: &mut [u8], handle: u32, buffer: &mut [u8]) -> u
     answer(moved(image, table, handle, buffer))
 }
 
-fn moved(image: &[u8], table: &mut [u8], handle: u32, buffer: &mut [u8]) -> Result<u32, Refusal> {
+pub fn moved(
+    image: &[u8],
+    table: &mut [u8],
+    handle: u32,
+    buffer: &mut [u8],
+) -> Result<u32, Refusal> {
     let volume = sound_volume(image)?;
     let entries = entries(volume.kind, image);
     let open = live(entries, table, handle)?;
-    unless(open.access != WRITE, Refusal::Denied)?;
+    unless(open.access != WRITE, Refusal::WrongAccess)?;
 
     let entry = &entries[open.slot];
     let from = open.pointer as usize;

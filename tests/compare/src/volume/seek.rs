@@ -9,7 +9,7 @@ pub fn seek(image: &[u8], table: &mut [u8], handle: u32, method: u32, offset: i3
     answer(sought(image, table, handle, method, offset))
 }
 
-fn sought(
+pub fn sought(
     image: &[u8],
     table: &mut [u8],
     handle: u32,
@@ -32,5 +32,5 @@ fn sought(
 
 /// A signed offset from an unsigned base, or 1 where 32 bits don't hold it.
 pub fn target(base: u32, offset: i32) -> Result<u32, Refusal> {
-    base.checked_add_signed(offset).ok_or(Refusal::BadFunction)
+    base.checked_add_signed(offset).ok_or(Refusal::OutOfRange)
 }

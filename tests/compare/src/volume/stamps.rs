@@ -13,6 +13,19 @@ pub struct Stamp {
     pub day: u32,
 }
 
+impl From<[u32; 6]> for Stamp {
+    fn from([hour, minute, step, year, month, day]: [u32; 6]) -> Stamp {
+        Stamp {
+            hour,
+            minute,
+            step,
+            year,
+            month,
+            day,
+        }
+    }
+}
+
 const fn time_in_range(hour: u32, minute: u32, step: u32) -> bool {
     hour <= 23 && minute <= 59 && step <= 29
 }

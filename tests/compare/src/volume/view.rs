@@ -19,7 +19,7 @@ pub fn view_number(image: &[u8], name: &[u8], offset: u32) -> u64 {
     answer(viewed(image, name, offset).map(|_| 0))
 }
 
-fn viewed(image: &[u8], name: &[u8], offset: u32) -> Result<Range<usize>, Refusal> {
+pub fn viewed(image: &[u8], name: &[u8], offset: u32) -> Result<Range<usize>, Refusal> {
     let volume = sound_volume(image)?;
     let name = stored(name)?;
     let entries = entries(volume.kind, image);

@@ -11,11 +11,16 @@ pub fn write(image: &mut [u8], table: &mut [u8], handle: u32, data: &[u8]) -> u6
     answer(stored(image, table, handle, data))
 }
 
-fn stored(image: &mut [u8], table: &mut [u8], handle: u32, data: &[u8]) -> Result<u32, Refusal> {
+pub fn stored(
+    image: &mut [u8],
+    table: &mut [u8],
+    handle: u32,
+    data: &[u8],
+) -> Result<u32, Refusal> {
     let mut volume = sound_volume(image)?;
     let entries = entries(volume.kind, image);
     let open = live(entries, table, handle)?;
-    unless(open.access != READ, Refusal::Denied)?;
+    unless(open.access != READ, Refusal::WrongAccess)?;
 
     let (old_start, old_size) = (start(&entries[open.slot]), size(&entries[open.slot]));
     let own = volume.kind.clusters_for(old_size);

@@ -10,5 +10,6 @@ pub mod mixed;
 pub mod open_tables;
 pub mod plan;
 pub mod random;
+pub mod random_calls;
 pub mod sound;
 pub mod texts;

@@ -90,6 +90,16 @@ pub fn varied(random: &mut Random, name: &[u8]) -> Vec<u8> {
     name
 }
 
+/// Bytes that were never meant as a name, of any length up to 300.
+pub fn noise_name(random: &mut Random) -> Vec<u8> {
+    let length = *random.pick(&[0, 1, 8, 9, 11, 12, 13, 40, 300]);
+    let mut name = vec![*random.pick(&[b'A', b'.', b' ', 0x00, 0xE5]); length];
+    if random.one_in(2) {
+        random.fill(&mut name);
+    }
+    name
+}
+
 /// The six numbers of a stamp; one in eight has a number out of its range.
 pub fn stamp(random: &mut Random) -> [u32; 6] {
     let most = [23, 59, 29, 119, 12, 31];

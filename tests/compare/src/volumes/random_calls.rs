@@ -1,0 +1,263 @@
+//! Random calls on a scene: such as may well end well, and odd ones.
+
+use super::calls::{Call, Scene};
+use super::random::Random;
+use super::texts::{callers_form, good_name, noise_name, stamp, varied};
+use crate::volume::kind::{Kind, KINDS};
+use crate::volume::names::is_name_byte;
+
+/// A call that has a fair chance to end well on a scene of this kind.
+pub fn random_call(kind: &Kind, scene: &Scene, random: &mut Random) -> Call {
+    Caller {
+        kind,
+        scene,
+        odds: 16,
+        random,
+    }
+    .likely_call()
+}
+
+/// Any call, with several odd arguments at once.
+pub fn odd_call(kind: &Kind, scene: &Scene, random: &mut Random) -> Call {
+    let odds = random.between(2, 5);
+    Caller {
+        kind,
+        scene,
+        odds,
+        random,
+    }
+    .any_call()
+}
+
+/// Bytes for the buffer of a call that takes one.
+pub fn buffer_for(call: &Call, random: &mut Random) -> Vec<u8> {
+    let length = match call {
+        Call::Read { .. } => *random.pick(&[0, 1, 100, 511, 600, 1024, 2000, 5000, 400_000]),
+        Call::Check | Call::CheckSystem | Call::FreeSpace | Call::Entry { .. } => {
+            *random.pick(&[0, 1, 15, 16, 17, 21, 22, 23, 30, 100])
+        }
+        _ => 0,
+    };
+    let mut buffer = vec![0; length];
+    random.fill(&mut buffer);
+    buffer
+}
+
+/// Chooses arguments for a scene; one number in `odds` is an odd one.
+struct Caller<'a> {
+    kind: &'a Kind,
+    scene: &'a Scene,
+    odds: usize,
+    random: &'a mut Random,
+}
+
+impl Caller<'_> {
+    /// Mostly calls on open files; to open or create where nothing is open.
+    fn likely_call(&mut self) -> Call {
+        if self.likely_places().is_empty() && !self.random.one_in(4) {
+            return self.beginning_call();
+        }
+        match self.random.below(8) {
+            0 => self.volume_call(),
+            1 => self.beginning_call(),
+            2 | 3 => self.name_call(),
+            _ => self.handle_call(),
+        }
+    }
+
+    /// The calls that take a table or a name more often than the others.
+    fn any_call(&mut self) -> Call {
+        match self.random.below(10) {
+            0 => self.volume_call(),
+            1 | 2 => self.beginning_call(),
+            3..=6 => self.name_call(),
+            _ => self.handle_call(),
+        }
+    }
+
+    /// A call on the volume as a whole.
+    fn volume_call(&mut self) -> Call {
+        match self.random.below(32) {
+            0 => self.some_format(),
+            1..=7 => Call::CheckSystem,
+            8..=15 => Call::FreeSpace,
+            16..=23 => {
+                let slot = self.random.below(120) as u32;
+                Call::Entry {
+                    slot: self.rarely_any(slot),
+                }
+            }
+            _ => Call::Check,
+        }
+    }
+
+    /// A call that opens a file.
+    fn beginning_call(&mut self) -> Call {
+        let name = self.some_name();
+        match self.random.one_in(2) {
+            true => Call::Open {
+                name,
+                access: self.rarely_above(3),
+            },
+            false => Call::Create {
+                name,
+                attribute: self.some_attribute(),
+                stamp: stamp(self.random),
+            },
+        }
+    }
+
+    /// A call on a file by its name.
+    fn name_call(&mut self) -> Call {
+        let name = self.some_name();
+        match self.random.below(4) {
+            0 => Call::Delete { name },
+            1 => Call::Rename {
+                old: name,
+                new: self.new_name(),
+            },
+            2 => Call::Mode {
+                name,
+                function: self.rarely_above(2),
+                attribute: self.some_attribute(),
+            },
+            _ => {
+                let offset = self.random.below(3000) as u32;
+                Call::ViewNumber {
+                    name,
+                    offset: self.rarely_any(offset),
+                }
+            }
+        }
+    }
+
+    /// A call on an open file.
+    fn handle_call(&mut self) -> Call {
+        let places = self.likely_places();
+        let handle = self.random.choose(&places).unwrap_or(0);
+        let handle = self.rarely_any(handle);
+        match self.random.below(20) {
+            0..=4 => Call::Read { handle },
+            5..=11 => Call::Write {
+                handle,
+                data: self.some_data(),
+            },
+            12..=15 => self.some_seek(handle),
+            _ => Call::Close {
+                handle,
+                stamp: stamp(self.random),
+            },
+        }
+    }
+
+    /// The number, but one time in `odds` another.
+    fn rarely_any(&mut self, number: u32) -> u32 {
+        match self.random.below(3 * self.odds) {
+            0 => self.random.word() as u32,
+            1 => number.wrapping_add(1),
+            2 => number.wrapping_add(256),
+            _ => number,
+        }
+    }
+
+    /// A number below `end`, or rarely any.
+    fn rarely_above(&mut self, end: usize) -> u32 {
+        let number = self.random.below(end) as u32;
+        self.rarely_any(number)
+    }
+
+    /// Mostly the name of some live entry, as a caller may write it.
+    fn some_name(&mut self) -> Vec<u8> {
+        if self.random.one_in(4 * self.odds) {
+            return noise_name(self.random);
+        }
+        let root = self.kind.root_at()..self.kind.system_bytes();
+        let root = self.scene.image.get(root).unwrap_or(&[]);
+        let in_reach = |byte: &u8| *byte == b' ' || is_name_byte(*byte);
+        let names = root.chunks_exact(32).map(|entry| &entry[..11]);
+        let names: Vec<&[u8]> = names.filter(|name| name.iter().all(in_reach)).collect();
+        let name = match self.random.choose(&names) {
+            Some(stored) if !self.random.one_in(4) => callers_form(stored),
+            _ => good_name(self.random),
+        };
+        varied(self.random, &name)
+    }
+
+    /// A name for rename's second: mostly one that is not there yet.
+    fn new_name(&mut self) -> Vec<u8> {
+        match self.random.one_in(4) {
+            true => self.some_name(),
+            false => good_name(self.random),
+        }
+    }
+
+    /// The places that look as if they could be live.
+    fn likely_places(&self) -> Vec<u32> {
+        let records = self.scene.table.chunks_exact(16).enumerate();
+        let likely = records.filter(|(_, record)| record[0] != 0 && record[1] <= 2);
+        likely.map(|(place, _)| place as u32).collect()
+    }
+
+    fn some_attribute(&mut self) -> u32 {
+        let good = *self
+            .random
+            .pick(&[0, 0, 0x20, 0x02, 0x04, 0x26, 0x01, 0x27]);
+        match self.random.below(2 * self.odds) {
+            0 => good | 1 << self.random.below(32),
+            1 => self.random.word() as u32,
+            _ => good,
+        }
+    }
+
+    fn some_data(&mut self) -> Vec<u8> {
+        let cluster = self.kind.cluster_bytes();
+        let length = match self.random.below(16) {
+            0 => 0,
+            1 => 400_000,
+            2 => cluster,
+            3 => cluster + 1,
+            4 => self.random.below(60 * cluster),
+            5..=9 => self.random.below(4 * cluster),
+            _ => self.random.below(100),
+        };
+        let mut data = vec![0; length];
+        self.random.fill(&mut data);
+        data
+    }
+
+    fn some_seek(&mut self, handle: u32) -> Call {
+        let method = self.rarely_above(3);
+        let offset = match self.random.below(8) {
+            0 => self.random.word() as i32,
+            1 => *self.random.pick(&[i32::MIN, i32::MAX, -1, 0, 1]),
+            2 => self.random.below(400_000) as i32,
+            3 => -(self.random.below(2000) as i32),
+            4 => self.offset_to_an_end(handle),
+            _ => self.random.below(3000) as i32,
+        };
+        Call::Seek {
+            handle,
+            method,
+            offset,
+        }
+    }
+
+    /// From the handle's pointer to the lowest or highest pointer, or one past
+    /// it.
+    fn offset_to_an_end(&mut self, handle: u32) -> i32 {
+        let record = self.scene.table.chunks_exact(16).nth(handle as usize);
+        let field = record.and_then(|record| record[8..12].first_chunk());
+        let pointer = i64::from(field.map_or(0, |bytes| u32::from_le_bytes(*bytes)));
+        let most = i64::from(u32::MAX);
+        let target = *self.random.pick(&[0, -1, most, most + 1]);
+        i32::try_from(target - pointer).unwrap_or(0)
+    }
+
+    fn some_format(&mut self) -> Call {
+        let other = self.random.pick(&KINDS).byte;
+        let wanted = *self.random.pick(&[self.kind.byte, self.kind.byte, other]);
+        Call::Format {
+            kind: self.rarely_any(u32::from(wanted)),
+        }
+    }
+}
