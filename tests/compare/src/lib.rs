@@ -10,6 +10,7 @@
 #[cfg(feature = "archive")]
 #[allow(unsafe_code)]
 pub mod archive;
+pub mod comparison;
 pub mod listing;
 pub mod volume;
 pub mod volumes;

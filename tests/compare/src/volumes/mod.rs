@@ -11,5 +11,6 @@ pub mod open_tables;
 pub mod plan;
 pub mod random;
 pub mod random_calls;
+pub mod scenes;
 pub mod sound;
 pub mod texts;

@@ -3,6 +3,34 @@
 use super::plan::Plan;
 use super::random::Random;
 
+/// Mostly a table as below; also one without an unused place, and any bytes.
+pub fn any_table(plan: &Plan, random: &mut Random) -> Vec<u8> {
+    let mut table = open_table(plan, random);
+    match random.below(8) {
+        0 => {
+            for record in table.chunks_exact_mut(16) {
+                fill_record(plan, record, random);
+            }
+        }
+        1 => random.fill(&mut table),
+        _ => {}
+    }
+    table
+}
+
+/// A table with many unused places, and few that are used from the beginning.
+pub fn table_for_a_history(plan: &Plan, random: &mut Random) -> Vec<u8> {
+    let mut table = vec![0; 16 * *random.pick(&[2, 8, 16, 16, 16, 18])];
+    random.fill(&mut table);
+    for record in table.chunks_exact_mut(16) {
+        match random.one_in(8) {
+            true => fill_record(plan, record, random),
+            false => record[0] = 0,
+        }
+    }
+    table
+}
+
 /// A table whose records name files, other slots, or nothing that is there.
 pub fn open_table(plan: &Plan, random: &mut Random) -> Vec<u8> {
     let records = *random.pick(&[0, 1, 2, 5, 15, 16, 17, 20]);

@@ -78,6 +78,21 @@ fn fill_slots(plan: &mut Plan, pool: &mut Vec<u16>, random: &mut Random) {
     }
 }
 
+/// Puts an empty file into each slot that is erased or was never used.
+pub fn fill_root(plan: &mut Plan, random: &mut Random) {
+    for slot in 0..plan.slots.len() {
+        if [0x00, 0xE5].contains(&plan.slots[slot][0]) {
+            let name = new_name(plan, random);
+            let file = File {
+                slot,
+                clusters: Vec::new(),
+                content: Vec::new(),
+            };
+            plan.add_file(file, name, attribute(random), 0);
+        }
+    }
+}
+
 /// The label's bytes from 12 on mean nothing, its name may be a file's.
 fn put_label(plan: &mut Plan, slot: usize, random: &mut Random) {
     let mut entry = [0; 32];

@@ -1,0 +1,87 @@
+//! How often each call ended well, and by each line of the refusal table.
+
+use std::collections::BTreeMap;
+
+use super::lines::{allows, LINES};
+use crate::volume::answer::Refusal;
+use crate::volumes::calls::{Call, NAMES};
+
+/// Each pair of call and line must be met this often; in a short run, once in
+/// 7,500 calls.
+const LEAST: u64 = 20;
+const CALLS_FOR_ONE: u64 = 7500;
+
+#[derive(Default)]
+pub struct Tally {
+    met: BTreeMap<(&'static str, Option<Refusal>), u64>,
+}
+
+/// All ways a call can end: well, and by each line.
+fn endings() -> impl Iterator<Item = Option<Refusal>> {
+    let lines = LINES.iter().map(|line| Some(line.refusal));
+    std::iter::once(None).chain(lines)
+}
+
+impl Tally {
+    pub fn note(&mut self, call: &Call, refusal: Option<Refusal>) {
+        *self.met.entry((call.name(), refusal)).or_default() += 1;
+    }
+
+    pub fn add(&mut self, other: Tally) {
+        for (pair, times) in other.met {
+            *self.met.entry(pair).or_default() += times;
+        }
+    }
+
+    pub fn calls(&self) -> u64 {
+        self.met.values().sum()
+    }
+
+    fn times(&self, call: &'static str, ending: Option<Refusal>) -> u64 {
+        self.met.get(&(call, ending)).copied().unwrap_or(0)
+    }
+
+    /// The counts, a row for each call, `-` where the line is not about it.
+    pub fn print(&self) {
+        let numbers = LINES.iter().map(|line| line.refusal.number().to_string());
+        let words = LINES.iter().map(|line| line.word.to_string());
+        print_row("", std::iter::once("0".to_string()).chain(numbers));
+        print_row("", std::iter::once("well".to_string()).chain(words));
+        for call in NAMES {
+            let cell = |ending| match (self.times(call, ending), allows(call, ending)) {
+                (0, false) => "-".to_string(),
+                (times, _) => times.to_string(),
+            };
+            print_row(call, endings().map(cell));
+        }
+    }
+
+    /// What is amiss: pairs that the table has not, and pairs met too rarely.
+    pub fn faults(&self) -> Vec<String> {
+        let least = LEAST.min(self.calls() / CALLS_FOR_ONE);
+        let pairs = NAMES
+            .iter()
+            .flat_map(|&call| endings().map(move |end| (call, end)));
+        pairs
+            .filter_map(|(call, ending)| {
+                let times = self.times(call, ending);
+                let what = match ending {
+                    None => format!("{call} ended well"),
+                    Some(line) => format!("{call} refused by {} ({line:?})", line.number()),
+                };
+                match allows(call, ending) {
+                    true if times < least => {
+                        Some(format!("{what} {times} times, not {least} times"))
+                    }
+                    false if times > 0 => Some(format!("{what}, which the table has not")),
+                    _ => None,
+                }
+            })
+            .collect()
+    }
+}
+
+fn print_row(head: &str, cells: impl Iterator<Item = String>) {
+    let cells: Vec<String> = cells.map(|cell| format!("{cell:>7}")).collect();
+    println!("{head:<12}{}", cells.concat());
+}
