@@ -1,13 +1,17 @@
-//! compare COUNT [SEED]: the archive against the plain Rust, call by call.
+//! compare COUNT [SEED]: the archive against the plain Rust, the calls that
+//! take no open table, on volumes of all sorts.
 //!
 //! Makes COUNT volumes from the seeds SEED (0), SEED + 1 and so on. On each,
-//! every call is made on both libraries, with buffers of several lengths.
+//! every such call is made on both libraries, with buffers of several lengths.
 //! Answers and all bytes of all buffers must agree, and so must the guard
 //! bytes around the buffers. The first difference is printed with its seed and
 //! ends the run.
 
 use std::process::ExitCode;
 
+use compare::comparison::both::halves;
+use compare::comparison::guarded::{Guarded, GUARD};
+use compare::comparison::seeds::over_seeds;
 use compare::volume::answer::number;
 use compare::volume::kind::{Kind, KINDS};
 use compare::volumes::mixed::mixed_image;
@@ -17,69 +21,6 @@ use compare::{archive, volume};
 /// Each finding, and sound, must be met this often; in a short run, once in
 /// twenty volumes.
 const LEAST: u64 = 500;
-
-/// Odd, so that the bytes begin at an odd address.
-const GUARD: usize = 61;
-const GUARD_BYTE: u8 = 0xA5;
-
-/// Bytes in the middle of a larger buffer, whose ends nobody may alter.
-#[derive(Clone, PartialEq)]
-struct Guarded(Vec<u8>);
-
-impl Guarded {
-    fn new(content: &[u8]) -> Guarded {
-        let mut all = Vec::with_capacity(content.len() + 2 * GUARD);
-        all.resize(GUARD, GUARD_BYTE);
-        all.extend_from_slice(content);
-        all.resize(content.len() + 2 * GUARD, GUARD_BYTE);
-        Guarded(all)
-    }
-
-    fn random(length: usize, random: &mut Random) -> Guarded {
-        let mut content = vec![0; length];
-        random.fill(&mut content);
-        Guarded::new(&content)
-    }
-
-    fn slice(&self) -> &[u8] {
-        &self.0[GUARD..self.0.len() - GUARD]
-    }
-
-    fn slice_mut(&mut self) -> &mut [u8] {
-        let end = self.0.len() - GUARD;
-        &mut self.0[GUARD..end]
-    }
-}
-
-/// What both libraries got and gave back. The plain Rust can't write outside
-/// its slices, so where both agree the guards stand as well.
-struct Pair {
-    plain: Guarded,
-    archive: Guarded,
-}
-
-impl Pair {
-    fn of(content: Guarded) -> Pair {
-        Pair {
-            plain: content.clone(),
-            archive: content,
-        }
-    }
-
-    /// The first place where they differ; below 0 it is in the guard.
-    fn difference(&self) -> Option<isize> {
-        if self.plain == self.archive {
-            return None;
-        }
-        let at = self
-            .plain
-            .0
-            .iter()
-            .zip(&self.archive.0)
-            .position(|(a, b)| a != b);
-        at.map(|at| at as isize - GUARD as isize)
-    }
-}
 
 /// Calls that only read an image, or a part of it, and may fill `out`.
 type Reader = fn(&[u8], &mut [u8]) -> u64;
@@ -92,15 +33,18 @@ const READERS: [(&str, Reader, Reader); 3] = [
 
 /// One volume on which both libraries are tried.
 struct Trial {
-    image: Pair,
+    plain: Vec<u8>,
+    archive: Guarded,
     random: Random,
     calls: u64,
 }
 
 impl Trial {
     fn new(seed: u64) -> Trial {
+        let plain = mixed_image(seed);
         Trial {
-            image: Pair::of(Guarded::new(&mixed_image(seed))),
+            archive: Guarded::new(&plain, GUARD),
+            plain,
             random: Random::new(!seed),
             calls: 0,
         }
@@ -111,18 +55,16 @@ impl Trial {
         self.read_whole()?;
         self.read_parts()?;
         self.read_entries()?;
-        if let Some(at) = self.image.difference() {
-            return Err(format!("a call that only reads altered the image at {at}"));
-        }
+        self.archive
+            .compare("image that was only read", &self.plain)?;
         self.format()
     }
 
     /// The readers on the whole image.
     fn read_whole(&mut self) -> Result<(), String> {
-        let whole = self.image.plain.slice().len();
         for reader in &READERS {
             for out in [0, 15, 16, 20] {
-                self.read(reader, whole, out)?;
+                self.read(reader, self.plain.len(), out)?;
             }
         }
         Ok(())
@@ -130,7 +72,7 @@ impl Trial {
 
     /// The readers on the bytes up to some length.
     fn read_parts(&mut self) -> Result<(), String> {
-        let whole = self.image.plain.slice().len();
+        let whole = self.plain.len();
         let system = self.random.pick(&KINDS).system_bytes();
         let some = self.random.below(whole + 1);
         for length in [0, 512, 513, system - 1, system, some] {
@@ -144,19 +86,18 @@ impl Trial {
 
     fn read(
         &mut self,
-        reader: &(&str, Reader, Reader),
+        (name, plain, archive): &(&str, Reader, Reader),
         length: usize,
         out: usize,
     ) -> Result<(), String> {
-        let (name, plain, archive) = reader;
-        let mut pair = Pair::of(Guarded::random(out, &mut self.random));
-        let ours = plain(&self.image.plain.slice()[..length], pair.plain.slice_mut());
-        let theirs = archive(
-            &self.image.archive.slice()[..length],
-            pair.archive.slice_mut(),
-        );
+        let mut theirs = Guarded::random(out, &mut self.random);
+        let mut ours = theirs.to_vec();
+        let answers = [
+            plain(&self.plain[..length], &mut ours),
+            archive(&self.archive[..length], &mut theirs),
+        ];
         self.calls += 1;
-        same(ours, theirs, &pair)
+        same(answers, "out", &ours, &theirs)
             .map_err(|what| format!("{name}, {length} bytes, out of {out}: {what}"))
     }
 
@@ -167,11 +108,14 @@ impl Trial {
         slots.extend((0..4).map(|_| self.random.below(112) as u32));
         for slot in slots {
             let out = *self.random.pick(&[0, 21, 22, 22, 30]);
-            let mut pair = Pair::of(Guarded::random(out, &mut self.random));
-            let ours = volume::entry(self.image.plain.slice(), slot, pair.plain.slice_mut());
-            let theirs = archive::entry(self.image.archive.slice(), slot, pair.archive.slice_mut());
+            let mut theirs = Guarded::random(out, &mut self.random);
+            let mut ours = theirs.to_vec();
+            let answers = [
+                volume::entry(&self.plain, slot, &mut ours),
+                archive::entry(&self.archive, slot, &mut theirs),
+            ];
             self.calls += 1;
-            same(ours, theirs, &pair)
+            same(answers, "out", &ours, &theirs)
                 .map_err(|what| format!("entry {slot}, out of {out}: {what}"))?;
         }
         Ok(())
@@ -184,28 +128,28 @@ impl Trial {
         let mut kinds = vec![0, 0xFB, kind | 0x100, kind | 0xFFFF_FF00, any];
         kinds.extend(KINDS.iter().map(|kind| u32::from(kind.byte)));
         for kind in kinds {
-            let ours = volume::format(self.image.plain.slice_mut(), kind);
-            let theirs = archive::format(self.image.archive.slice_mut(), kind);
+            let answers = [
+                volume::format(&mut self.plain, kind),
+                archive::format(&mut self.archive, kind),
+            ];
             self.calls += 1;
-            same(ours, theirs, &self.image).map_err(|what| format!("format {kind:#X}: {what}"))?;
+            same(answers, "image", &self.plain, &self.archive)
+                .map_err(|what| format!("format {kind:#X}: {what}"))?;
         }
         Ok(())
     }
 }
 
-/// Whether answers and bytes agree.
-fn same(ours: u64, theirs: u64, bytes: &Pair) -> Result<(), String> {
-    if ours != theirs {
-        return Err(format!(
-            "{ours:#X} by the plain Rust, {theirs:#X} by the archive"
-        ));
+/// Whether the answers agree, the plain Rust's and the archive's, and so the
+/// bytes.
+fn same(answers: [u64; 2], what: &str, plain: &[u8], archive: &Guarded) -> Result<(), String> {
+    let [expected, answered] = answers.map(halves);
+    if answers[0] != answers[1] {
+        return Err(format!("{expected} expected, {answered} answered"));
     }
-    match bytes.difference() {
-        Some(at) => Err(format!(
-            "both answer {ours:#X}, but the bytes differ at {at}"
-        )),
-        None => Ok(()),
-    }
+    archive
+        .compare(what, plain)
+        .map_err(|what| format!("both answer {expected}, {what}"))
 }
 
 /// What was met: volumes by their finding (0: sound), and sound ones by kind.
@@ -217,15 +161,27 @@ struct Met {
 }
 
 impl Met {
-    fn add(&mut self, image: &[u8]) {
+    /// What one volume is.
+    fn of(image: &[u8]) -> Met {
+        let mut met = Met::default();
         let finding = number(volume::check(image, &mut []));
-        self.findings[finding as usize] += 1;
+        met.findings[finding as usize] = 1;
         let kind = KINDS
             .iter()
             .position(|kind| Kind::of_image(image) == Some(kind));
         if let (0, Some(kind)) = (finding, kind) {
-            self.sound[kind] += 1;
+            met.sound[kind] = 1;
         }
+        met
+    }
+
+    fn add(&mut self, other: Met) {
+        let add = |to: &mut [u64], more: &[u64]| {
+            to.iter_mut().zip(more).for_each(|(to, more)| *to += more);
+        };
+        add(&mut self.findings, &other.findings);
+        add(&mut self.sound, &other.sound);
+        self.calls += other.calls;
     }
 
     fn print(&self) {
@@ -240,19 +196,23 @@ impl Met {
     }
 }
 
+fn compare_volume(seed: u64) -> Result<Met, String> {
+    let mut trial = Trial::new(seed);
+    let mut met = Met::of(&trial.plain);
+    trial.run()?;
+    met.calls = trial.calls;
+    Ok(met)
+}
+
 /// Compares both libraries on all volumes; true where nothing is amiss.
 fn compare(count: u64, first: u64) -> bool {
-    let mut met = Met::default();
-    for seed in first..first + count {
-        let mut trial = Trial::new(seed);
-        met.add(trial.image.plain.slice());
-        if let Err(what) = trial.run() {
-            println!("volume of seed {seed}: {what}");
-            println!("again: make compare N=1 SEED={seed}");
+    let met = match over_seeds(first..first + count, compare_volume, Met::add) {
+        Ok(met) => met,
+        Err(failure) => {
+            println!("volume of {failure}");
             return false;
         }
-        met.calls += trial.calls;
-    }
+    };
     met.print();
     println!(
         "{count} volumes, {} calls on each library: all alike",

@@ -23,8 +23,7 @@ fn compare(calls: u64, first: u64, guard: usize) -> bool {
     let tally = match over_seeds(seeds, work, Tally::add) {
         Ok(tally) => tally,
         Err(failure) => {
-            println!("calls of seed {}: {}", failure.seed, failure.what);
-            println!("again: make compare N=1 SEED={}", failure.seed);
+            println!("calls of {failure}");
             return false;
         }
     };

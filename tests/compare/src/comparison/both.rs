@@ -48,7 +48,7 @@ impl Both {
     /// Makes the call on both; the error says where they differ.
     pub fn make(&mut self, call: &Call) -> Result<Ending, String> {
         self.make_on_both(call)
-            .map_err(|what| format!("{}: {what}", told(call)))
+            .map_err(|what| format!("{call}: {what}"))
     }
 
     fn make_on_both(&mut self, call: &Call) -> Result<Ending, String> {
@@ -81,9 +81,9 @@ impl Both {
             table,
             buffer,
         } = &self.other;
-        compare_part("image", image, &self.plain.image)?;
-        compare_part("table", table, &self.plain.table)?;
-        compare_part("buffer", buffer, &self.plain.buffer)
+        image.compare("image", &self.plain.image)?;
+        table.compare("table", &self.plain.table)?;
+        buffer.compare("buffer", &self.plain.buffer)
     }
 
     /// Takes the last call back on both.
@@ -105,32 +105,7 @@ impl Both {
     }
 }
 
-/// A call as text, long names and data cut short.
-pub fn told(call: &Call) -> String {
-    let text = format!("{call:?}");
-    match text.get(..200) {
-        Some(front) => format!("{front}.."),
-        None => text,
-    }
-}
-
 /// An answer's number and value.
-fn halves(answer: u64) -> String {
+pub fn halves(answer: u64) -> String {
     format!("{}/{}", answer >> 32, answer as u32)
-}
-
-fn compare_part(what: &str, other: &Guarded, plain: &[u8]) -> Result<(), String> {
-    let Some(at) = other.difference(plain) else {
-        return Ok(());
-    };
-    match usize::try_from(at) {
-        Ok(at) if at < plain.len() => Err(format!(
-            "the {what} differs at byte {at}: {:02X} expected, {:02X} there",
-            plain[at], other[at]
-        )),
-        _ => Err(format!(
-            "a guard byte at {at} of the {what}'s {} bytes was altered",
-            plain.len()
-        )),
-    }
 }

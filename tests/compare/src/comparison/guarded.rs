@@ -2,6 +2,8 @@
 
 use std::ops::{Deref, DerefMut};
 
+use crate::volumes::random::Random;
+
 /// The usual length of a guard. Odd, so that the bytes begin at an odd address.
 pub const GUARD: usize = 61;
 const GUARD_BYTE: u8 = 0xA5;
@@ -24,14 +26,38 @@ impl Guarded {
         Guarded { all, guard }
     }
 
+    /// Random bytes in guards.
+    pub fn random(length: usize, random: &mut Random) -> Guarded {
+        let mut content = vec![0; length];
+        random.fill(&mut content);
+        Guarded::new(&content, GUARD)
+    }
+
     /// All bytes, with those of the guards.
     pub fn with_guards(&mut self) -> &mut [u8] {
         &mut self.all
     }
 
+    /// Says where this is not the content in whole guards.
+    pub fn compare(&self, what: &str, content: &[u8]) -> Result<(), String> {
+        let Some(at) = self.difference(content) else {
+            return Ok(());
+        };
+        match usize::try_from(at) {
+            Ok(at) if at < content.len() => Err(format!(
+                "the {what} differs at byte {at}: {:02X} expected, {:02X} there",
+                content[at], self[at]
+            )),
+            _ => Err(format!(
+                "a guard byte at {at} of the {what}'s {} bytes was altered",
+                content.len()
+            )),
+        }
+    }
+
     /// The first place, counted from the content, where this is not the
     /// content in whole guards.
-    pub fn difference(&self, content: &[u8]) -> Option<isize> {
+    fn difference(&self, content: &[u8]) -> Option<isize> {
         let (before, rest) = self.all.split_at(self.guard);
         let (inside, after) = rest.split_at(rest.len() - self.guard);
         let intact = |guard: &[u8]| guard.iter().all(|&byte| byte == GUARD_BYTE);

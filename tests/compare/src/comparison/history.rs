@@ -1,7 +1,7 @@
 //! A history: several hundred calls, one after the other on one volume and one
 //! open table.
 
-use super::both::{told, Both};
+use super::both::Both;
 use super::files::{After, Files};
 use super::read_back::compare_by_reading;
 use super::tally::Tally;
@@ -46,5 +46,5 @@ fn follow(files: &mut Files, call: &Call, answer: u64, both: &Both) -> Result<()
         buffer: &both.other.buffer,
     };
     let followed = files.follow(call, after);
-    followed.map_err(|what| format!("{}: {what}", told(call)))
+    followed.map_err(|what| format!("{call}: {what}"))
 }

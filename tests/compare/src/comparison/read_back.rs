@@ -1,7 +1,7 @@
 //! Reads all files back through the library, on copies, and compares them with
 //! the history.
 
-use super::both::Both;
+use super::both::{halves, Both};
 use super::files::{File, Files};
 use super::guarded::Guarded;
 use crate::volume::kind::Kind;
@@ -21,10 +21,8 @@ pub fn compare_by_reading(files: &Files, both: &Both) -> Result<(), String> {
             .map_err(|what| format!("file {:?}, {what}", String::from_utf8_lossy(name)))?;
     }
     copy.compare_totals(files)?;
-    match copy.scene.image.difference(&both.plain.image) {
-        Some(at) => Err(format!("reading altered the image at {at}")),
-        None => Ok(()),
-    }
+    let image = &copy.scene.image;
+    image.compare("image that was only read", &both.plain.image)
 }
 
 /// A copy of the scene that nothing else depends on.
@@ -79,7 +77,7 @@ impl Copy<'_> {
         let name = callers_form(name);
         match self.call(Call::Open { name, access: 0 }, &[]) {
             0 => Ok(()),
-            answer => Err(format!("open answers {answer:#X}")),
+            answer => Err(format!("open answers {}", halves(answer))),
         }
     }
 
@@ -88,17 +86,16 @@ impl Copy<'_> {
         let mut expected = file.bytes.clone();
         expected.push(0xA7);
         let answer = self.call(Call::Read { handle: 0 }, &vec![0xA7; expected.len()]);
-        match (
-            answer == file.bytes.len() as u64,
-            self.scene.buffer.difference(&expected),
-        ) {
-            (false, _) => Err(format!(
-                "read answers {answer:#X} of {} bytes",
-                file.bytes.len()
-            )),
-            (true, Some(at)) => Err(format!("byte {at} is not as the history wrote it")),
-            (true, None) => Ok(()),
+        if answer != file.bytes.len() as u64 {
+            return Err(format!(
+                "{} bytes, read answers {}",
+                file.bytes.len(),
+                halves(answer)
+            ));
         }
+        self.scene
+            .buffer
+            .compare("content by the history", &expected)
     }
 
     /// Check's counts, those by the history and those of the table agree, and
@@ -111,7 +108,8 @@ impl Copy<'_> {
         let by_history = [files.files.len() as u32, free, held, aside];
         if answer != 0 || counts != by_history {
             return Err(format!(
-                "check {answer:#X} counts {counts:?}, the history {by_history:?}"
+                "check answers {} and counts {counts:?}, the history {by_history:?}",
+                halves(answer)
             ));
         }
         let by_table = table_counts(files.kind, &self.both.plain.image);

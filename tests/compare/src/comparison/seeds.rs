@@ -1,13 +1,26 @@
 //! Work over many seeds, on all cores.
 
+use std::fmt;
 use std::ops::Range;
 use std::sync::atomic::{AtomicU64, Ordering::Relaxed};
 use std::thread;
 
 /// What went wrong at a seed.
+#[derive(Debug)]
 pub struct Failure {
     pub seed: u64,
     pub what: String,
+}
+
+/// With how to see it again.
+impl fmt::Display for Failure {
+    fn fmt(&self, f: &mut fmt::Formatter) -> fmt::Result {
+        let Failure { seed, what } = self;
+        write!(
+            f,
+            "seed {seed}: {what}\nagain: make compare N=1 SEED={seed}"
+        )
+    }
 }
 
 /// Does the work for each seed and adds up what it gives. Where it goes wrong

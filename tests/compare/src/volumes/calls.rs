@@ -1,5 +1,6 @@
 //! Calls as data, so that the same call can be made on two libraries.
 
+use std::fmt;
 use std::ops::DerefMut;
 
 use crate::volume::answer::{answer, Refusal};
@@ -88,6 +89,51 @@ pub const NAMES: [&str; 15] = [
     "mode",
     "view_number",
 ];
+
+/// For reports: names as text, data by its length.
+impl fmt::Display for Call {
+    fn fmt(&self, f: &mut fmt::Formatter) -> fmt::Result {
+        let call = self.name();
+        let text = |name: &[u8]| format!("'{}'", name.escape_ascii());
+        match self {
+            Call::Format { kind } => write!(f, "{call} kind {kind:#X}"),
+            Call::Check | Call::CheckSystem | Call::FreeSpace => write!(f, "{call}"),
+            Call::Entry { slot } => write!(f, "{call} slot {slot}"),
+            Call::Open { name, access } => write!(f, "{call} {} access {access}", text(name)),
+            Call::Create {
+                name,
+                attribute,
+                stamp,
+            } => write!(
+                f,
+                "{call} {} attribute {attribute:#X} stamp {stamp:?}",
+                text(name)
+            ),
+            Call::Read { handle } => write!(f, "{call} handle {handle}"),
+            Call::Write { handle, data } => {
+                write!(f, "{call} handle {handle}, {} bytes", data.len())
+            }
+            Call::Seek {
+                handle,
+                method,
+                offset,
+            } => write!(f, "{call} handle {handle} method {method} offset {offset}"),
+            Call::Close { handle, stamp } => write!(f, "{call} handle {handle} stamp {stamp:?}"),
+            Call::Delete { name } => write!(f, "{call} {}", text(name)),
+            Call::Rename { old, new } => write!(f, "{call} {} to {}", text(old), text(new)),
+            Call::Mode {
+                name,
+                function,
+                attribute,
+            } => write!(
+                f,
+                "{call} {} function {function} attribute {attribute:#X}",
+                text(name)
+            ),
+            Call::ViewNumber { name, offset } => write!(f, "{call} {} offset {offset}", text(name)),
+        }
+    }
+}
 
 impl Call {
     pub fn name(&self) -> &'static str {

@@ -51,10 +51,10 @@ struct Caller<'a> {
     random: &'a mut Random,
 }
 
-impl Caller<'_> {
+impl<'a> Caller<'a> {
     /// Mostly calls on open files; to open or create where nothing is open.
     fn likely_call(&mut self) -> Call {
-        if self.likely_places().is_empty() && !self.random.one_in(4) {
+        if self.live_places().is_empty() && !self.random.one_in(4) {
             return self.beginning_call();
         }
         match self.random.below(8) {
@@ -133,9 +133,7 @@ impl Caller<'_> {
 
     /// A call on an open file.
     fn handle_call(&mut self) -> Call {
-        let places = self.likely_places();
-        let handle = self.random.choose(&places).unwrap_or(0);
-        let handle = self.rarely_any(handle);
+        let handle = self.some_handle();
         match self.random.below(20) {
             0..=4 => Call::Read { handle },
             5..=11 => Call::Write {
@@ -171,10 +169,8 @@ impl Caller<'_> {
         if self.random.one_in(4 * self.odds) {
             return noise_name(self.random);
         }
-        let root = self.kind.root_at()..self.kind.system_bytes();
-        let root = self.scene.image.get(root).unwrap_or(&[]);
         let in_reach = |byte: &u8| *byte == b' ' || is_name_byte(*byte);
-        let names = root.chunks_exact(32).map(|entry| &entry[..11]);
+        let names = self.root().chunks_exact(32).map(|entry| &entry[..11]);
         let names: Vec<&[u8]> = names.filter(|name| name.iter().all(in_reach)).collect();
         let name = match self.random.choose(&names) {
             Some(stored) if !self.random.one_in(4) => callers_form(stored),
@@ -191,11 +187,38 @@ impl Caller<'_> {
         }
     }
 
-    /// The places that look as if they could be live.
-    fn likely_places(&self) -> Vec<u32> {
+    /// The root's bytes, where the image has them.
+    fn root(&self) -> &'a [u8] {
+        let root = self.kind.root_at()..self.kind.system_bytes();
+        self.scene.image.get(root).unwrap_or(&[])
+    }
+
+    /// The places that are used with a good access on a plain file.
+    fn live_places(&self) -> Vec<u32> {
+        let is_file = |slot: u32| {
+            let mut entries = self.root().chunks_exact(32);
+            let entry = entries.nth(slot as usize);
+            entry.is_some_and(|entry| ![0x00, 0xE5].contains(&entry[0]) && entry[11] & 0x08 == 0)
+        };
+        let is_live = |record: &[u8]| {
+            let slot = record[4..8]
+                .first_chunk()
+                .map(|slot| u32::from_le_bytes(*slot));
+            record[0] != 0 && record[1] <= 2 && slot.is_some_and(is_file)
+        };
         let records = self.scene.table.chunks_exact(16).enumerate();
-        let likely = records.filter(|(_, record)| record[0] != 0 && record[1] <= 2);
-        likely.map(|(place, _)| place as u32).collect()
+        let live = records.filter(|(_, record)| is_live(record));
+        live.map(|(place, _)| place as u32).collect()
+    }
+
+    /// Mostly a live place.
+    fn some_handle(&mut self) -> u32 {
+        let any = self.random.below(20) as u32;
+        if self.random.one_in(self.odds) {
+            return any;
+        }
+        let handle = self.random.choose(&self.live_places()).unwrap_or(any);
+        self.rarely_any(handle)
     }
 
     fn some_attribute(&mut self) -> u32 {
