@@ -57,7 +57,11 @@ impl Trial {
         self.read_entries()?;
         self.archive
             .compare("image that was only read", &self.plain)?;
-        self.format()
+        // What format does depends on nothing of the volume but its length.
+        match self.random.one_in(4) {
+            true => self.format(),
+            false => Ok(()),
+        }
     }
 
     /// The readers on the whole image.

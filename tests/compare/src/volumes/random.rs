@@ -54,9 +54,13 @@ impl Random {
     }
 
     pub fn fill(&mut self, bytes: &mut [u8]) {
-        for chunk in bytes.chunks_mut(8) {
+        let (words, rest) = bytes.as_chunks_mut();
+        for word in words {
+            *word = self.word().to_le_bytes();
+        }
+        if !rest.is_empty() {
             let word = self.word().to_le_bytes();
-            chunk.copy_from_slice(&word[..chunk.len()]);
+            rest.copy_from_slice(&word[..rest.len()]);
         }
     }
 }
