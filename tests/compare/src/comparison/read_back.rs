@@ -8,7 +8,7 @@ use crate::volume::kind::Kind;
 use crate::volume::names::is_name_byte;
 use crate::volume::table::{is_aside, values};
 use crate::volumes::calls::{Call, Scene};
-use crate::volumes::texts::callers_form;
+use crate::volumes::texts::{callers_form, without_padding};
 
 /// Each file's entry and bytes, and how many clusters are free, held and aside.
 pub fn compare_by_reading(files: &Files, both: &Both) -> Result<(), String> {
@@ -32,7 +32,7 @@ struct Copy<'a> {
 }
 
 fn is_in_reach(name: &[u8; 11]) -> bool {
-    let (base, extension) = (name[..8].trim_ascii_end(), name[8..].trim_ascii_end());
+    let (base, extension) = (without_padding(&name[..8]), without_padding(&name[8..]));
     let good = |part: &[u8]| part.iter().all(|&byte| is_name_byte(byte));
     !base.is_empty() && good(base) && good(extension)
 }

@@ -44,10 +44,16 @@ pub fn stored_form(name: &[u8]) -> [u8; 11] {
     stored
 }
 
+/// A part of a stored name without its padding.
+pub fn without_padding(part: &[u8]) -> &[u8] {
+    let last = part.iter().rposition(|&byte| byte != b' ');
+    &part[..last.map_or(0, |last| last + 1)]
+}
+
 /// A caller's name for stored bytes that are in reach.
 pub fn callers_form(stored: &[u8]) -> Vec<u8> {
-    let mut name = stored[..8].trim_ascii_end().to_vec();
-    let extension = stored[8..11].trim_ascii_end();
+    let mut name = without_padding(&stored[..8]).to_vec();
+    let extension = without_padding(&stored[8..11]);
     if !extension.is_empty() {
         name.push(b'.');
         name.extend_from_slice(extension);
