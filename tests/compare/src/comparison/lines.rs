@@ -20,58 +20,23 @@ const fn line(refusal: Refusal, word: &'static str, calls: &'static [&'static st
 
 /// In the table's order. All calls but check refuse by 40; of these all but
 /// format and entry by 41.
+#[rustfmt::skip]
 pub const LINES: [Line; 16] = [
-    line(
-        NotOfAKind,
-        "kind",
-        &[
-            "format",
-            "free_space",
-            "entry",
-            "open",
-            "create",
-            "read",
-            "write",
-            "seek",
-            "close",
-            "delete",
-            "rename",
-            "mode",
-            "view_number",
-        ],
-    ),
-    line(
-        NotSound,
-        "sound",
-        &[
-            "free_space",
-            "open",
-            "create",
-            "read",
-            "write",
-            "seek",
-            "close",
-            "delete",
-            "rename",
-            "mode",
-            "view_number",
-        ],
-    ),
+    line(NotOfAKind, "kind", &[
+        "format", "free_space", "entry", "open", "create", "read", "write", "seek", "close",
+        "delete", "rename", "mode", "view_number",
+    ]),
+    line(NotSound, "sound", &[
+        "free_space", "open", "create", "read", "write", "seek", "close",
+        "delete", "rename", "mode", "view_number",
+    ]),
     line(BadFunction, "func", &["seek", "mode"]),
     line(BadAccess, "access", &["open"]),
-    line(
-        BadName,
-        "name",
-        &["open", "create", "delete", "rename", "mode", "view_number"],
-    ),
+    line(BadName, "name", &["open", "create", "delete", "rename", "mode", "view_number"]),
     line(BadStamp, "stamp", &["create", "close"]),
     line(NotLive, "live", &["read", "write", "seek", "close"]),
     line(OutOfRange, "range", &["seek"]),
-    line(
-        NoSuchFile,
-        "file",
-        &["open", "delete", "rename", "mode", "view_number"],
-    ),
+    line(NoSuchFile, "file", &["open", "delete", "rename", "mode", "view_number"]),
     line(BadAttribute, "bits", &["create", "mode"]),
     line(FileOpen, "open", &["create", "delete", "rename", "mode"]),
     line(ReadOnly, "ronly", &["create", "delete", "rename", "open"]),

@@ -90,51 +90,6 @@ pub const NAMES: [&str; 15] = [
     "view_number",
 ];
 
-/// For reports: names as text, data by its length.
-impl fmt::Display for Call {
-    fn fmt(&self, f: &mut fmt::Formatter) -> fmt::Result {
-        let call = self.name();
-        let text = |name: &[u8]| format!("'{}'", name.escape_ascii());
-        match self {
-            Call::Format { kind } => write!(f, "{call} kind {kind:#X}"),
-            Call::Check | Call::CheckSystem | Call::FreeSpace => write!(f, "{call}"),
-            Call::Entry { slot } => write!(f, "{call} slot {slot}"),
-            Call::Open { name, access } => write!(f, "{call} {} access {access}", text(name)),
-            Call::Create {
-                name,
-                attribute,
-                stamp,
-            } => write!(
-                f,
-                "{call} {} attribute {attribute:#X} stamp {stamp:?}",
-                text(name)
-            ),
-            Call::Read { handle } => write!(f, "{call} handle {handle}"),
-            Call::Write { handle, data } => {
-                write!(f, "{call} handle {handle}, {} bytes", data.len())
-            }
-            Call::Seek {
-                handle,
-                method,
-                offset,
-            } => write!(f, "{call} handle {handle} method {method} offset {offset}"),
-            Call::Close { handle, stamp } => write!(f, "{call} handle {handle} stamp {stamp:?}"),
-            Call::Delete { name } => write!(f, "{call} {}", text(name)),
-            Call::Rename { old, new } => write!(f, "{call} {} to {}", text(old), text(new)),
-            Call::Mode {
-                name,
-                function,
-                attribute,
-            } => write!(
-                f,
-                "{call} {} function {function} attribute {attribute:#X}",
-                text(name)
-            ),
-            Call::ViewNumber { name, offset } => write!(f, "{call} {} offset {offset}", text(name)),
-        }
-    }
-}
-
 impl Call {
     pub fn name(&self) -> &'static str {
         let place = match self {
@@ -158,17 +113,44 @@ impl Call {
     }
 }
 
+/// For reports: names as text, data by its length.
+impl fmt::Display for Call {
+    #[rustfmt::skip]
+    fn fmt(&self, f: &mut fmt::Formatter) -> fmt::Result {
+        write!(f, "{}", self.name())?;
+        let text = |name: &[u8]| format!("'{}'", name.escape_ascii());
+        match self {
+            Call::Check | Call::CheckSystem | Call::FreeSpace => Ok(()),
+            Call::Format { kind } => write!(f, " kind {kind:#X}"),
+            Call::Entry { slot } => write!(f, " slot {slot}"),
+            Call::Open { name, access } => write!(f, " {} access {access}", text(name)),
+            Call::Create { name, attribute, stamp } => {
+                write!(f, " {} attribute {attribute:#X} stamp {stamp:?}", text(name))
+            }
+            Call::Read { handle } => write!(f, " handle {handle}"),
+            Call::Write { handle, data } => write!(f, " handle {handle}, {} bytes", data.len()),
+            Call::Seek { handle, method, offset } => {
+                write!(f, " handle {handle} method {method} offset {offset}")
+            }
+            Call::Close { handle, stamp } => write!(f, " handle {handle} stamp {stamp:?}"),
+            Call::Delete { name } => write!(f, " {}", text(name)),
+            Call::Rename { old, new } => write!(f, " {} to {}", text(old), text(new)),
+            Call::Mode { name, function, attribute } => {
+                write!(f, " {} function {function} attribute {attribute:#X}", text(name))
+            }
+            Call::ViewNumber { name, offset } => write!(f, " {} offset {offset}", text(name)),
+        }
+    }
+}
+
 /// Makes a call on the plain Rust of this package: its answer, and the line
 /// that it refuses by.
+#[rustfmt::skip]
 pub fn perform_and_tell<Bytes>(call: &Call, scene: &mut Scene<Bytes>) -> (u64, Option<Refusal>)
 where
     Bytes: DerefMut<Target = [u8]>,
 {
-    let Scene {
-        image,
-        table,
-        buffer,
-    } = scene;
+    let Scene { image, table, buffer } = scene;
     let outcome = match call {
         Call::Check => return (volume::check(image, buffer), None),
         Call::CheckSystem => return (volume::check_system(image, buffer), None),
@@ -176,28 +158,22 @@ where
         Call::FreeSpace => outcomes::free_space(image, buffer),
         Call::Entry { slot } => outcomes::entry(image, *slot, buffer),
         Call::Open { name, access } => outcomes::open(image, table, name, *access),
-        Call::Create {
-            name,
-            attribute,
-            stamp,
-        } => outcomes::create(image, table, name, *attribute, Stamp::from(*stamp)),
+        Call::Create { name, attribute, stamp } => {
+            outcomes::create(image, table, name, *attribute, Stamp::from(*stamp))
+        }
         Call::Read { handle } => outcomes::read(image, table, *handle, buffer),
         Call::Write { handle, data } => outcomes::write(image, table, *handle, data),
-        Call::Seek {
-            handle,
-            method,
-            offset,
-        } => outcomes::seek(image, table, *handle, *method, *offset),
+        Call::Seek { handle, method, offset } => {
+            outcomes::seek(image, table, *handle, *method, *offset)
+        }
         Call::Close { handle, stamp } => {
             outcomes::close(image, table, *handle, Stamp::from(*stamp))
         }
         Call::Delete { name } => outcomes::delete(image, table, name),
         Call::Rename { old, new } => outcomes::rename(image, table, old, new),
-        Call::Mode {
-            name,
-            function,
-            attribute,
-        } => outcomes::mode(image, table, name, *function, *attribute),
+        Call::Mode { name, function, attribute } => {
+            outcomes::mode(image, table, name, *function, *attribute)
+        }
         Call::ViewNumber { name, offset } => outcomes::view(image, name, *offset).map(|_| 0),
     };
     (answer(outcome), outcome.err())
@@ -213,16 +189,13 @@ where
 
 /// Makes a call on the archive.
 #[cfg(feature = "archive")]
+#[rustfmt::skip]
 pub fn perform_on_archive<Bytes>(call: &Call, scene: &mut Scene<Bytes>) -> u64
 where
     Bytes: DerefMut<Target = [u8]>,
 {
     use crate::archive;
-    let Scene {
-        image,
-        table,
-        buffer,
-    } = scene;
+    let Scene { image, table, buffer } = scene;
     match call {
         Call::Format { kind } => archive::format(image, *kind),
         Call::Check => archive::check(image, buffer),
@@ -230,29 +203,22 @@ where
         Call::FreeSpace => archive::free_space(image, buffer),
         Call::Entry { slot } => archive::entry(image, *slot, buffer),
         Call::Open { name, access } => archive::open(image, table, name, *access),
-        Call::Create {
-            name,
-            attribute,
-            stamp: [a, b, c, d, e, f],
-        } => archive::create(image, table, name, *attribute, *a, *b, *c, *d, *e, *f),
+        Call::Create { name, attribute, stamp: [a, b, c, d, e, f] } => {
+            archive::create(image, table, name, *attribute, *a, *b, *c, *d, *e, *f)
+        }
         Call::Read { handle } => archive::read(image, table, *handle, buffer),
         Call::Write { handle, data } => archive::write(image, table, *handle, data),
-        Call::Seek {
-            handle,
-            method,
-            offset,
-        } => archive::seek(image, table, *handle, *method, *offset),
-        Call::Close {
-            handle,
-            stamp: [a, b, c, d, e, f],
-        } => archive::close(image, table, *handle, *a, *b, *c, *d, *e, *f),
+        Call::Seek { handle, method, offset } => {
+            archive::seek(image, table, *handle, *method, *offset)
+        }
+        Call::Close { handle, stamp: [a, b, c, d, e, f] } => {
+            archive::close(image, table, *handle, *a, *b, *c, *d, *e, *f)
+        }
         Call::Delete { name } => archive::delete(image, table, name),
         Call::Rename { old, new } => archive::rename(image, table, old, new),
-        Call::Mode {
-            name,
-            function,
-            attribute,
-        } => archive::mode(image, table, name, *function, *attribute),
+        Call::Mode { name, function, attribute } => {
+            archive::mode(image, table, name, *function, *attribute)
+        }
         Call::ViewNumber { name, offset } => archive::view_number(image, name, *offset),
     }
 }
