@@ -32,32 +32,40 @@ pub fn over_seeds<Sum: Default + Send>(
 ) -> Result<Sum, Failure> {
     let workers = thread::available_parallelism().map_or(1, |count| count.get());
     let lowest_failed = AtomicU64::new(u64::MAX);
-    let one_share = |first: u64| {
-        let mut sum = Sum::default();
-        for seed in (first..seeds.end).step_by(workers) {
-            if seed > lowest_failed.load(Relaxed) {
-                break;
-            }
-            match work(seed) {
-                Ok(more) => add(&mut sum, more),
-                Err(what) => {
-                    lowest_failed.fetch_min(seed, Relaxed);
-                    return Err(Failure { seed, what });
-                }
-            }
-        }
-        Ok(sum)
-    };
     let shares: Vec<Result<Sum, Failure>> = thread::scope(|scope| {
-        let one_share = &one_share;
-        let share = |worker| scope.spawn(move || one_share(seeds.start + worker));
-        let running: Vec<_> = (0..workers as u64).map(share).collect();
+        let (work, add, lowest_failed) = (&work, &add, &lowest_failed);
+        let start = |worker| {
+            let share = seeds.clone().skip(worker).step_by(workers);
+            scope.spawn(move || over_share(share, work, add, lowest_failed))
+        };
+        let running: Vec<_> = (0..workers).map(start).collect();
         let ended = running.into_iter().map(|share| share.join());
-        ended
-            .map(|share| share.expect("the work never panics"))
-            .collect()
+        ended.map(|sum| sum.expect("no work panics")).collect()
     });
     add_up(shares, add)
+}
+
+/// One worker's share: up to its first failure, or past another's.
+fn over_share<Sum: Default>(
+    seeds: impl Iterator<Item = u64>,
+    work: impl Fn(u64) -> Result<Sum, String>,
+    add: impl Fn(&mut Sum, Sum),
+    lowest_failed: &AtomicU64,
+) -> Result<Sum, Failure> {
+    let mut sum = Sum::default();
+    for seed in seeds {
+        if seed > lowest_failed.load(Relaxed) {
+            break;
+        }
+        match work(seed) {
+            Ok(more) => add(&mut sum, more),
+            Err(what) => {
+                lowest_failed.fetch_min(seed, Relaxed);
+                return Err(Failure { seed, what });
+            }
+        }
+    }
+    Ok(sum)
 }
 
 fn add_up<Sum: Default>(
@@ -65,15 +73,13 @@ fn add_up<Sum: Default>(
     add: impl Fn(&mut Sum, Sum),
 ) -> Result<Sum, Failure> {
     let mut sum = Sum::default();
-    let mut failures = Vec::new();
+    let mut lowest: Option<Failure> = None;
     for share in shares {
         match share {
             Ok(more) => add(&mut sum, more),
-            Err(failure) => failures.push(failure),
+            Err(failure) if lowest.as_ref().is_some_and(|low| low.seed < failure.seed) => {}
+            Err(failure) => lowest = Some(failure),
         }
     }
-    match failures.into_iter().min_by_key(|failure| failure.seed) {
-        Some(failure) => Err(failure),
-        None => Ok(sum),
-    }
+    lowest.map_or(Ok(sum), Err)
 }

@@ -59,25 +59,21 @@ impl Tally {
     /// What is amiss: pairs that the table has not, and pairs met too rarely.
     pub fn faults(&self) -> Vec<String> {
         let least = LEAST.min(self.calls() / CALLS_FOR_ONE);
-        let pairs = NAMES
-            .iter()
-            .flat_map(|&call| endings().map(move |end| (call, end)));
-        pairs
-            .filter_map(|(call, ending)| {
-                let times = self.times(call, ending);
-                let what = match ending {
-                    None => format!("{call} ended well"),
-                    Some(line) => format!("{call} refused by {} ({line:?})", line.number()),
-                };
-                match allows(call, ending) {
-                    true if times < least => {
-                        Some(format!("{what} {times} times, not {least} times"))
-                    }
-                    false if times > 0 => Some(format!("{what}, which the table has not")),
-                    _ => None,
-                }
-            })
-            .collect()
+        let faults_of = |&call| endings().filter_map(move |end| self.fault(call, end, least));
+        NAMES.iter().flat_map(faults_of).collect()
+    }
+
+    fn fault(&self, call: &'static str, ending: Option<Refusal>, least: u64) -> Option<String> {
+        let times = self.times(call, ending);
+        let what = match ending {
+            None => format!("{call} ended well"),
+            Some(line) => format!("{call} refused by {} ({line:?})", line.number()),
+        };
+        match allows(call, ending) {
+            true if times < least => Some(format!("{what} {times} times, not {least}")),
+            false if times > 0 => Some(format!("{what}, which the table has not")),
+            _ => None,
+        }
     }
 }
 
