@@ -1,0 +1,5 @@
+-- The laws of the definitions beside this folder.
+pub mod Longer
+pub mod LongerCode
+pub mod Put
+pub mod Write
