@@ -2,7 +2,6 @@
 -- hold its bytes.
 use Prim.Native.Nat.{ℕ, _+_, _-_, _*_, _≤_, _<_}
 use native.Mathlib.Omega.{arith}
-use native.Mathlib.Nat.{mul-le-mul-right}
 use mathlib.Core.List.{List, [], _∷_, _++_}
 use mathlib.Core.Logic.{_⊎_, inl, inr}
 use mathlib.Core.Path.{_≡_, refl, sym, ap, _∙_, subst}
@@ -10,20 +9,16 @@ use lib.ListN.{length, length-append}
 use Rattle.image.specs.Bytes.{Bytes}
 use Rattle.image.specs.Laws.Store.{length-stored}
 use Rattle.chains.specs.Chain.{Chain}
-use Rattle.chains.specs.Free.{Takable, freeClusters}
+use Rattle.chains.specs.Free.{Takable}
 use Rattle.chains.specs.Growth.{extended, lacking}
-use Rattle.chains.specs.Lists.{_∈_, Once, occ}
+use Rattle.chains.specs.Lists.{_∈_}
 use Rattle.chains.specs.Lists as lists
 use Rattle.chains.specs.Sizes.{Geometry, clustersFor}
 use Rattle.chains.specs.Values.{Link}
-use Rattle.chains.specs.Laws.Chain.{chain-mem, chain-once, chain-length}
-use Rattle.chains.specs.Laws.Free.{free-mem, free-once, free-length}
+use Rattle.chains.specs.Laws.Chain.{chain-mem}
 use Rattle.chains.specs.Laws.Growth.{extended-chain}
-use Rattle.chains.specs.Laws.Lists.{dec-mem, mem-append, occ-append, occ-not}
 use Rattle.chains.specs.Laws.Sizes.{clusters-hold, clusters-least, clusters-grow}
-use Rattle.chains.specs.Laws.Sums.{pigeon}
-use Rattle.chains.specs.Laws.Values.{free-no-use}
-use Rattle.diskette.specs.Places.{firstData, clusters, clusterBytes, copyTwo, lastCluster, slotAt}
+use Rattle.diskette.specs.Places.{firstData, clusterBytes, copyTwo, lastCluster, slotAt}
 use Rattle.diskette.specs.declared.Kind.{Kind}
 use Rattle.directory.specs.Fields.{startOf, sizeOf, withStart}
 use Rattle.table.specs.Entries.{wordAt, tableOf}
@@ -44,39 +39,7 @@ use Rattle.holding.specs.Holding.{fileChain, FileIn}
 use Rattle.holding.specs.Laws.Clusters.{on-clusters, copies-reach}
 use Rattle.holding.specs.Laws.Chain.{file-chain, chain-long}
 use Rattle.writing.specs.Longer.{roomOf, newFor, chainAfter, withClusters, lengthened, CanGrow}
-
--- a chain and clusters that may be taken have none in common
-pub apart-once : (G : Geometry) (f : ℕ → ℕ) (start : ℕ) (cs new : List ℕ) → Chain (G .last) f start cs → ((a : ℕ) → a ∈ new → f a ≡ 0) → Once new → Once (cs ++ new)
-apart-once G f start cs new p free o a = elim (dec-mem a new) [
-  | yes m ↦
-      let z : occ a cs ≡ 0 = occ-not a cs (λ h. free-no-use (G .last) (f a) (free a m) (chain-mem G f start cs p a h .1)) in
-      omega (arith, occ-append a cs new, o a)
-  | no n ↦ omega (arith, occ-append a cs new, occ-not a new n, chain-once G f start cs p a)
-]
-
-module _ (img : List ℕ) (k : Kind) (v : OnVolume img k) (slot : ℕ) (i : FileIn img k slot) where
-  G : Geometry
-  G = geometry k (on-usable img k v)
-
-  abbrev cs : List ℕ
-  cs = fileChain k img slot
-
-  -- own and free clusters are no more than there are
-  pub room-clusters : length cs + freeOf k img ≤ clusters k
-  unfolding G
-  room-clusters =
-      let all = cs ++ freeClusters (lastCluster k) (valueOf k img) in
-      let within : (a : ℕ) → a ∈ all → Link (lastCluster k) a = λ a m. elim (mem-append a cs _ m) [
-        | inl h ↦ chain-mem G (valueOf k img) _ cs (file-chain img k v slot i) a h .0
-        | inr h ↦ free-mem G (valueOf k img) a h .0
-      ] in
-      let once : Once all = apart-once G (valueOf k img) _ cs _ (file-chain img k v slot i) (λ a m. free-mem G (valueOf k img) a m .1) (free-once G (valueOf k img)) in
-      omega (arith, pigeon G all within once, length-append cs (freeClusters (lastCluster k) (valueOf k img)), free-length G (valueOf k img))
-
-  -- so the room is less than an image of 4,078 clusters of 8 sectors has
-  pub room-small : roomOf k img slot ≤ clusters k * clusterBytes k
-  unfolding roomOf
-  room-small = let h = room-clusters in mul-le-mul-right (clusterBytes k) h
+use Rattle.writing.specs.Laws.Room.{apart-once}
 
 module _ (k : Kind) (img : List ℕ) (slot size : ℕ) (g : CanGrow k img slot size) where
   v : OnVolume img k
@@ -88,8 +51,8 @@ module _ (k : Kind) (img : List ℕ) (slot size : ℕ) (g : CanGrow k img slot s
   abbrev own : List ℕ
   own = fileChain k img slot
 
-  G′ : Geometry
-  G′ = geometry k (on-usable img k v)
+  G : Geometry
+  G = geometry k (on-usable img k v)
 
   wide : 0 < clusterBytes k
   wide = on-clusters img k v .wide
@@ -143,11 +106,11 @@ module _ (k : Kind) (img : List ℕ) (slot size : ℕ) (g : CanGrow k img slot s
       ∙ ap (λ (f : ℕ → ℕ). f c) (table-linked (copyTwo k) (lastCluster k) img holds (startOf img (slotAt k slot)) own (newFor k img slot size) (file-chain img k v slot i) takable)
 
   longer-chain : Chain (lastCluster k) (tableOf (lastCluster k) (lengthened k img slot size)) (lists.startOf (chainAfter k img slot size)) (chainAfter k img slot size)
-  unfolding G′
+  unfolding G
   longer-chain =
       subst (λ (f : ℕ → ℕ). Chain (lastCluster k) f (lists.startOf (chainAfter k img slot size)) (chainAfter k img slot size)) (λ j c. sym (longer-table c) j)
-      (extended-chain G′ (valueOf k img) (startOf img (slotAt k slot)) own (newFor k img slot size) (file-chain img k v slot i) (takable .range)
-      (apart-once G′ (valueOf k img) _ own (newFor k img slot size) (file-chain img k v slot i) (takable .unused) (takable .each)))
+      (extended-chain G (valueOf k img) (startOf img (slotAt k slot)) own (newFor k img slot size) (file-chain img k v slot i) (takable .range)
+      (apart-once G (valueOf k img) _ own (newFor k img slot size) (file-chain img k v slot i) (takable .unused) (takable .each)))
 
   pub longer-found : chainFrom (lastCluster k) (lengthened k img slot size) (lists.startOf (chainAfter k img slot size)) ≡ chainAfter k img slot size
   longer-found = chain-is (512 * firstData k) (clusterBytes k) (lastCluster k) (lengthened k img slot size) _ longer-area (chainAfter k img slot size) longer-chain
@@ -157,7 +120,7 @@ module _ (k : Kind) (img : List ℕ) (slot size : ℕ) (g : CanGrow k img slot s
   first-small (x ∷ xs) h = h x (inl refl) .1
 
   pub start-small : lists.startOf (chainAfter k img slot size) < 65536
-  unfolding G′
+  unfolding G
   start-small =
-      let h : (a : ℕ) → a ∈ chainAfter k img slot size → Link (lastCluster k) a = λ a m. chain-mem G′ _ _ (chainAfter k img slot size) longer-chain a m .0 in
+      let h : (a : ℕ) → a ∈ chainAfter k img slot size → Link (lastCluster k) a = λ a m. chain-mem G _ _ (chainAfter k img slot size) longer-chain a m .0 in
       omega (arith, first-small (chainAfter k img slot size) h, on-usable img k v .below-aside)

@@ -1,25 +1,19 @@
 -- Bytes put into a file, as the code does it: in the form of its needs.
 use Prim.Native.Nat.{ℕ, _+_, _-_, _*_, _≤_, _<_, max}
 use native.Mathlib.Omega.{arith}
-use native.Mathlib.Nat.{mul-le-mul-right}
 use mathlib.Core.List.{List}
 use mathlib.Core.Path.{_≡_, refl, sym, ap, _∙_}
 use lib.ListN.{length, take, drop, replicate}
 use Rattle.chains.specs.Write.{poured, writtenImage}
-use Rattle.diskette.specs.Kinds.{Usable}
-use Rattle.diskette.specs.Places.{firstData, clusters, clusterBytes, lastCluster, slotAt}
+use Rattle.diskette.specs.Places.{firstData, clusterBytes, lastCluster, slotAt}
 use Rattle.diskette.specs.declared.Kind.{Kind}
 use Rattle.directory.specs.Fields.{sizeOf}
 use Rattle.contents.specs.Contents.{chainFrom, Area, bytesPut, zerosPut}
 use Rattle.contents.specs.Laws.Kept.{area-poured, poured-chains, written-put}
-use Rattle.calls.specs.Ready.{OnVolume}
-use Rattle.calls.specs.Laws.Ready.{on-usable}
-use Rattle.holding.specs.Holding.{FileIn}
-use Rattle.holding.specs.Laws.Chain.{file-holds}
-use Rattle.writing.specs.Longer.{roomOf, CanGrow, Lengthens}
+use Rattle.writing.specs.Longer.{CanGrow, Lengthens}
 use Rattle.writing.specs.Put.{HasRoom, CanPut}
 use Rattle.writing.specs.Write.{writtenIn}
-use Rattle.writing.specs.Laws.Longer.{room-small}
+use Rattle.writing.specs.Laws.Room.{room-fits, room-own}
 
 -- ---- along a chain with room
 
@@ -67,18 +61,6 @@ module _ (k : Kind) (img : List ℕ) (start pointer n : ℕ) (r : HasRoom k img 
   put-is bs l q = q ∙ rw e (written-put (512 * firstData k) (clusterBytes k) (lastCluster k) img start (r .area) pointer bs size)
 
 -- ---- into a file
-
-module _ (img : List ℕ) (k : Kind) (v : OnVolume img k) (slot : ℕ) (i : FileIn img k slot) where
-  -- 4,078 clusters of 4,096 bytes at most
-  pub room-fits : roomOf k img slot < 4294967296
-  room-fits =
-      let few : clusters k ≤ 4078 = omega (arith, on-usable img k v .below-aside) in
-      let h : clusters k * clusterBytes k ≤ 4078 * clusterBytes k = mul-le-mul-right (clusterBytes k) few in
-      omega (arith, room-small img k v slot i, on-usable img k v .per-high)
-
-  pub room-own : sizeOf img (slotAt k slot) ≤ roomOf k img slot
-  unfolding roomOf
-  room-own = omega (arith, file-holds img k v slot i)
 
 module _ (k : Kind) (img : List ℕ) (slot pointer n : ℕ) (p : CanPut k img slot pointer n) where
   pub count-fits : n < 4294967296

@@ -24,8 +24,7 @@ use Rattle.calls.specs.declared.Ready.the-variants.{Refused}
 use Rattle.holding.specs.Holding.{fileChain, FileIn}
 use Rattle.writing.specs.Longer.{roomOf}
 use Rattle.writing.specs.Write.{writtenIn, writeAt, writeOutcome, Writes, WritesAt}
-use Rattle.writing.specs.Laws.Longer.{room-clusters}
-use Rattle.writing.specs.Laws.Put.{room-fits}
+use Rattle.writing.specs.Laws.Room.{room-clusters, room-fits}
 
 pub writes-only : {img t : List ℕ} {h : ℕ} {bs : List ℕ} {r r′ : Answer} {l l′ m m′ : List ℕ} → Writes img t h bs r l m → Writes img t h bs r′ l′ m′
     → (r .number ≡ r′ .number) × (r .value ≡ r′ .value) × (l ≡ l′) × (m ≡ m′)
