@@ -36,7 +36,7 @@ use Rattle.sound.specs.declared.Verdict.{Verdict}
 use Rattle.sound.specs.declared.Verdict.the-variants.{Finding}
 use Rattle.volume.specs.FreeSpace.{freeSpace}
 use Rattle.volume.specs.Laws.FreeSpace.{space-unknown, space-unsound, space-sound}
-use Rattle.scale.specs.Calls.{verdictTold, checkCall, checkSystemCall}
+use Rattle.scale.specs.Calls.{handed, verdictTold, checkCall, checkSystemCall}
 use Rattle.scale.specs.Fits.{Fits, VerdictFits, SpaceFits}
 use Rattle.scale.specs.Laws.Packing.{upper-half, lower-half}
 
@@ -127,14 +127,16 @@ space-fits img = go (kindOfImage img) refl
 -- ---- so a finding and its place can be had back from the answer
 
 told-halves : (v : Verdict) (out : List ℕ) (number place : ℕ) → VerdictFits v → v ≡ Finding number place
-    → (verdictTold v out .answer / 4294967296 ≡ number) × (verdictTold v out .answer % 4294967296 ≡ place)
-unfolding verdictTold
+    → (handed (verdictTold v out) .answer / 4294967296 ≡ number) × (handed (verdictTold v out) .answer % 4294967296 ≡ place)
+unfolding verdictTold handed
 told-halves v out number place f e = let g = subst VerdictFits e f in rw e (upper-half number place (g .0), lower-half number place (g .1))
 
 pub check-halves : (img out : List ℕ) (number place : ℕ) → checkOf img ≡ Finding number place
-    → (checkCall img out .answer / 4294967296 ≡ number) × (checkCall img out .answer % 4294967296 ≡ place)
+    → (handed (checkCall img out) .answer / 4294967296 ≡ number) × (handed (checkCall img out) .answer % 4294967296 ≡ place)
+unfolding handed
 check-halves img out number place e = told-halves (checkOf img) out number place (check-fits img) e
 
 pub area-halves : (area out : List ℕ) (number place : ℕ) → checkOfArea area ≡ Finding number place
-    → (checkSystemCall area out .answer / 4294967296 ≡ number) × (checkSystemCall area out .answer % 4294967296 ≡ place)
+    → (handed (checkSystemCall area out) .answer / 4294967296 ≡ number) × (handed (checkSystemCall area out) .answer % 4294967296 ≡ place)
+unfolding handed
 area-halves area out number place e = told-halves (checkOfArea area) out number place (area-fits area) e
