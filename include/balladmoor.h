@@ -182,8 +182,8 @@ uint64_t bm_open(const uint8_t *image, size_t image_length, uint8_t *table, size
  * there is a file of that name that is open or read-only, or if there is none and no slot for it; 4 if no place is
  * unused. */
 uint64_t bm_create(uint8_t *image, size_t image_length, uint8_t *table, size_t table_length, const uint8_t *name,
-                   size_t name_length, uint32_t attribute, uint32_t hour, uint32_t minute, uint32_t step,
-                   uint32_t year, uint32_t month, uint32_t day);
+                   size_t name_length, uint32_t attribute, uint32_t hour, uint32_t minute, uint32_t step, uint32_t year,
+                   uint32_t month, uint32_t day);
 
 /* Reads from the pointer on, as many bytes as buffer and file allow, and moves the pointer behind them.
  *
