@@ -1,5 +1,5 @@
--- The calls as C sees them: each call's outcome as a function of what came in, and the one form in which C has it. Those over an
--- open table have their outcomes from the crates `calls`, `reading` and `filing`; the others, and what C alone gives, are below.
+-- The calls as C sees them: what each leaves, as one function of what came in. The calls over an open table have this function
+-- from the crates `calls`, `reading` and `filing`; the others have it here.
 use Prim.Native.Nat.{ℕ}
 use mathlib.Core.Bool.{cond}
 use mathlib.Core.List.{List, [], _∷_}
@@ -16,26 +16,13 @@ use Rattle.volume.specs.declared.EntryAnswer.{EntryAnswer}
 use Rattle.volume.specs.declared.FreeAnswer.{FreeAnswer}
 use Rattle.calls.specs.Outcome.{Outcome, outcome}
 use Rattle.reading.specs.View.{viewOutcome}
-use Rattle.scale.specs.Packing.{packed}
+use Rattle.scale.specs.Packing.{upper, lower}
 use Rattle.scale.specs.Out.{put, words, fields}
 
--- what C has after a call: the answer, and image, table and buffer; `out` is a buffer, and a slice that a call does not take is []
-pub record After : Type 0 where
-  pub answer : ℕ
-  pub image : List ℕ
-  pub table : List ℕ
-  pub buffer : List ℕ
-
-abbrev pub after : ℕ → List ℕ → List ℕ → List ℕ → After
-after answer image table buffer = record { answer = answer; image = image; table = table; buffer = buffer }
-
--- "A call answers a uint64_t: the refusal number in the upper 32 bits, the value in the lower."
-unfoldable pub handed : Outcome → After
-handed o = after (packed (o .number) (o .value)) (o .image) (o .table) (o .buffer)
-
--- what every call promises: it leaves just this. A slice that it only reads stands here as it came.
+-- What every call promises of its answer and of image, table and buffer after it. `out` is a buffer; a slice that a call only
+-- reads stands here as it came, and one that it does not take is [].
 pub record Leaves (o : Outcome) (answer : ℕ) (image table buffer : List ℕ) : Type 0 where
-  pub is : after answer image table buffer ≡ handed o
+  pub is : outcome (upper answer) (lower answer) image table buffer ≡ o
 
 -- ---- the calls that need no open table
 

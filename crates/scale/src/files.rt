@@ -2,6 +2,7 @@
 use crate::answer;
 use stamps::Stamp;
 ghost use mathlib.Core.List.{[]};
+ghost use mathlib.Core.Path.{_≡_};
 ghost use Rattle.calls.specs.Close.{closeOutcome};
 ghost use Rattle.calls.specs.Mode.{modeOutcome};
 ghost use Rattle.calls.specs.Open.{openOutcome};
@@ -11,6 +12,20 @@ ghost use Rattle.filing.specs.Create.{createOutcome};
 ghost use Rattle.filing.specs.Delete.{deleteOutcome};
 ghost use Rattle.reading.specs.Read.{readOutcome};
 ghost use Rattle.scale.specs.Calls.{Leaves, viewNumberCall, stampOf};
+
+// The six numbers of a caller's stamp.
+fn stamp(hour: u32, minute: u32, step: u32, year: u32, month: u32, day: u32) -> Stamp
+    ensures { λ r. ⌜ r ≡ stampOf hour minute step year month day ⌝ }
+{
+    Stamp {
+        hour,
+        minute,
+        step,
+        year,
+        month,
+        day,
+    }
+}
 
 // Opens a file: the value is its handle.
 #[no_mangle]
@@ -36,15 +51,8 @@ pub extern "C" fn bm_create(
 ) -> u64
     ensures { λ r. ⌜ Leaves (createOutcome (now (img .entry)) (now (t .entry)) (now (name .entry)) attr (stampOf hour minute step year month day)) r (now (img .exit)) (now (t .exit)) [] ⌝ }
 {
-    let stamp = Stamp {
-        hour,
-        minute,
-        step,
-        year,
-        month,
-        day,
-    };
-    answer::hand(filing::create::create(img, t, name, attr, stamp))
+    let created = stamp(hour, minute, step, year, month, day);
+    answer::hand(filing::create::create(img, t, name, attr, created))
 }
 
 // Reads from the pointer on: the value is the count.
@@ -78,15 +86,8 @@ pub extern "C" fn bm_close(
 ) -> u64
     ensures { λ r. ⌜ Leaves (closeOutcome (now (img .entry)) (now (t .entry)) handle (stampOf hour minute step year month day)) r (now (img .exit)) (now (t .exit)) [] ⌝ }
 {
-    let stamp = Stamp {
-        hour,
-        minute,
-        step,
-        year,
-        month,
-        day,
-    };
-    answer::hand(calls::close::close(img, t, handle, stamp))
+    let closed = stamp(hour, minute, step, year, month, day);
+    answer::hand(calls::close::close(img, t, handle, closed))
 }
 
 // Deletes a file.
@@ -119,5 +120,5 @@ pub extern "C" fn bm_view_number(img: &[u8], name: &[u8], offset: u32) -> u64
     ensures { λ r. ⌜ Leaves (viewNumberCall (now (img .entry)) (now (name .entry)) offset) r (now (img .entry)) [] [] ⌝ }
 {
     let number = reading::view::view_number(img, name, offset);
-    answer::pack(number as usize, 0)
+    answer::pack(number, 0)
 }

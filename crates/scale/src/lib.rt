@@ -8,6 +8,7 @@ use volume::EntryAnswer;
 use volume::FreeAnswer;
 ghost use mathlib.Core.List.{[]};
 ghost use Rattle.scale.specs.Calls.{Leaves, formatCall, verdictTold, checkCall, checkSystemCall, spaceTold, freeSpaceCall, entryTaken, entryCall};
+ghost use Rattle.scale.specs.Fits.{VerdictFits, SpaceFits};
 
 // Makes a blank volume of the kind.
 #[no_mangle]
@@ -15,11 +16,12 @@ pub extern "C" fn bm_format(img: &mut [u8], kind: u32) -> u64
     ensures { λ r. ⌜ Leaves (formatCall (now (img .entry)) kind) r (now (img .exit)) [] [] ⌝ }
 {
     let number = volume::format::format(img, kind);
-    answer::pack(number as usize, 0)
+    answer::pack(number, 0)
 }
 
 // A verdict as check answers it: the counts in out where the volume is sound, else the finding and its place.
 fn tell_verdict(v: Verdict, out: &mut [u8]) -> u64
+    requires { ⌜ VerdictFits v ⌝ }
     ensures { λ r. ⌜ Leaves (verdictTold v (now (out .entry))) r [] [] (now (out .exit)) ⌝ }
 {
     match v {
@@ -27,7 +29,11 @@ fn tell_verdict(v: Verdict, out: &mut [u8]) -> u64
             put::four_words(out, files, free, held, aside);
             answer::pack(0, 0)
         }
-        Verdict::Finding(number, place) => answer::pack(number, place),
+        Verdict::Finding(number, place) => {
+            let finding = number as u32;
+            let at = place as u32;
+            answer::pack(finding, at)
+        }
     }
 }
 
@@ -51,13 +57,14 @@ pub extern "C" fn bm_check_system(area: &[u8], out: &mut [u8]) -> u64
 
 // What free space answers: the four numbers in out where it is not refused.
 fn tell_space(a: FreeAnswer, out: &mut [u8]) -> u64
+    requires { ⌜ SpaceFits a ⌝ }
     ensures { λ r. ⌜ Leaves (spaceTold a (now (out .entry))) r [] [] (now (out .exit)) ⌝ }
 {
     if a.number == 0 {
         put::four_words(out, a.free, a.clusters, a.sector, a.per);
-        return answer::pack(0, a.free);
+        return answer::pack(0, a.free as u32);
     }
-    answer::pack(a.number as usize, 0)
+    answer::pack(a.number, 0)
 }
 
 // Counts the free clusters of a sound volume.
@@ -78,7 +85,7 @@ fn tell_entry(e: EntryAnswer, out: &mut [u8]) -> u64
         put::entry_fields(out, name, e.attr, e.time, e.date, e.start, e.size);
         return answer::pack(0, 1);
     }
-    answer::pack(e.number as usize, 0)
+    answer::pack(e.number, 0)
 }
 
 // Gives the directory entry at a slot of the root.

@@ -19,13 +19,17 @@ use Rattle.volume.specs.FreeSpace.{Spaced}
 use Rattle.volume.specs.declared.EntryAnswer.{EntryAnswer}
 use Rattle.volume.specs.declared.FreeAnswer.{FreeAnswer}
 use Rattle.calls.specs.Outcome.{Outcome, outcome}
+use Rattle.calls.specs.Close.{closeOutcome, Closes}
 use Rattle.calls.specs.Seek.{seekOutcome, Seeks}
 use Rattle.calls.specs.Laws.Seek.{seek-handed}
 use Rattle.calls.specs.declared.Answer.{Answer}
+use Rattle.filing.specs.Create.{createOutcome, Creates}
 use Rattle.reading.specs.View.{ViewNumbers}
-use Rattle.scale.specs.Packing.{packed}
+use Rattle.stamps.specs.declared.Stamp.{Stamp}
+use Rattle.scale.specs.Packing.{Packs}
 use Rattle.scale.specs.Out.{put, words, fields}
-use Rattle.scale.specs.Calls.{After, after, handed, Leaves, formatCall, toldOf, verdictTold, checkCall, checkSystemCall, spaceTold, freeSpaceCall, entryTaken, entryCall, viewNumberCall}
+use Rattle.scale.specs.Laws.Packing.{same-halves}
+use Rattle.scale.specs.Calls.{Leaves, formatCall, toldOf, verdictTold, checkCall, checkSystemCall, spaceTold, freeSpaceCall, entryTaken, entryCall, viewNumberCall}
 
 -- ---- no second outcome satisfies the contract of a call
 
@@ -33,79 +37,85 @@ pub leaves-only : (o : Outcome) (a b : ℕ) (image image′ table table′ buffe
     → (a ≡ b) × (image ≡ image′) × (table ≡ table′) × (buffer ≡ buffer′)
 leaves-only o a b image image′ table table′ buffer buffer′ s t =
     let e = s .is ∙ sym (t .is) in
-    (ap (λ (x : After). x .answer) e, ap (λ (x : After). x .image) e, ap (λ (x : After). x .table) e, ap (λ (x : After). x .buffer) e)
+    (same-halves a b (ap (λ (x : Outcome). x .number) e) (ap (λ (x : Outcome). x .value) e), ap (λ (x : Outcome). x .image) e, ap (λ (x : Outcome). x .table) e, ap (λ (x : Outcome). x .buffer) e)
 
 -- ---- the calls over an open table: a is what the call answered
 
-pub hands : (o : Outcome) (a : Answer) (r : ℕ) (image table buffer : List ℕ) → outcome (a .number) (a .value) image table buffer ≡ o → r ≡ packed (a .number) (a .value)
+pub hands : (o : Outcome) (a : Answer) (r : ℕ) (image table buffer : List ℕ) → outcome (a .number) (a .value) image table buffer ≡ o → Packs (a .number) (a .value) r
     → Leaves o r image table buffer
-unfolding handed
-hands o a r image table buffer e h = record { is = rw h (ap handed e) }
+hands o a r image table buffer e p = record { is = rw (p .number-is, p .value-is) e }
+
+-- the stamp goes over as what was built of its six numbers
+module _ (img t : List ℕ) (built stamp : Stamp) (same : built ≡ stamp) (a : Answer) (r : ℕ) (m u : List ℕ) where
+  pub create-hands : (name : List ℕ) (attr : ℕ) → Creates img t name attr built a m u → Packs (a .number) (a .value) r → Leaves (createOutcome img t name attr stamp) r m u []
+  create-hands name attr x p = hands _ a r m u [] (x .is ∙ ap (createOutcome img t name attr) same) p
+
+  pub close-hands : (handle : ℕ) → Closes img t handle built a m u → Packs (a .number) (a .value) r → Leaves (closeOutcome img t handle stamp) r m u []
+  close-hands handle x p = hands _ a r m u [] (x .is ∙ ap (closeOutcome img t handle) same) p
 
 -- the offset goes over to seek as its 32 bits
 pub seek-hands : (img t : List ℕ) (handle method : ℕ) (offset : ℤ) (a : Answer) (r : ℕ) (m : List ℕ) → SFits w32 offset
-    → Seeks img t handle method (toZ w32 (ofZ w32 offset)) a m → r ≡ packed (a .number) (a .value) → Leaves (seekOutcome img t handle method offset) r img m []
-seek-hands img t handle method offset a r m fits x h = hands _ a r img m [] (seek-handed img t handle method offset a m fits x .is) h
+    → Seeks img t handle method (toZ w32 (ofZ w32 offset)) a m → Packs (a .number) (a .value) r → Leaves (seekOutcome img t handle method offset) r img m []
+seek-hands img t handle method offset a r m fits x p = hands _ a r img m [] (seek-handed img t handle method offset a m fits x .is) p
 
 -- ---- format: n is the number that it answered
 
-pub format-leaves : (l : List ℕ) (kind n r : ℕ) (m : List ℕ) → Formatted l kind n m → r ≡ packed n 0 → Leaves (formatCall l kind) r m [] []
-unfolding formatCall handed
-format-leaves l kind n r m f h = record { is = rw h (ap (λ (o : blank.Outcome). after (packed (o .number) 0) (o .image) [] []) (f .is)) }
+pub format-leaves : (l : List ℕ) (kind n r : ℕ) (m : List ℕ) → Formatted l kind n m → Packs n 0 r → Leaves (formatCall l kind) r m [] []
+unfolding formatCall
+format-leaves l kind n r m f p = record { is = rw (p .number-is, p .value-is) (ap (λ (o : blank.Outcome). outcome (o .number) 0 (o .image) [] []) (f .is)) }
 
 -- ---- what is told of an image that is only read
 
 told-leaves : (img : List ℕ) (o : Outcome) (r : ℕ) (m : List ℕ) → Leaves o r [] [] m → Leaves (toldOf img o) r img [] m
-unfolding handed
-told-leaves img o r m s = record { is = ap (λ (a : After). after (a .answer) img (a .table) (a .buffer)) (s .is) }
+told-leaves img o r m s = record { is = ap (toldOf img) (s .is) }
 
 -- ---- check: v is the verdict
 
 module _ (out : List ℕ) (v : Verdict) (r : ℕ) where
-  pub sound-leaves : (files free held aside : ℕ) (m : List ℕ) → v ≡ Sound files free held aside → m ≡ put out (words (files ∷ free ∷ held ∷ aside ∷ [])) → r ≡ packed 0 0 → Leaves (verdictTold v out) r [] [] m
-  unfolding verdictTold handed
-  sound-leaves files free held aside m e p h = record { is = rw (e, p, h) }
+  pub sound-leaves : (files free held aside : ℕ) (m : List ℕ) → v ≡ Sound files free held aside → m ≡ put out (words (files ∷ free ∷ held ∷ aside ∷ [])) → Packs 0 0 r → Leaves (verdictTold v out) r [] [] m
+  unfolding verdictTold
+  sound-leaves files free held aside m e p h = record { is = rw (e, p, h .number-is, h .value-is) }
 
-  pub finding-leaves : (number place : ℕ) → v ≡ Finding number place → r ≡ packed number place → Leaves (verdictTold v out) r [] [] out
-  unfolding verdictTold handed
-  finding-leaves number place e h = record { is = rw (e, h) }
+  pub finding-leaves : (number place : ℕ) → v ≡ Finding number place → Packs number place r → Leaves (verdictTold v out) r [] [] out
+  unfolding verdictTold
+  finding-leaves number place e h = record { is = rw (e, h .number-is, h .value-is) }
 
   pub check-leaves : (img m : List ℕ) → Checked img v → Leaves (verdictTold v out) r [] [] m → Leaves (checkCall img out) r img [] m
-  check-leaves img m a s = told-leaves img (verdictTold _ out) r m (record { is = s .is ∙ ap (λ w. handed (verdictTold w out)) (checked-is a) })
+  check-leaves img m a s = told-leaves img (verdictTold _ out) r m (record { is = s .is ∙ ap (λ w. verdictTold w out) (checked-is a) })
 
   pub area-leaves : (area m : List ℕ) → CheckedArea area v → Leaves (verdictTold v out) r [] [] m → Leaves (checkSystemCall area out) r area [] m
-  area-leaves area m a s = told-leaves area (verdictTold _ out) r m (record { is = s .is ∙ ap (λ w. handed (verdictTold w out)) (area-is a) })
+  area-leaves area m a s = told-leaves area (verdictTold _ out) r m (record { is = s .is ∙ ap (λ w. verdictTold w out) (area-is a) })
 
 -- ---- free space: a is what it answered
 
 module _ (out : List ℕ) (a : FreeAnswer) (r : ℕ) where
-  pub space-put : (m : List ℕ) → a .number ≡ 0 → m ≡ put out (words (a .free ∷ a .clusters ∷ a .sector ∷ a .per ∷ [])) → r ≡ packed 0 (a .free) → Leaves (spaceTold a out) r [] [] m
-  unfolding spaceTold handed
-  space-put m e p h = record { is = rw (eq-eqb (a .number) 0 e, p, h) }
+  pub space-put : (m : List ℕ) → a .number ≡ 0 → m ≡ put out (words (a .free ∷ a .clusters ∷ a .sector ∷ a .per ∷ [])) → Packs 0 (a .free) r → Leaves (spaceTold a out) r [] [] m
+  unfolding spaceTold
+  space-put m e p h = record { is = rw (eq-eqb (a .number) 0 e, p, h .number-is, h .value-is) }
 
-  pub space-refused : a .number ≢ 0 → r ≡ packed (a .number) 0 → Leaves (spaceTold a out) r [] [] out
-  unfolding spaceTold handed
-  space-refused d h = record { is = rw (ne-eqb (a .number) 0 d, h) }
+  pub space-refused : a .number ≢ 0 → Packs (a .number) 0 r → Leaves (spaceTold a out) r [] [] out
+  unfolding spaceTold
+  space-refused d h = record { is = rw (ne-eqb (a .number) 0 d, h .number-is, h .value-is) }
 
   pub space-leaves : (img m : List ℕ) → Spaced img a → Leaves (spaceTold a out) r [] [] m → Leaves (freeSpaceCall img out) r img [] m
-  space-leaves img m t s = told-leaves img (spaceTold _ out) r m (record { is = s .is ∙ ap (λ w. handed (spaceTold w out)) (t .is) })
+  space-leaves img m t s = told-leaves img (spaceTold _ out) r m (record { is = s .is ∙ ap (λ w. spaceTold w out) (t .is) })
 
 -- ---- entry: e is what it answered
 
 module _ (out : List ℕ) (e : EntryAnswer) (r : ℕ) where
-  pub entry-put : (m : List ℕ) → e .found ≡ true → m ≡ put out (fields (e .name) (e .attr) (e .time) (e .date) (e .start) (e .size)) → r ≡ packed 0 1 → Leaves (entryTaken e out) r [] [] m
-  unfolding entryTaken handed
-  entry-put m f p h = record { is = rw (f, p, h) }
+  pub entry-put : (m : List ℕ) → e .found ≡ true → m ≡ put out (fields (e .name) (e .attr) (e .time) (e .date) (e .start) (e .size)) → Packs 0 1 r → Leaves (entryTaken e out) r [] [] m
+  unfolding entryTaken
+  entry-put m f p h = record { is = rw (f, p, h .number-is, h .value-is) }
 
-  pub entry-none : e .found ≡ false → r ≡ packed (e .number) 0 → Leaves (entryTaken e out) r [] [] out
-  unfolding entryTaken handed
-  entry-none f h = record { is = rw (f, h) }
+  pub entry-none : e .found ≡ false → Packs (e .number) 0 r → Leaves (entryTaken e out) r [] [] out
+  unfolding entryTaken
+  entry-none f h = record { is = rw (f, h .number-is, h .value-is) }
 
   pub entry-leaves : (img : List ℕ) (slot : ℕ) (m : List ℕ) → Told img slot e → Leaves (entryTaken e out) r [] [] m → Leaves (entryCall img slot out) r img [] m
-  entry-leaves img slot m t s = told-leaves img (entryTaken _ out) r m (record { is = s .is ∙ ap (λ w. handed (entryTaken w out)) (t .is) })
+  entry-leaves img slot m t s = told-leaves img (entryTaken _ out) r m (record { is = s .is ∙ ap (λ w. entryTaken w out) (t .is) })
 
 -- ---- view: n is the number that its second call answered
 
-pub view-number-leaves : (img name : List ℕ) (offset n r : ℕ) → ViewNumbers img name offset n → r ≡ packed n 0 → Leaves (viewNumberCall img name offset) r img [] []
-unfolding viewNumberCall handed
-view-number-leaves img name offset n r v h = record { is = rw (h, v .is) }
+pub view-number-leaves : (img name : List ℕ) (offset n r : ℕ) → ViewNumbers img name offset n → Packs n 0 r → Leaves (viewNumberCall img name offset) r img [] []
+unfolding viewNumberCall
+view-number-leaves img name offset n r v h = record { is = rw (h .number-is, h .value-is, v .is) }

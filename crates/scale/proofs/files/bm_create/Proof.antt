@@ -1,8 +1,11 @@
 -- What create answered to the same stamp, handed on; the image and the table that it left.
-use Rattle.scale.specs.Laws.Calls.{hands}
+use Rattle.scale.specs.Laws.Calls.{create-hands}
 use borrow.Author.Needs.{needs}
 use Rattle.scale.proofs.files.bm_create.Statement.{statement}
 use Rattle.scale.proofs.files.bm_create.Tie as tie
+
+stamp-requires : tie.Need-stamp-requires
+stamp-requires c κs = search needs
 
 create-requires : tie.Need-create-requires
 create-requires c κs = search needs
@@ -17,8 +20,8 @@ same-length-2 : tie.Need-same-length-2
 same-length-2 c = search needs
 
 returns : tie.Need-returns
-returns c = search hands
+returns c = search create-hands
 
 pub bm-create-spec : {M : Type 1} → statement M
 bm-create-spec =
-    tie.close (tie.spec create-requires hand-requires same-length same-length-2 returns)
+    tie.close (tie.spec stamp-requires create-requires hand-requires same-length same-length-2 returns)

@@ -7,9 +7,6 @@ use Rattle.scale.proofs.files.bm_view_number.Tie as tie
 view-number-requires : tie.Need-view-number-requires
 view-number-requires c κs = search needs
 
-cast-pack : tie.Need-cast-pack
-cast-pack c = search needs
-
 pack-requires : tie.Need-pack-requires
 pack-requires c κs = search needs
 
@@ -17,4 +14,4 @@ returns : tie.Need-returns
 returns c = search view-number-leaves
 
 pub bm-view-number-spec : {M : Type 1} → statement M
-bm-view-number-spec = tie.close (tie.spec view-number-requires cast-pack pack-requires returns)
+bm-view-number-spec = tie.close (tie.spec view-number-requires pack-requires returns)
