@@ -2,9 +2,10 @@
  *
  * Link with libscale.a (`rt staticlib scale` makes it, for x86-64).
  *
- * Numbers are uint32_t, and any value may come in: one that is out of range is refused, never misread.
- * A run of bytes is a pointer and then its length. A length of 0 is allowed, with any pointer, NULL too. The runs of
- * one call must not overlap. A call uses no other memory of the caller and keeps nothing between calls.
+ * Numbers are uint32_t (bm_seek's offset is an int32_t), and any value may come in: one that is out of range is
+ * refused, never misread. A run of bytes is a pointer and then its length. A length of 0 is allowed, with any pointer,
+ * NULL too. The runs of one call must not overlap. A call uses no other memory of the caller and keeps nothing between
+ * calls: which files are open stands in the open table, which is the caller's too. A run that is const is only read.
  *
  * Every call answers one uint64_t: take it apart by BM_NUMBER and BM_VALUE. BM_NUMBER is 0 if the call ended well, else
  * the number of the refusal; BM_VALUE is the value, 0 after a refusal. bm_check and bm_check_system never refuse: there
@@ -13,6 +14,8 @@
  * What does not fit one number is put into `out`, as 32-bit words, low byte first, unless said otherwise. If `out` is
  * shorter than what is to be put there, it is left as it came and the answer is the same: a caller who needs the answer
  * alone gives NULL and 0. A refusal leaves all memory as it came. Bytes of `out` past what is put there stay.
+ *
+ * Each call's comment has its refusals in the order in which they are tested. docs/INTERFACE.md has examples.
  */
 #ifndef BALLADMOOR_H
 #define BALLADMOOR_H
@@ -63,9 +66,52 @@ extern "C" {
 #define BM_ENTRY_START 16u     /* 2 bytes */
 #define BM_ENTRY_FILE_SIZE 18u /* 4 bytes */
 
-/* Refusal numbers of these calls. */
-#define BM_NOT_OF_A_KIND 40u
-#define BM_NOT_SOUND 41u
+/* The open table: records of BM_RECORD_SIZE bytes, one after the other, in bytes that the caller lends. A table of
+ * BM_TABLE_SIZE(n) bytes has n places; no more than BM_PLACES_MOST are used. A program sets all its bytes to 0 before
+ * the first call, when no file is open, and need not look into it later. A handle is the number of a place. */
+#define BM_RECORD_SIZE 16u
+#define BM_PLACES_MOST 16u
+#define BM_TABLE_SIZE(places) (BM_RECORD_SIZE * (places))
+
+/* Where each field stands in a record. Numbers are low byte first; the other bytes are 0 and never looked at. */
+#define BM_RECORD_USED 0u    /* 1 byte: 0 if not used */
+#define BM_RECORD_ACCESS 1u  /* 1 byte: BM_READ, BM_WRITE or BM_READ_AND_WRITE; else the place is not live */
+#define BM_RECORD_WRITTEN 2u /* 1 byte: 0 if not written */
+#define BM_RECORD_SLOT 4u    /* 4 bytes: the file's slot in the root */
+#define BM_RECORD_POINTER 8u /* 4 bytes: the byte of the file where the next read or write begins */
+
+/* Accesses. */
+#define BM_READ 0u
+#define BM_WRITE 1u
+#define BM_READ_AND_WRITE 2u
+
+/* From where bm_seek counts: its methods. */
+#define BM_FROM_START 0u
+#define BM_FROM_POINTER 1u
+#define BM_FROM_END 2u
+
+/* Functions of bm_mode. */
+#define BM_MODE_ASK 0u
+#define BM_MODE_SET 1u
+
+/* Bits of an attribute. */
+#define BM_READ_ONLY 0x01u
+#define BM_HIDDEN 0x02u
+#define BM_SYSTEM 0x04u
+#define BM_LABEL 0x08u /* the label's: no caller may give it */
+#define BM_ARCHIVE 0x20u
+
+/* Refusal numbers: 1 to 12 as in the DOS manual's error return table, then this code's own. */
+#define BM_INVALID_FUNCTION 1u /* no such seek method or mode function; a seek that leads below 0 or too far */
+#define BM_FILE_NOT_FOUND 2u   /* no such plain file */
+#define BM_TOO_MANY_OPEN 4u    /* no unused place */
+#define BM_ACCESS_DENIED 5u    /* see each call */
+#define BM_INVALID_HANDLE 6u   /* the handle is not live: not used, or it names no file of this volume */
+#define BM_INVALID_ACCESS 12u  /* no such access */
+#define BM_NOT_OF_A_KIND 40u   /* the image is of no kind */
+#define BM_NOT_SOUND 41u       /* bm_check finds something */
+#define BM_BAD_NAME 42u        /* a name breaks the rules */
+#define BM_BAD_STAMP 43u       /* a time or date out of its ranges */
 
 /* Makes a blank volume.
  *
@@ -111,6 +157,99 @@ uint64_t bm_free_space(const uint8_t *image, size_t image_length, uint8_t *out, 
  * out: if the value is 1, 22 bytes as stored: name 11, attribute 1, time 2, date 2, start 2, size 4.
  * Refusal: 40 if the image is of no kind. The image is only read. */
 uint64_t bm_entry(const uint8_t *image, size_t image_length, uint32_t slot, uint8_t *out, size_t out_length);
+
+/* ---- Files. All calls from here on want a sound volume.
+ *
+ * A name is its characters, without a byte 0 at the end: 1 to 8, then optionally a dot and 0 to 3 more; letters (small
+ * ones become capitals), digits and $ & # @ ! % ' ( ) - { } _. A stamp is six numbers: hour 0-23, minute 0-59, step (of
+ * two seconds) 0-29, year (from 1980) 0-119, month 1-12, day 1-31. */
+
+/* Opens a file, hidden and system ones too, with the pointer at 0. It takes the lowest unused place.
+ *
+ * Value: the handle.
+ * Refusals: 40, 41; 12 if access is above 2; 42; 2; 5 if the file is read-only and access not BM_READ; 4 if no place is
+ * unused. */
+uint64_t bm_open(const uint8_t *image, size_t image_length, uint8_t *table, size_t table_length, const uint8_t *name,
+                 size_t name_length, uint32_t access);
+
+/* Makes an empty file and opens it with BM_READ_AND_WRITE, even one that is marked read-only.
+ *
+ * A file of that name is emptied: its bytes are lost and its clusters free. Else the lowest erased or never used slot
+ * is taken. The entry gets the attribute and the stamp. It takes the lowest unused place.
+ *
+ * Value: the handle.
+ * Refusals: 40, 41; 42; 43; 5 if attribute has another bit than BM_READ_ONLY, BM_HIDDEN, BM_SYSTEM and BM_ARCHIVE, if
+ * there is a file of that name that is open or read-only, or if there is none and no slot for it; 4 if no place is
+ * unused. */
+uint64_t bm_create(uint8_t *image, size_t image_length, uint8_t *table, size_t table_length, const uint8_t *name,
+                   size_t name_length, uint32_t attribute, uint32_t hour, uint32_t minute, uint32_t step, uint32_t year,
+                   uint32_t month, uint32_t day);
+
+/* Reads from the pointer on, as many bytes as buffer and file allow, and moves the pointer behind them.
+ *
+ * The bytes come to the front of buffer; the rest of it stays.
+ *
+ * Value: how many bytes; 0 with the pointer at or past the end of the file.
+ * Refusals: 40, 41; 6; 5 if the place has BM_WRITE. */
+uint64_t bm_read(const uint8_t *image, size_t image_length, uint8_t *table, size_t table_length, uint32_t handle,
+                 uint8_t *buffer, size_t buffer_length);
+
+/* Writes at the pointer, as many bytes as there is room for, and moves the pointer behind them.
+ *
+ * The room is the file's own clusters and all free ones. Where the pointer was past the end of the file, the bytes
+ * between become 0. The entry's size and start are stored at once. If it writes nothing, nothing changes.
+ *
+ * Value: how many bytes; fewer than data_length if the room ends before, 0 with the pointer at or past it.
+ * Refusals: 40, 41; 6; 5 if the place has BM_READ. */
+uint64_t bm_write(uint8_t *image, size_t image_length, uint8_t *table, size_t table_length, uint32_t handle,
+                  const uint8_t *data, size_t data_length);
+
+/* Moves the pointer by offset from byte 0, from the pointer or from the end of the file. It may stand past the end.
+ *
+ * Value: the pointer.
+ * Refusals: 40, 41; 1 if method is above 2; 6; 1 if the pointer would be below 0 or above 4,294,967,295. */
+uint64_t bm_seek(const uint8_t *image, size_t image_length, uint8_t *table, size_t table_length, uint32_t handle,
+                 uint32_t method, int32_t offset);
+
+/* Closes a file: its place is unused again. If bytes were written by this handle, the entry gets BM_ARCHIVE and the
+ * stamp.
+ *
+ * Value: 0.
+ * Refusals: 40, 41; 43, even where nothing was written; 6. */
+uint64_t bm_close(uint8_t *image, size_t image_length, uint8_t *table, size_t table_length, uint32_t handle,
+                  uint32_t hour, uint32_t minute, uint32_t step, uint32_t year, uint32_t month, uint32_t day);
+
+/* Deletes a file: its clusters are free and its slot is erased.
+ *
+ * Value: 0.
+ * Refusals: 40, 41; 42; 2; 5 if the file is open or read-only. */
+uint64_t bm_delete(uint8_t *image, size_t image_length, const uint8_t *table, size_t table_length, const uint8_t *name,
+                   size_t name_length);
+
+/* Renames a file.
+ *
+ * Value: 0.
+ * Refusals: 40, 41; 42 for either name; 2; 5 if the file is open or read-only, or a file has the new name, itself
+ * included. */
+uint64_t bm_rename(uint8_t *image, size_t image_length, const uint8_t *table, size_t table_length, const uint8_t *name,
+                   size_t name_length, const uint8_t *new_name, size_t new_name_length);
+
+/* Asks for a file's attribute (BM_MODE_ASK; the attribute given is not looked at) or sets it (BM_MODE_SET).
+ *
+ * Value: the attribute for BM_MODE_ASK, 0 for BM_MODE_SET.
+ * Refusals: 40, 41; 1 if function is above 1; 42; 2; and for BM_MODE_SET 5 if attribute has another bit than
+ * BM_READ_ONLY, BM_HIDDEN, BM_SYSTEM and BM_ARCHIVE, or if the file is open. */
+uint64_t bm_mode(uint8_t *image, size_t image_length, const uint8_t *table, size_t table_length, const uint8_t *name,
+                 size_t name_length, uint32_t function, uint32_t attribute);
+
+/* Says whether view, a call for programs in Rattle that gives a part of the image itself, would be refused.
+ *
+ * offset is the byte of the file from which view would begin; none is refused.
+ *
+ * Value: 0.
+ * Refusals: 40, 41; 42; 2. */
+uint64_t bm_view_number(const uint8_t *image, size_t image_length, const uint8_t *name, size_t name_length,
+                        uint32_t offset);
 
 #ifdef __cplusplus
 }

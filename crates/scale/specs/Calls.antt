@@ -1,5 +1,5 @@
--- The calls that need no open table, as C sees them: what each answers, and what stands in the slice that it may write, as a
--- function of what came in.
+-- The calls as C sees them: what each leaves, as one function of what came in. The calls over an open table have this function
+-- from the crates `calls`, `reading` and `filing`; the others have it here.
 use Prim.Native.Nat.{ℕ}
 use mathlib.Core.Bool.{cond}
 use mathlib.Core.List.{List, [], _∷_}
@@ -8,56 +8,71 @@ use lib.Dec.{eqb}
 use Rattle.sound.specs.Judged.{checkOf, checkOfArea}
 use Rattle.sound.specs.declared.Verdict.{Verdict}
 use Rattle.sound.specs.declared.Verdict.the-variants.{Sound, Finding}
+use Rattle.stamps.specs.declared.Stamp.{Stamp}
 use Rattle.volume.specs.Entry.{entryTold}
 use Rattle.volume.specs.Format.{formatted}
 use Rattle.volume.specs.FreeSpace.{freeSpace}
 use Rattle.volume.specs.declared.EntryAnswer.{EntryAnswer}
 use Rattle.volume.specs.declared.FreeAnswer.{FreeAnswer}
-use Rattle.scale.specs.Packing.{packed}
+use Rattle.calls.specs.Outcome.{Outcome, outcome}
+use Rattle.reading.specs.View.{viewOutcome}
+use Rattle.scale.specs.Packing.{upper, lower}
 use Rattle.scale.specs.Out.{put, words, fields}
 
--- the answer, and the slice after the call
-pub record After : Type 0 where
-  pub answer : ℕ
-  pub bytes : List ℕ
+-- What every call promises of its answer and of image, table and buffer after it. `out` is a buffer; a slice that a call only
+-- reads stands here as it came, and one that it does not take is [].
+pub record Leaves (o : Outcome) (answer : ℕ) (image table buffer : List ℕ) : Type 0 where
+  pub is : outcome (upper answer) (lower answer) image table buffer ≡ o
 
-abbrev pub after : ℕ → List ℕ → After
-after answer bytes = record { answer = answer; bytes = bytes }
-
--- what a call promises: it leaves just this
-pub record Leaves (told : After) (answer : ℕ) (bytes : List ℕ) : Type 0 where
-  pub is : after answer bytes ≡ told
+-- ---- the calls that need no open table
 
 -- "bm_format: image, kind; value 0"
-unfoldable pub formatCall : List ℕ → ℕ → After
-formatCall img kind = after (packed (formatted kind img .number) 0) (formatted kind img .image)
+unfoldable pub formatCall : List ℕ → ℕ → Outcome
+formatCall img kind = outcome (formatted kind img .number) 0 (formatted kind img .image) [] []
+
+-- what is told in answer and out, of an image that is only read
+abbrev pub toldOf : List ℕ → Outcome → Outcome
+toldOf img o = outcome (o .number) (o .value) img (o .table) (o .buffer)
 
 -- "check and check_system never refuse: there the upper half is the finding (0: sound) and the lower its place",
 -- "if sound, 16 bytes: files, free, held, aside"
-unfoldable pub verdictTold : Verdict → List ℕ → After
-verdictTold (Sound files free held aside) out = after (packed 0 0) (put out (words (files ∷ free ∷ held ∷ aside ∷ [])))
-verdictTold (Finding number place) out = after (packed number place) out
+unfoldable pub verdictTold : Verdict → List ℕ → Outcome
+verdictTold (Sound files free held aside) out = outcome 0 0 [] [] (put out (words (files ∷ free ∷ held ∷ aside ∷ [])))
+verdictTold (Finding number place) out = outcome number place [] [] out
 
 -- "bm_check: image, out"
-abbrev pub checkCall : List ℕ → List ℕ → After
-checkCall img out = verdictTold (checkOf img) out
+abbrev pub checkCall : List ℕ → List ℕ → Outcome
+checkCall img out = toldOf img (verdictTold (checkOf img) out)
 
 -- "bm_check_system: system area, out"
-abbrev pub checkSystemCall : List ℕ → List ℕ → After
-checkSystemCall area out = verdictTold (checkOfArea area) out
+abbrev pub checkSystemCall : List ℕ → List ℕ → Outcome
+checkSystemCall area out = toldOf area (verdictTold (checkOfArea area) out)
 
 -- "16 bytes: free, clusters, 512, sectors per cluster"; "or the call refuses, it is left as it came"
-unfoldable pub spaceTold : FreeAnswer → List ℕ → After
-spaceTold a out = cond (eqb (a .number) 0) (after (packed 0 (a .free)) (put out (words (a .free ∷ a .clusters ∷ a .sector ∷ a .per ∷ [])))) (after (packed (a .number) 0) out)
+unfoldable pub spaceTold : FreeAnswer → List ℕ → Outcome
+spaceTold a out =
+    cond (eqb (a .number) 0) (outcome 0 (a .free) [] [] (put out (words (a .free ∷ a .clusters ∷ a .sector ∷ a .per ∷ []))))
+    (outcome (a .number) 0 [] [] out)
 
 -- "bm_free_space: image, out; value free clusters"
-abbrev pub freeSpaceCall : List ℕ → List ℕ → After
-freeSpaceCall img out = spaceTold (freeSpace img) out
+abbrev pub freeSpaceCall : List ℕ → List ℕ → Outcome
+freeSpaceCall img out = toldOf img (spaceTold (freeSpace img) out)
 
 -- "1, or 0 for none", "if 1, 22 bytes as stored"
-unfoldable pub entryTaken : EntryAnswer → List ℕ → After
-entryTaken e out = cond (e .found) (after (packed 0 1) (put out (fields (e .name) (e .attr) (e .time) (e .date) (e .start) (e .size)))) (after (packed (e .number) 0) out)
+unfoldable pub entryTaken : EntryAnswer → List ℕ → Outcome
+entryTaken e out =
+    cond (e .found) (outcome 0 1 [] [] (put out (fields (e .name) (e .attr) (e .time) (e .date) (e .start) (e .size))))
+    (outcome (e .number) 0 [] [] out)
 
 -- "bm_entry: image, slot, out"
-abbrev pub entryCall : List ℕ → ℕ → List ℕ → After
-entryCall img slot out = entryTaken (entryTold img slot) out
+abbrev pub entryCall : List ℕ → ℕ → List ℕ → Outcome
+entryCall img slot out = toldOf img (entryTaken (entryTold img slot) out)
+
+-- "bm_view_number: image, name, offset; value 0 (its upper half is view's refusal number)"
+unfoldable pub viewNumberCall : List ℕ → List ℕ → ℕ → Outcome
+viewNumberCall img name offset = outcome (viewOutcome img name offset .number) 0 img [] []
+
+-- ---- "hour, minute, step, year, month, day": a caller's stamp is these six numbers
+
+abbrev pub stampOf : ℕ → ℕ → ℕ → ℕ → ℕ → ℕ → Stamp
+stampOf hour minute step year month day = record { hour = hour; minute = minute; step = step; year = year; month = month; day = day }

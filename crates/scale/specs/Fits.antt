@@ -1,4 +1,4 @@
--- What fits 32 bits: of such numbers packing and words lose nothing.
+-- What fits 32 bits: of such numbers answers and words lose nothing.
 use Prim.Native.Nat.{ℕ, _<_}
 use Rattle.sound.specs.declared.Verdict.{Verdict}
 use Rattle.sound.specs.declared.Verdict.the-variants.{Sound, Finding}
@@ -7,9 +7,16 @@ use Rattle.volume.specs.declared.FreeAnswer.{FreeAnswer}
 abbrev pub Fits : ℕ → Type 0
 Fits n = n < 4294967296
 
-abbrev pub VerdictFits : Verdict → Type 0
-VerdictFits (Sound files free held aside) = Fits files × Fits free × Fits held × Fits aside
-VerdictFits (Finding number place) = Fits number × Fits place
+abbrev pub NumbersFit : Verdict → Type 0
+NumbersFit (Sound files free held aside) = Fits files × Fits free × Fits held × Fits aside
+NumbersFit (Finding number place) = Fits number × Fits place
 
-abbrev pub SpaceFits : FreeAnswer → Type 0
-SpaceFits a = Fits (a .number) × Fits (a .free) × Fits (a .clusters) × Fits (a .sector) × Fits (a .per)
+pub record VerdictFits (v : Verdict) : Type 0 where
+  pub numbers : NumbersFit v
+
+pub record SpaceFits (a : FreeAnswer) : Type 0 where
+  pub number-fits : Fits (a .number)
+  pub free-fits : Fits (a .free)
+  pub clusters-fit : Fits (a .clusters)
+  pub sector-fits : Fits (a .sector)
+  pub per-fits : Fits (a .per)

@@ -1,38 +1,46 @@
 // The calls as the scale's C program sees them (include/balladmoor.h): plain numbers and byte slices in, one number out.
 pub mod answer;
+pub mod files;
 pub mod put;
 
 use sound::Verdict;
 use volume::EntryAnswer;
 use volume::FreeAnswer;
+ghost use mathlib.Core.List.{[]};
 ghost use Rattle.scale.specs.Calls.{Leaves, formatCall, verdictTold, checkCall, checkSystemCall, spaceTold, freeSpaceCall, entryTaken, entryCall};
+ghost use Rattle.scale.specs.Fits.{VerdictFits, SpaceFits};
 
 // Makes a blank volume of the kind.
 #[no_mangle]
 pub extern "C" fn bm_format(img: &mut [u8], kind: u32) -> u64
-    ensures { λ r. ⌜ Leaves (formatCall (now (img .entry)) kind) r (now (img .exit)) ⌝ }
+    ensures { λ r. ⌜ Leaves (formatCall (now (img .entry)) kind) r (now (img .exit)) [] [] ⌝ }
 {
     let number = volume::format::format(img, kind);
-    answer::pack(number as usize, 0)
+    answer::pack(number, 0)
 }
 
 // A verdict as check answers it: the counts in out where the volume is sound, else the finding and its place.
 fn tell_verdict(v: Verdict, out: &mut [u8]) -> u64
-    ensures { λ r. ⌜ Leaves (verdictTold v (now (out .entry))) r (now (out .exit)) ⌝ }
+    requires { ⌜ VerdictFits v ⌝ }
+    ensures { λ r. ⌜ Leaves (verdictTold v (now (out .entry))) r [] [] (now (out .exit)) ⌝ }
 {
     match v {
         Verdict::Sound(files, free, held, aside) => {
             put::four_words(out, files, free, held, aside);
             answer::pack(0, 0)
         }
-        Verdict::Finding(number, place) => answer::pack(number, place),
+        Verdict::Finding(number, place) => {
+            let finding = number as u32;
+            let at = place as u32;
+            answer::pack(finding, at)
+        }
     }
 }
 
 // Judges a whole image.
 #[no_mangle]
 pub extern "C" fn bm_check(img: &[u8], out: &mut [u8]) -> u64
-    ensures { λ r. ⌜ Leaves (checkCall (now (img .entry)) (now (out .entry))) r (now (out .exit)) ⌝ }
+    ensures { λ r. ⌜ Leaves (checkCall (now (img .entry)) (now (out .entry))) r (now (img .entry)) [] (now (out .exit)) ⌝ }
 {
     let v = sound::check(img);
     tell_verdict(v, out)
@@ -41,7 +49,7 @@ pub extern "C" fn bm_check(img: &[u8], out: &mut [u8]) -> u64
 // Judges a system area alone.
 #[no_mangle]
 pub extern "C" fn bm_check_system(area: &[u8], out: &mut [u8]) -> u64
-    ensures { λ r. ⌜ Leaves (checkSystemCall (now (area .entry)) (now (out .entry))) r (now (out .exit)) ⌝ }
+    ensures { λ r. ⌜ Leaves (checkSystemCall (now (area .entry)) (now (out .entry))) r (now (area .entry)) [] (now (out .exit)) ⌝ }
 {
     let v = sound::check_system(area);
     tell_verdict(v, out)
@@ -49,19 +57,20 @@ pub extern "C" fn bm_check_system(area: &[u8], out: &mut [u8]) -> u64
 
 // What free space answers: the four numbers in out where it is not refused.
 fn tell_space(a: FreeAnswer, out: &mut [u8]) -> u64
-    ensures { λ r. ⌜ Leaves (spaceTold a (now (out .entry))) r (now (out .exit)) ⌝ }
+    requires { ⌜ SpaceFits a ⌝ }
+    ensures { λ r. ⌜ Leaves (spaceTold a (now (out .entry))) r [] [] (now (out .exit)) ⌝ }
 {
     if a.number == 0 {
         put::four_words(out, a.free, a.clusters, a.sector, a.per);
-        return answer::pack(0, a.free);
+        return answer::pack(0, a.free as u32);
     }
-    answer::pack(a.number as usize, 0)
+    answer::pack(a.number, 0)
 }
 
 // Counts the free clusters of a sound volume.
 #[no_mangle]
 pub extern "C" fn bm_free_space(img: &[u8], out: &mut [u8]) -> u64
-    ensures { λ r. ⌜ Leaves (freeSpaceCall (now (img .entry)) (now (out .entry))) r (now (out .exit)) ⌝ }
+    ensures { λ r. ⌜ Leaves (freeSpaceCall (now (img .entry)) (now (out .entry))) r (now (img .entry)) [] (now (out .exit)) ⌝ }
 {
     let a = volume::free_space::free_space(img);
     tell_space(a, out)
@@ -69,20 +78,20 @@ pub extern "C" fn bm_free_space(img: &[u8], out: &mut [u8]) -> u64
 
 // What entry at a slot answers: the fields in out where there is an entry.
 fn tell_entry(e: EntryAnswer, out: &mut [u8]) -> u64
-    ensures { λ r. ⌜ Leaves (entryTaken e (now (out .entry))) r (now (out .exit)) ⌝ }
+    ensures { λ r. ⌜ Leaves (entryTaken e (now (out .entry))) r [] [] (now (out .exit)) ⌝ }
 {
     if e.found {
         let name = e.name;
         put::entry_fields(out, name, e.attr, e.time, e.date, e.start, e.size);
         return answer::pack(0, 1);
     }
-    answer::pack(e.number as usize, 0)
+    answer::pack(e.number, 0)
 }
 
 // Gives the directory entry at a slot of the root.
 #[no_mangle]
 pub extern "C" fn bm_entry(img: &[u8], slot: u32, out: &mut [u8]) -> u64
-    ensures { λ r. ⌜ Leaves (entryCall (now (img .entry)) slot (now (out .entry))) r (now (out .exit)) ⌝ }
+    ensures { λ r. ⌜ Leaves (entryCall (now (img .entry)) slot (now (out .entry))) r (now (img .entry)) [] (now (out .exit)) ⌝ }
 {
     let e = volume::entry::entry(img, slot);
     tell_entry(e, out)

@@ -1,5 +1,6 @@
 -- The verdict that is told is the one that the image has.
 use Rattle.scale.specs.Laws.Calls.{check-leaves}
+use Rattle.scale.specs.Laws.Fits.{check-fits}
 use borrow.Author.Needs.{needs}
 use Rattle.scale.proofs.bm_check.Statement.{statement}
 use Rattle.scale.proofs.bm_check.Tie as tie
@@ -8,7 +9,7 @@ check-requires : tie.Need-check-requires
 check-requires c κs = search needs
 
 tell-verdict-requires : tie.Need-tell-verdict-requires
-tell-verdict-requires c κs = search needs
+tell-verdict-requires c κs = search check-fits
 
 same-length : tie.Need-same-length
 same-length c = search needs

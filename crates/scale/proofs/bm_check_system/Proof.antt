@@ -1,5 +1,6 @@
 -- The verdict that is told is the one that the system area has.
 use Rattle.scale.specs.Laws.Calls.{area-leaves}
+use Rattle.scale.specs.Laws.Fits.{area-fits}
 use borrow.Author.Needs.{needs}
 use Rattle.scale.proofs.bm_check_system.Statement.{statement}
 use Rattle.scale.proofs.bm_check_system.Tie as tie
@@ -8,7 +9,7 @@ check-system-requires : tie.Need-check-system-requires
 check-system-requires c κs = search needs
 
 tell-verdict-requires : tie.Need-tell-verdict-requires
-tell-verdict-requires c κs = search needs
+tell-verdict-requires c κs = search area-fits
 
 same-length : tie.Need-same-length
 same-length c = search needs

@@ -7,9 +7,6 @@ use Rattle.scale.proofs.bm_format.Tie as tie
 format-requires : tie.Need-format-requires
 format-requires c κs = search needs
 
-cast-pack : tie.Need-cast-pack
-cast-pack c = search needs
-
 pack-requires : tie.Need-pack-requires
 pack-requires c κs = search needs
 
@@ -20,4 +17,4 @@ returns : tie.Need-returns
 returns c = search format-leaves
 
 pub bm-format-spec : {M : Type 1} → statement M
-bm-format-spec = tie.close (tie.spec format-requires cast-pack pack-requires same-length returns)
+bm-format-spec = tie.close (tie.spec format-requires pack-requires same-length returns)

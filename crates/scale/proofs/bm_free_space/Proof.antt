@@ -1,5 +1,6 @@
 -- What is told is what free space answers of the image.
 use Rattle.scale.specs.Laws.Calls.{space-leaves}
+use Rattle.scale.specs.Laws.Fits.{space-fits}
 use borrow.Author.Needs.{needs}
 use Rattle.scale.proofs.bm_free_space.Statement.{statement}
 use Rattle.scale.proofs.bm_free_space.Tie as tie
@@ -8,7 +9,7 @@ free-space-requires : tie.Need-free-space-requires
 free-space-requires c κs = search needs
 
 tell-space-requires : tie.Need-tell-space-requires
-tell-space-requires c κs = search needs
+tell-space-requires c κs = search space-fits
 
 same-length : tie.Need-same-length
 same-length c = search needs

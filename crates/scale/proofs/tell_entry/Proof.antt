@@ -16,9 +16,6 @@ same-length c = search needs
 returns : tie.Need-returns
 returns c = search entry-put
 
-cast-pack : tie.Need-cast-pack
-cast-pack c = search needs
-
 pack-requires-2 : tie.Need-pack-requires-2
 pack-requires-2 c κs = search needs
 
@@ -33,6 +30,5 @@ tell-entry-spec =
     pack-requires
     same-length
     returns
-    cast-pack
     pack-requires-2
     returns-2)

@@ -7,6 +7,9 @@ use Rattle.scale.proofs.tell_space.Tie as tie
 four-words-requires : tie.Need-four-words-requires
 four-words-requires c κs = search needs
 
+cast-pack : tie.Need-cast-pack
+cast-pack c = search needs
+
 pack-requires : tie.Need-pack-requires
 pack-requires c κs = search needs
 
@@ -15,9 +18,6 @@ same-length c = search needs
 
 returns : tie.Need-returns
 returns c = search space-put
-
-cast-pack : tie.Need-cast-pack
-cast-pack c = search needs
 
 pack-requires-2 : tie.Need-pack-requires-2
 pack-requires-2 c κs = search needs
@@ -30,9 +30,9 @@ tell-space-spec =
     tie.close
     (tie.spec
     four-words-requires
+    cast-pack
     pack-requires
     same-length
     returns
-    cast-pack
     pack-requires-2
     returns-2)

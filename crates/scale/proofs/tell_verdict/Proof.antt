@@ -1,5 +1,6 @@
 -- Each arm is one case of the rule.
 use Rattle.scale.specs.Laws.Calls.{sound-leaves, finding-leaves}
+use Rattle.scale.specs.Laws.Fits.{number-fits, place-fits}
 use borrow.Author.Needs.{needs}
 use Rattle.scale.proofs.tell_verdict.Statement.{statement}
 use Rattle.scale.proofs.tell_verdict.Tie as tie
@@ -15,6 +16,12 @@ pack-requires c κs = search needs
 
 enum-known-v-2 : tie.Need-enum-known-v-2
 enum-known-v-2 c = search needs
+
+cast-finding : tie.Need-cast-finding
+cast-finding c = search number-fits
+
+cast-at : tie.Need-cast-at
+cast-at c = search place-fits
 
 pack-requires-2 : tie.Need-pack-requires-2
 pack-requires-2 c κs = search needs
@@ -36,6 +43,8 @@ tell-verdict-spec =
     four-words-requires
     pack-requires
     enum-known-v-2
+    cast-finding
+    cast-at
     pack-requires-2
     same-length
     returns

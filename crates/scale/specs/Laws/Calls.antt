@@ -4,72 +4,118 @@ use mathlib.Core.Bool.{true, false}
 use mathlib.Core.List.{List, [], _∷_}
 use mathlib.Core.Logic.{_≢_}
 use mathlib.Core.Path.{_≡_, sym, ap, _∙_}
+use lib.IntN.{ℤ}
+use mir.Syntax.{w32}
+use mir.Val.{SFits, toZ, ofZ}
 use borrow.Author.Tests.{eq-eqb, ne-eqb}
 use Rattle.sound.specs.Answer.{Checked, CheckedArea}
 use Rattle.sound.specs.Laws.OneAnswer.{checked-is, area-is}
 use Rattle.sound.specs.declared.Verdict.{Verdict}
 use Rattle.sound.specs.declared.Verdict.the-variants.{Sound, Finding}
 use Rattle.volume.specs.Entry.{Told}
-use Rattle.volume.specs.Format.{Outcome, Formatted}
+use Rattle.volume.specs.Format as blank
+use Rattle.volume.specs.Format.{Formatted}
 use Rattle.volume.specs.FreeSpace.{Spaced}
 use Rattle.volume.specs.declared.EntryAnswer.{EntryAnswer}
 use Rattle.volume.specs.declared.FreeAnswer.{FreeAnswer}
-use Rattle.scale.specs.Packing.{packed}
+use Rattle.calls.specs.Outcome.{Outcome, outcome}
+use Rattle.calls.specs.Close.{closeOutcome, Closes}
+use Rattle.calls.specs.Seek.{seekOutcome, Seeks}
+use Rattle.calls.specs.Laws.Seek.{seek-handed}
+use Rattle.calls.specs.declared.Answer.{Answer}
+use Rattle.filing.specs.Create.{createOutcome, Creates}
+use Rattle.reading.specs.View.{ViewNumbers}
+use Rattle.stamps.specs.declared.Stamp.{Stamp}
+use Rattle.scale.specs.Packing.{Packs}
 use Rattle.scale.specs.Out.{put, words, fields}
-use Rattle.scale.specs.Calls.{After, after, Leaves, formatCall, verdictTold, checkCall, checkSystemCall, spaceTold, freeSpaceCall, entryTaken, entryCall}
+use Rattle.scale.specs.Laws.Packing.{same-halves}
+use Rattle.scale.specs.Calls.{Leaves, formatCall, toldOf, verdictTold, checkCall, checkSystemCall, spaceTold, freeSpaceCall, entryTaken, entryCall, viewNumberCall}
+
+-- ---- no second outcome satisfies the contract of a call
+
+pub leaves-only : (o : Outcome) (a b : ℕ) (image image′ table table′ buffer buffer′ : List ℕ) → Leaves o a image table buffer → Leaves o b image′ table′ buffer′
+    → (a ≡ b) × (image ≡ image′) × (table ≡ table′) × (buffer ≡ buffer′)
+leaves-only o a b image image′ table table′ buffer buffer′ s t =
+    let e = s .is ∙ sym (t .is) in
+    (same-halves a b (ap (λ (x : Outcome). x .number) e) (ap (λ (x : Outcome). x .value) e), ap (λ (x : Outcome). x .image) e, ap (λ (x : Outcome). x .table) e, ap (λ (x : Outcome). x .buffer) e)
+
+-- ---- the calls over an open table: a is what the call answered
+
+pub hands : (o : Outcome) (a : Answer) (r : ℕ) (image table buffer : List ℕ) → outcome (a .number) (a .value) image table buffer ≡ o → Packs (a .number) (a .value) r
+    → Leaves o r image table buffer
+hands o a r image table buffer e p = record { is = rw (p .number-is, p .value-is) e }
+
+-- the stamp goes over as what was built of its six numbers
+module _ (img t : List ℕ) (built stamp : Stamp) (same : built ≡ stamp) (a : Answer) (r : ℕ) (m u : List ℕ) where
+  pub create-hands : (name : List ℕ) (attr : ℕ) → Creates img t name attr built a m u → Packs (a .number) (a .value) r → Leaves (createOutcome img t name attr stamp) r m u []
+  create-hands name attr x p = hands _ a r m u [] (x .is ∙ ap (createOutcome img t name attr) same) p
+
+  pub close-hands : (handle : ℕ) → Closes img t handle built a m u → Packs (a .number) (a .value) r → Leaves (closeOutcome img t handle stamp) r m u []
+  close-hands handle x p = hands _ a r m u [] (x .is ∙ ap (closeOutcome img t handle) same) p
+
+-- the offset goes over to seek as its 32 bits
+pub seek-hands : (img t : List ℕ) (handle method : ℕ) (offset : ℤ) (a : Answer) (r : ℕ) (m : List ℕ) → SFits w32 offset
+    → Seeks img t handle method (toZ w32 (ofZ w32 offset)) a m → Packs (a .number) (a .value) r → Leaves (seekOutcome img t handle method offset) r img m []
+seek-hands img t handle method offset a r m fits x p = hands _ a r img m [] (seek-handed img t handle method offset a m fits x .is) p
 
 -- ---- format: n is the number that it answered
 
-pub format-leaves : (l : List ℕ) (kind n r : ℕ) (m : List ℕ) → Formatted l kind n m → r ≡ packed n 0 → Leaves (formatCall l kind) r m
+pub format-leaves : (l : List ℕ) (kind n r : ℕ) (m : List ℕ) → Formatted l kind n m → Packs n 0 r → Leaves (formatCall l kind) r m [] []
 unfolding formatCall
-format-leaves l kind n r m f h = record { is = rw h (ap (λ (o : Outcome). after (packed (o .number) 0) (o .image)) (f .is)) }
+format-leaves l kind n r m f p = record { is = rw (p .number-is, p .value-is) (ap (λ (o : blank.Outcome). outcome (o .number) 0 (o .image) [] []) (f .is)) }
+
+-- ---- what is told of an image that is only read
+
+told-leaves : (img : List ℕ) (o : Outcome) (r : ℕ) (m : List ℕ) → Leaves o r [] [] m → Leaves (toldOf img o) r img [] m
+told-leaves img o r m s = record { is = ap (toldOf img) (s .is) }
 
 -- ---- check: v is the verdict
 
 module _ (out : List ℕ) (v : Verdict) (r : ℕ) where
-  pub sound-leaves : (files free held aside : ℕ) (m : List ℕ) → v ≡ Sound files free held aside → m ≡ put out (words (files ∷ free ∷ held ∷ aside ∷ [])) → r ≡ packed 0 0 → Leaves (verdictTold v out) r m
+  pub sound-leaves : (files free held aside : ℕ) (m : List ℕ) → v ≡ Sound files free held aside → m ≡ put out (words (files ∷ free ∷ held ∷ aside ∷ [])) → Packs 0 0 r → Leaves (verdictTold v out) r [] [] m
   unfolding verdictTold
-  sound-leaves files free held aside m e p h = record { is = rw (e, p, h) }
+  sound-leaves files free held aside m e p h = record { is = rw (e, p, h .number-is, h .value-is) }
 
-  pub finding-leaves : (number place : ℕ) → v ≡ Finding number place → r ≡ packed number place → Leaves (verdictTold v out) r out
+  pub finding-leaves : (number place : ℕ) → v ≡ Finding number place → Packs number place r → Leaves (verdictTold v out) r [] [] out
   unfolding verdictTold
-  finding-leaves number place e h = record { is = rw (e, h) }
+  finding-leaves number place e h = record { is = rw (e, h .number-is, h .value-is) }
 
-  pub check-leaves : (img m : List ℕ) → Checked img v → Leaves (verdictTold v out) r m → Leaves (checkCall img out) r m
-  check-leaves img m a s = record { is = s .is ∙ ap (λ w. verdictTold w out) (checked-is a) }
+  pub check-leaves : (img m : List ℕ) → Checked img v → Leaves (verdictTold v out) r [] [] m → Leaves (checkCall img out) r img [] m
+  check-leaves img m a s = told-leaves img (verdictTold _ out) r m (record { is = s .is ∙ ap (λ w. verdictTold w out) (checked-is a) })
 
-  pub area-leaves : (area m : List ℕ) → CheckedArea area v → Leaves (verdictTold v out) r m → Leaves (checkSystemCall area out) r m
-  area-leaves area m a s = record { is = s .is ∙ ap (λ w. verdictTold w out) (area-is a) }
+  pub area-leaves : (area m : List ℕ) → CheckedArea area v → Leaves (verdictTold v out) r [] [] m → Leaves (checkSystemCall area out) r area [] m
+  area-leaves area m a s = told-leaves area (verdictTold _ out) r m (record { is = s .is ∙ ap (λ w. verdictTold w out) (area-is a) })
 
 -- ---- free space: a is what it answered
 
 module _ (out : List ℕ) (a : FreeAnswer) (r : ℕ) where
-  pub space-put : (m : List ℕ) → a .number ≡ 0 → m ≡ put out (words (a .free ∷ a .clusters ∷ a .sector ∷ a .per ∷ [])) → r ≡ packed 0 (a .free) → Leaves (spaceTold a out) r m
+  pub space-put : (m : List ℕ) → a .number ≡ 0 → m ≡ put out (words (a .free ∷ a .clusters ∷ a .sector ∷ a .per ∷ [])) → Packs 0 (a .free) r → Leaves (spaceTold a out) r [] [] m
   unfolding spaceTold
-  space-put m e p h = record { is = rw (eq-eqb (a .number) 0 e, p, h) }
+  space-put m e p h = record { is = rw (eq-eqb (a .number) 0 e, p, h .number-is, h .value-is) }
 
-  pub space-refused : a .number ≢ 0 → r ≡ packed (a .number) 0 → Leaves (spaceTold a out) r out
+  pub space-refused : a .number ≢ 0 → Packs (a .number) 0 r → Leaves (spaceTold a out) r [] [] out
   unfolding spaceTold
-  space-refused d h = record { is = rw (ne-eqb (a .number) 0 d, h) }
+  space-refused d h = record { is = rw (ne-eqb (a .number) 0 d, h .number-is, h .value-is) }
 
-  pub space-leaves : (img m : List ℕ) → Spaced img a → Leaves (spaceTold a out) r m → Leaves (freeSpaceCall img out) r m
-  space-leaves img m t s = record { is = s .is ∙ ap (λ w. spaceTold w out) (t .is) }
+  pub space-leaves : (img m : List ℕ) → Spaced img a → Leaves (spaceTold a out) r [] [] m → Leaves (freeSpaceCall img out) r img [] m
+  space-leaves img m t s = told-leaves img (spaceTold _ out) r m (record { is = s .is ∙ ap (λ w. spaceTold w out) (t .is) })
 
 -- ---- entry: e is what it answered
 
 module _ (out : List ℕ) (e : EntryAnswer) (r : ℕ) where
-  pub entry-put : (m : List ℕ) → e .found ≡ true → m ≡ put out (fields (e .name) (e .attr) (e .time) (e .date) (e .start) (e .size)) → r ≡ packed 0 1 → Leaves (entryTaken e out) r m
+  pub entry-put : (m : List ℕ) → e .found ≡ true → m ≡ put out (fields (e .name) (e .attr) (e .time) (e .date) (e .start) (e .size)) → Packs 0 1 r → Leaves (entryTaken e out) r [] [] m
   unfolding entryTaken
-  entry-put m f p h = record { is = rw (f, p, h) }
+  entry-put m f p h = record { is = rw (f, p, h .number-is, h .value-is) }
 
-  pub entry-none : e .found ≡ false → r ≡ packed (e .number) 0 → Leaves (entryTaken e out) r out
+  pub entry-none : e .found ≡ false → Packs (e .number) 0 r → Leaves (entryTaken e out) r [] [] out
   unfolding entryTaken
-  entry-none f h = record { is = rw (f, h) }
+  entry-none f h = record { is = rw (f, h .number-is, h .value-is) }
 
-  pub entry-leaves : (img : List ℕ) (slot : ℕ) (m : List ℕ) → Told img slot e → Leaves (entryTaken e out) r m → Leaves (entryCall img slot out) r m
-  entry-leaves img slot m t s = record { is = s .is ∙ ap (λ w. entryTaken w out) (t .is) }
+  pub entry-leaves : (img : List ℕ) (slot : ℕ) (m : List ℕ) → Told img slot e → Leaves (entryTaken e out) r [] [] m → Leaves (entryCall img slot out) r img [] m
+  entry-leaves img slot m t s = told-leaves img (entryTaken _ out) r m (record { is = s .is ∙ ap (λ w. entryTaken w out) (t .is) })
 
--- ---- no second outcome satisfies the contract of a call
+-- ---- view: n is the number that its second call answered
 
-pub leaves-only : (told : After) (a b : ℕ) (x y : List ℕ) → Leaves told a x → Leaves told b y → (a ≡ b) × (x ≡ y)
-leaves-only told a b x y s t = let e = s .is ∙ sym (t .is) in (ap (λ (o : After). o .answer) e, ap (λ (o : After). o .bytes) e)
+pub view-number-leaves : (img name : List ℕ) (offset n r : ℕ) → ViewNumbers img name offset n → Packs n 0 r → Leaves (viewNumberCall img name offset) r img [] []
+unfolding viewNumberCall
+view-number-leaves img name offset n r v h = record { is = rw (h .number-is, h .value-is, v .is) }

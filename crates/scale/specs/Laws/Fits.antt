@@ -1,5 +1,5 @@
 -- Every number that check and free space answer fits 32 bits.
-use Prim.Native.Nat.{ℕ, zero, suc, _/_, _%_, _≤_, _<_}
+use Prim.Native.Nat.{ℕ, zero, suc, _≤_, _<_}
 use native.Mathlib.Omega.{arith}
 use mathlib.Core.Bool.{Bool, true, false}
 use mathlib.Core.List.{List, _∷_}
@@ -22,23 +22,20 @@ use Rattle.diskette.specs.Laws.Kinds.{OfKnown, of-cond}
 use Rattle.diskette.specs.declared.Kind.{Kind}
 use Rattle.diskette.specs.declared.WhichKind.{WhichKind}
 use Rattle.diskette.specs.declared.WhichKind.the-variants.{Known, Unknown}
-use Rattle.sound.specs.Answer.{AnswersOf, AnswersBy}
+use Rattle.sound.specs.Answer.{AnswersOf, AnswersBy, Checked, CheckedArea}
 use Rattle.sound.specs.Counts.{plainSlot}
 use Rattle.sound.specs.Files.{ChainOf}
 use Rattle.sound.specs.Findings.{TablesDiffer, BadValue, BadSlot, BadChain, InTwoChains, Lost}
 use Rattle.sound.specs.FromFinding.{FromLost, FromTwo, FromChains, FromSlots, FromValues, Counted, NoFinding}
-use Rattle.sound.specs.Judged.{checkOf, checkOfArea}
-use Rattle.sound.specs.Laws.Answer.{check-answers, area-answers}
 use Rattle.sound.specs.Laws.IsSound.{known-says}
 use Rattle.sound.specs.Laws.Sound.{sound-exactly}
 use Rattle.sound.specs.Laws.Total.{total}
 use Rattle.sound.specs.declared.Verdict.{Verdict}
 use Rattle.sound.specs.declared.Verdict.the-variants.{Finding}
-use Rattle.volume.specs.FreeSpace.{freeSpace}
+use Rattle.volume.specs.FreeSpace.{noSpace, freeSpace, Spaced}
+use Rattle.volume.specs.declared.FreeAnswer.{FreeAnswer}
 use Rattle.volume.specs.Laws.FreeSpace.{space-unknown, space-unsound, space-sound}
-use Rattle.scale.specs.Calls.{verdictTold, checkCall, checkSystemCall}
 use Rattle.scale.specs.Fits.{Fits, VerdictFits, SpaceFits}
-use Rattle.scale.specs.Laws.Packing.{upper-half, lower-half}
 
 -- ---- what bounds them
 
@@ -77,10 +74,13 @@ chain-link k l s c cs (as-many z n q) m = each (Link (lastCluster k)) cs (q .in-
 
 -- ---- a verdict
 
+finding-fits : (number place : ℕ) → Fits number → Fits place → VerdictFits (Finding number place)
+finding-fits number place n p = record { numbers = (n, p) }
+
 module _ (k : Kind) (u : Usable k) (f : k .fat ≤ 2) (l : List ℕ) where
   after : (B : ℕ → Type 0) (n : ℕ) (Rest : Verdict → Type 0) (v : Verdict) → n < 8 → ((p : ℕ) → B p → Fits p) → (None B → Rest v → VerdictFits v)
       → OrElse ltb B (Finding n) Rest v → VerdictFits v
-  after B n Rest v h fits rest (inl x) = subst VerdictFits (sym (x .2)) (omega arith, fits (x .0) (x .1 .0))
+  after B n Rest v h fits rest (inl x) = subst VerdictFits (sym (x .2)) (finding-fits n (x .0) (omega arith) (fits (x .0) (x .1 .0)))
   after B n Rest v h fits rest (inr x) = rest (x .0) (x .1)
 
   counts-fit : (v : Verdict) → NoFinding k l → Counted k l v → VerdictFits v
@@ -89,7 +89,7 @@ module _ (k : Kind) (u : Usable k) (f : k .fat ≤ 2) (l : List ℕ) where
       let files = tally-low (plainSlot l (rootAt k)) (rootEntries k) 0 in
       let c = u .below-aside in
       let r = u .few-slots in
-      subst VerdictFits (sym e) (omega arith, omega arith, omega arith, omega arith)
+      subst VerdictFits (sym e) (record { numbers = (omega arith, omega arith, omega arith, omega arith) })
 
   answer-fits : (v : Verdict) → AnswersOf k l v → VerdictFits v
   answer-fits v =
@@ -103,38 +103,34 @@ module _ (k : Kind) (u : Usable k) (f : k .fat ≤ 2) (l : List ℕ) where
 
 fits-by : (w : WhichKind) (l : List ℕ) (v : Verdict) → ((k : Kind) → w ≡ Known k → Usable k × (k .fat ≤ 2)) → AnswersBy w l v → VerdictFits v
 fits-by (Known k) l v known a = answer-fits k (known k refl .0) (known k refl .1) l v a
-fits-by Unknown l v known a = subst VerdictFits (sym a) (omega arith, omega arith)
+fits-by Unknown l v known a = subst VerdictFits (sym a) (finding-fits 1 0 (omega arith) (omega arith))
 
-pub check-fits : (img : List ℕ) → VerdictFits (checkOf img)
-check-fits img = fits-by (kindOfImage img) img (checkOf img) (λ k e. (image-usable img k e, few k (image-of-kind img k .0 e .listed))) (check-answers img .is)
+pub check-fits : (img : List ℕ) (v : Verdict) → Checked img v → VerdictFits v
+check-fits img v a = fits-by (kindOfImage img) img v (λ k e. (image-usable img k e, few k (image-of-kind img k .0 e .listed))) (a .is)
 
-pub area-fits : (area : List ℕ) → VerdictFits (checkOfArea area)
-area-fits area = fits-by (kindOfArea area) area (checkOfArea area) (λ k e. (area-usable area k e, few k (area-of-kind area k .0 e .listed))) (area-answers area .is)
+pub area-fits : (area : List ℕ) (v : Verdict) → CheckedArea area v → VerdictFits v
+area-fits area v a = fits-by (kindOfArea area) area v (λ k e. (area-usable area k e, few k (area-of-kind area k .0 e .listed))) (a .is)
+
+-- so a finding and its place can be handed on as 32 bits each
+module _ (v : Verdict) (f : VerdictFits v) (number place : ℕ) (e : v ≡ Finding number place) where
+  pub number-fits : number < 4294967296
+  number-fits = subst VerdictFits e f .numbers .0
+
+  pub place-fits : place < 4294967296
+  place-fits = subst VerdictFits e f .numbers .1
 
 -- ---- free space
 
-pub space-fits : (img : List ℕ) → SpaceFits (freeSpace img)
-space-fits img = go (kindOfImage img) refl
+refused-fits : (n : ℕ) → Fits n → SpaceFits (noSpace n)
+refused-fits n h = record { number-fits = h; free-fits = omega arith; clusters-fit = omega arith; sector-fits = omega arith; per-fits = omega arith }
+
+pub space-fits : (img : List ℕ) (a : FreeAnswer) → Spaced img a → SpaceFits a
+space-fits img a t = subst SpaceFits (sym (t .is)) (go (kindOfImage img) refl)
   where
     go : (w : WhichKind) → kindOfImage img ≡ w → SpaceFits (freeSpace img)
     go (Known k) e = elim (says-dec (known-says img k e)) [
       | yes s ↦ let u = image-usable img k e in let t = total k u img s in
-          subst SpaceFits (sym (space-sound img k e s)) (omega arith, omega (arith, u .below-aside), omega (arith, u .below-aside), omega arith, omega (arith, u .per-high))
-      | no n ↦ subst SpaceFits (sym (space-unsound img k e n)) (omega arith, omega arith, omega arith, omega arith, omega arith)
+          subst SpaceFits (sym (space-sound img k e s)) (record { number-fits = omega arith; free-fits = omega (arith, u .below-aside); clusters-fit = omega (arith, u .below-aside); sector-fits = omega arith; per-fits = omega (arith, u .per-high) })
+      | no n ↦ subst SpaceFits (sym (space-unsound img k e n)) (refused-fits 41 (omega arith))
     ]
-    go Unknown e = subst SpaceFits (sym (space-unknown img e)) (omega arith, omega arith, omega arith, omega arith, omega arith)
-
--- ---- so a finding and its place can be had back from the answer
-
-told-halves : (v : Verdict) (out : List ℕ) (number place : ℕ) → VerdictFits v → v ≡ Finding number place
-    → (verdictTold v out .answer / 4294967296 ≡ number) × (verdictTold v out .answer % 4294967296 ≡ place)
-unfolding verdictTold
-told-halves v out number place f e = let g = subst VerdictFits e f in rw e (upper-half number place (g .0), lower-half number place (g .1))
-
-pub check-halves : (img out : List ℕ) (number place : ℕ) → checkOf img ≡ Finding number place
-    → (checkCall img out .answer / 4294967296 ≡ number) × (checkCall img out .answer % 4294967296 ≡ place)
-check-halves img out number place e = told-halves (checkOf img) out number place (check-fits img) e
-
-pub area-halves : (area out : List ℕ) (number place : ℕ) → checkOfArea area ≡ Finding number place
-    → (checkSystemCall area out .answer / 4294967296 ≡ number) × (checkSystemCall area out .answer % 4294967296 ≡ place)
-area-halves area out number place e = told-halves (checkOfArea area) out number place (area-fits area) e
+    go Unknown e = subst SpaceFits (sym (space-unknown img e)) (refused-fits 40 (omega arith))

@@ -1,14 +1,11 @@
--- Both halves of an answer can be had back.
-use Prim.Native.Nat.{ℕ, _/_, _%_, _<_}
+-- Packing, and that the two halves settle an answer.
+use Prim.Native.Nat.{ℕ, _+_, _*_, _<_}
 use native.Mathlib.Omega.{arith}
 use mathlib.Core.Path.{_≡_}
-use Rattle.scale.specs.Packing.{packed}
+use Rattle.scale.specs.Packing.{upper, lower, Packs}
 
-module _ (number value : ℕ) where
-  pub upper-half : number < 4294967296 → packed number value / 4294967296 ≡ number
-  unfolding packed
-  upper-half h = omega arith
+pub packs : (number value r : ℕ) → number < 4294967296 → value < 4294967296 → r ≡ number * 4294967296 + value → Packs number value r
+packs number value r n v e = record { number-is = omega arith; value-is = omega arith }
 
-  pub lower-half : value < 4294967296 → packed number value % 4294967296 ≡ value
-  unfolding packed
-  lower-half h = omega arith
+pub same-halves : (a b : ℕ) → upper a ≡ upper b → lower a ≡ lower b → a ≡ b
+same-halves a b u l = omega arith

@@ -1,5 +1,5 @@
--- Both halves are below 2^32, so the sum is what the definition says.
-use Rattle.scale.specs.Packing.{packed}
+-- Both halves are below 2^32, so each can be had back.
+use Rattle.scale.specs.Laws.Packing.{packs}
 use borrow.Author.Needs.{needs}
 use Rattle.scale.proofs.answer.pack.Statement.{statement}
 use Rattle.scale.proofs.answer.pack.Tie as tie
@@ -11,8 +11,7 @@ add-result : tie.Need-add-result
 add-result c = search needs
 
 returns : tie.Need-returns
-unfolding packed
-returns c = cc
+returns c = search packs
 
 pub pack-spec : {M : Type 1} → statement M
 pack-spec = tie.close (tie.spec mul-result add-result returns)

@@ -1,0 +1,124 @@
+// The calls over an open table, and view's number: a file's name and the table are byte slices too.
+use crate::answer;
+use stamps::Stamp;
+ghost use mathlib.Core.List.{[]};
+ghost use mathlib.Core.Path.{_≡_};
+ghost use Rattle.calls.specs.Close.{closeOutcome};
+ghost use Rattle.calls.specs.Mode.{modeOutcome};
+ghost use Rattle.calls.specs.Open.{openOutcome};
+ghost use Rattle.calls.specs.Rename.{renameOutcome};
+ghost use Rattle.calls.specs.Seek.{seekOutcome};
+ghost use Rattle.filing.specs.Create.{createOutcome};
+ghost use Rattle.filing.specs.Delete.{deleteOutcome};
+ghost use Rattle.reading.specs.Read.{readOutcome};
+ghost use Rattle.scale.specs.Calls.{Leaves, viewNumberCall, stampOf};
+
+// The six numbers of a caller's stamp.
+fn stamp(hour: u32, minute: u32, step: u32, year: u32, month: u32, day: u32) -> Stamp
+    ensures { λ r. ⌜ r ≡ stampOf hour minute step year month day ⌝ }
+{
+    Stamp {
+        hour,
+        minute,
+        step,
+        year,
+        month,
+        day,
+    }
+}
+
+// Opens a file: the value is its handle.
+#[no_mangle]
+pub extern "C" fn bm_open(img: &[u8], t: &mut [u8], name: &[u8], access: u32) -> u64
+    ensures { λ r. ⌜ Leaves (openOutcome (now (img .entry)) (now (t .entry)) (now (name .entry)) access) r (now (img .entry)) (now (t .exit)) [] ⌝ }
+{
+    answer::hand(calls::open::open(img, t, name, access))
+}
+
+// Creates or empties a file and opens it: the value is its handle.
+#[no_mangle]
+pub extern "C" fn bm_create(
+    img: &mut [u8],
+    t: &mut [u8],
+    name: &[u8],
+    attr: u32,
+    hour: u32,
+    minute: u32,
+    step: u32,
+    year: u32,
+    month: u32,
+    day: u32,
+) -> u64
+    ensures { λ r. ⌜ Leaves (createOutcome (now (img .entry)) (now (t .entry)) (now (name .entry)) attr (stampOf hour minute step year month day)) r (now (img .exit)) (now (t .exit)) [] ⌝ }
+{
+    let created = stamp(hour, minute, step, year, month, day);
+    answer::hand(filing::create::create(img, t, name, attr, created))
+}
+
+// Reads from the pointer on: the value is the count.
+#[no_mangle]
+pub extern "C" fn bm_read(img: &[u8], t: &mut [u8], handle: u32, buf: &mut [u8]) -> u64
+    ensures { λ r. ⌜ Leaves (readOutcome (now (img .entry)) (now (t .entry)) handle (now (buf .entry))) r (now (img .entry)) (now (t .exit)) (now (buf .exit)) ⌝ }
+{
+    answer::hand(reading::read::read(img, t, handle, buf))
+}
+
+// Moves a pointer: the value is where it then stands.
+#[no_mangle]
+pub extern "C" fn bm_seek(img: &[u8], t: &mut [u8], handle: u32, method: u32, offset: i32) -> u64
+    ensures { λ r. ⌜ Leaves (seekOutcome (now (img .entry)) (now (t .entry)) handle method offset) r (now (img .entry)) (now (t .exit)) [] ⌝ }
+{
+    answer::hand(calls::seek::seek(img, t, handle, method, offset))
+}
+
+// Closes a file.
+#[no_mangle]
+pub extern "C" fn bm_close(
+    img: &mut [u8],
+    t: &mut [u8],
+    handle: u32,
+    hour: u32,
+    minute: u32,
+    step: u32,
+    year: u32,
+    month: u32,
+    day: u32,
+) -> u64
+    ensures { λ r. ⌜ Leaves (closeOutcome (now (img .entry)) (now (t .entry)) handle (stampOf hour minute step year month day)) r (now (img .exit)) (now (t .exit)) [] ⌝ }
+{
+    let closed = stamp(hour, minute, step, year, month, day);
+    answer::hand(calls::close::close(img, t, handle, closed))
+}
+
+// Deletes a file.
+#[no_mangle]
+pub extern "C" fn bm_delete(img: &mut [u8], t: &[u8], name: &[u8]) -> u64
+    ensures { λ r. ⌜ Leaves (deleteOutcome (now (img .entry)) (now (t .entry)) (now (name .entry))) r (now (img .exit)) (now (t .entry)) [] ⌝ }
+{
+    answer::hand(filing::delete::delete(img, t, name))
+}
+
+// Renames a file.
+#[no_mangle]
+pub extern "C" fn bm_rename(img: &mut [u8], t: &[u8], name: &[u8], new: &[u8]) -> u64
+    ensures { λ r. ⌜ Leaves (renameOutcome (now (img .entry)) (now (t .entry)) (now (name .entry)) (now (new .entry))) r (now (img .exit)) (now (t .entry)) [] ⌝ }
+{
+    answer::hand(calls::rename::rename(img, t, name, new))
+}
+
+// Answers a file's attribute (function 0) or sets it (function 1).
+#[no_mangle]
+pub extern "C" fn bm_mode(img: &mut [u8], t: &[u8], name: &[u8], function: u32, attr: u32) -> u64
+    ensures { λ r. ⌜ Leaves (modeOutcome (now (img .entry)) (now (t .entry)) (now (name .entry)) function attr) r (now (img .exit)) (now (t .entry)) [] ⌝ }
+{
+    answer::hand(calls::mode::mode(img, t, name, function, attr))
+}
+
+// The number by which view refuses, or 0.
+#[no_mangle]
+pub extern "C" fn bm_view_number(img: &[u8], name: &[u8], offset: u32) -> u64
+    ensures { λ r. ⌜ Leaves (viewNumberCall (now (img .entry)) (now (name .entry)) offset) r (now (img .entry)) [] [] ⌝ }
+{
+    let number = reading::view::view_number(img, name, offset);
+    answer::pack(number, 0)
+}
