@@ -1,12 +1,16 @@
 //! The comparison itself: it passes a library that is right, and tells each
 //! fault of one that is not.
 
+use std::sync::atomic::{AtomicU64, Ordering::Relaxed};
+
 use compare::comparison::files::{After, Files};
 use compare::comparison::guarded::{Guarded, GUARD};
 use compare::comparison::lines::{allows, LINES};
 use compare::comparison::seeds::over_seeds;
 use compare::comparison::tally::Tally;
 use compare::comparison::{compare_seed, history, singles, Library, CALLS_OF_A_SEED};
+use compare::volume::answer::number;
+use compare::volume::kind::Kind;
 use compare::volumes::calls::{perform, Call, Scene, NAMES};
 use compare::volumes::random::Random;
 use compare::volumes::scenes::history_scene;
@@ -39,6 +43,9 @@ fn report_of_histories(library: Library) -> String {
     (0..SEEDS).find_map(compare).unwrap_or_default()
 }
 
+/// Only reading back uses a table of one record.
+const READING_TABLE: usize = 16;
+
 /// A fault in each sort of thing that is compared.
 const FAULTS: [(&str, Library); 6] = [
     ("expected", |call, scene| match perform(call, scene) {
@@ -62,7 +69,7 @@ const FAULTS: [(&str, Library); 6] = [
     ("the buffer differs", |call, scene| {
         let before = scene.buffer.to_vec();
         let answer = perform(call, scene);
-        if let (Call::Read { .. }, 0) = (call, answer >> 32) {
+        if let (Call::Read { .. }, false) = (call, scene.table.len() == READING_TABLE) {
             scene.buffer.copy_from_slice(&before);
         }
         answer
@@ -89,24 +96,23 @@ fn each_sort_of_fault_is_told() {
     }
 }
 
-/// Only reading back uses a table of one record.
 const FAULTS_OF_READING: [(&str, Library); 3] = [
     ("the content by the history differs", |call, scene| {
         let answer = perform(call, scene);
-        if let (Call::Read { .. }, 16, true) = (call, scene.table.len(), answer > 0) {
+        if let (Call::Read { .. }, READING_TABLE, true) = (call, scene.table.len(), answer > 0) {
             scene.buffer[0] ^= 1;
         }
         answer
     }),
     ("open answers 4/0", |call, scene| {
         match (call, scene.table.len()) {
-            (Call::Open { .. }, 16) => 4 << 32,
+            (Call::Open { .. }, READING_TABLE) => 4 << 32,
             _ => perform(call, scene),
         }
     }),
     ("check answers 0/0 and counts", |call, scene| {
         let answer = perform(call, scene);
-        if let (Call::Check, 16) = (call, scene.table.len()) {
+        if let (Call::Check, READING_TABLE) = (call, scene.table.len()) {
             scene.buffer[4] ^= 1;
         }
         answer
@@ -211,4 +217,59 @@ fn the_history_tells_invented_answers() {
     let free = files.free();
     assert!(followed(&mut files, Call::FreeSpace, free + 1, &[]).is_err());
     assert!(followed(&mut files, Call::FreeSpace, free, &[]).is_ok());
+}
+
+/// How often there came up: a write of nothing, over a gap, a short one, one
+/// with new clusters, one within the file's clusters; a read of some bytes.
+static MET: [AtomicU64; 6] = [const { AtomicU64::new(0) }; 6];
+
+fn counting(call: &Call, scene: &mut Scene<Guarded>) -> u64 {
+    let before = (scene.table.to_vec(), scene.image.to_vec());
+    let answer = perform(call, scene);
+    let sorts = match call {
+        Call::Write { handle, data } if number(answer) == 0 => {
+            let after = (answer as usize, &scene.image[..]);
+            sorts_of_write(*handle as usize, data.len(), &before, after)
+        }
+        Call::Read { .. } if scene.table.len() != READING_TABLE => {
+            [false, false, false, false, false, answer as u32 > 0]
+        }
+        _ => [false; 6],
+    };
+    for (met, sort) in MET.iter().zip(sorts) {
+        met.fetch_add(u64::from(sort), Relaxed);
+    }
+    answer
+}
+
+fn sorts_of_write(
+    handle: usize,
+    length: usize,
+    (table, image): &(Vec<u8>, Vec<u8>),
+    (count, image_after): (usize, &[u8]),
+) -> [bool; 6] {
+    let word = |bytes: &[u8], at| u32::from_le_bytes([0, 1, 2, 3].map(|n| bytes[at + n])) as usize;
+    let root = Kind::of_image(image).map_or(0, |kind| kind.root_at());
+    let [slot, pointer] = [4, 8].map(|at| word(table, 16 * handle + at));
+    let gap = pointer > word(image, root + 32 * slot + 28);
+    let grown = image[..root] != image_after[..root];
+    let (some, short) = (count > 0, count < length);
+    [
+        !some,
+        some && gap,
+        some && short,
+        grown,
+        some && !grown,
+        false,
+    ]
+}
+
+#[test]
+fn histories_have_reads_and_writes_of_each_sort() {
+    for seed in 0..SEEDS {
+        let mut tally = Tally::default();
+        assert_eq!(history::compare(seed, counting, GUARD, &mut tally), Ok(()));
+    }
+    let met = MET.each_ref().map(|met| met.load(Relaxed));
+    assert!(met.iter().all(|&times| times >= 20), "{met:?}");
 }

@@ -43,6 +43,12 @@ pub fn buffer_for(call: &Call, random: &mut Random) -> Vec<u8> {
     buffer
 }
 
+/// The number in four bytes of a record or an entry; 0 where it has none.
+fn word(bytes: &[u8], at: usize) -> u32 {
+    let field = bytes.get(at..).and_then(|bytes| bytes.first_chunk());
+    field.map_or(0, |field| u32::from_le_bytes(*field))
+}
+
 /// Chooses arguments for a scene; one number in `odds` is an odd one.
 struct Caller<'a> {
     kind: &'a Kind,
@@ -193,22 +199,30 @@ impl<'a> Caller<'a> {
         self.scene.image.get(root).unwrap_or(&[])
     }
 
+    /// The entry at a slot; no bytes where there is none.
+    fn entry(&self, slot: u32) -> &'a [u8] {
+        let mut entries = self.root().chunks_exact(32);
+        entries.nth(slot as usize).unwrap_or(&[])
+    }
+
+    /// The record at a place; no bytes where there is none.
+    fn record(&self, place: u32) -> &'a [u8] {
+        let mut records = self.scene.table.chunks_exact(16);
+        records.nth(place as usize).unwrap_or(&[])
+    }
+
     /// The places that are used with a good access on a plain file.
     fn live_places(&self) -> Vec<u32> {
-        let is_file = |slot: u32| {
-            let mut entries = self.root().chunks_exact(32);
-            let entry = entries.nth(slot as usize);
-            entry.is_some_and(|entry| ![0x00, 0xE5].contains(&entry[0]) && entry[11] & 0x08 == 0)
+        let is_file = |entry: &[u8]| match entry {
+            [] | [0x00 | 0xE5, ..] => false,
+            _ => entry[11] & 0x08 == 0,
         };
-        let is_live = |record: &[u8]| {
-            let slot = record[4..8]
-                .first_chunk()
-                .map(|slot| u32::from_le_bytes(*slot));
-            record[0] != 0 && record[1] <= 2 && slot.is_some_and(is_file)
+        let is_live = |place: &u32| {
+            let record = self.record(*place);
+            record[0] != 0 && record[1] <= 2 && is_file(self.entry(word(record, 4)))
         };
-        let records = self.scene.table.chunks_exact(16).enumerate();
-        let live = records.filter(|(_, record)| is_live(record));
-        live.map(|(place, _)| place as u32).collect()
+        let places = 0..self.scene.table.len() as u32 / 16;
+        places.filter(is_live).collect()
     }
 
     /// Mostly a live place.
@@ -234,13 +248,13 @@ impl<'a> Caller<'a> {
 
     fn some_data(&mut self) -> Vec<u8> {
         let cluster = self.kind.cluster_bytes();
-        let length = match self.random.below(16) {
+        let length = match self.random.below(32) {
             0 => 0,
             1 => 400_000,
-            2 => cluster,
-            3 => cluster + 1,
-            4 => self.random.below(60 * cluster),
-            5..=9 => self.random.below(4 * cluster),
+            2..=4 => cluster,
+            5..=7 => cluster + 1,
+            8 => self.random.below(60 * cluster),
+            9..=18 => self.random.below(4 * cluster),
             _ => self.random.below(100),
         };
         let mut data = vec![0; length];
@@ -249,13 +263,16 @@ impl<'a> Caller<'a> {
     }
 
     fn some_seek(&mut self, handle: u32) -> Call {
+        if self.random.one_in(2) {
+            return self.seek_into_file(handle);
+        }
         let method = self.rarely_above(3);
-        let offset = match self.random.below(8) {
+        let offset = match self.random.below(24) {
             0 => self.random.word() as i32,
             1 => *self.random.pick(&[i32::MIN, i32::MAX, -1, 0, 1]),
-            2 => self.random.below(400_000) as i32,
-            3 => -(self.random.below(2000) as i32),
-            4 => self.offset_to_an_end(handle),
+            2 => self.offset_to_an_end(handle),
+            3 => self.random.below(400_000) as i32,
+            4..=9 => -(self.random.below(2000) as i32),
             _ => self.random.below(3000) as i32,
         };
         Call::Seek {
@@ -265,12 +282,22 @@ impl<'a> Caller<'a> {
         }
     }
 
+    /// To some byte of the handle's file, or its end.
+    fn seek_into_file(&mut self, handle: u32) -> Call {
+        let slot = word(self.record(handle), 4);
+        let size = word(self.entry(slot), 28).min(400_000);
+        let offset = self.random.between(0, size as usize) as i32;
+        Call::Seek {
+            handle,
+            method: 0,
+            offset,
+        }
+    }
+
     /// From the handle's pointer to the lowest or highest pointer, or one past
     /// it.
     fn offset_to_an_end(&mut self, handle: u32) -> i32 {
-        let record = self.scene.table.chunks_exact(16).nth(handle as usize);
-        let field = record.and_then(|record| record[8..12].first_chunk());
-        let pointer = i64::from(field.map_or(0, |bytes| u32::from_le_bytes(*bytes)));
+        let pointer = i64::from(word(self.record(handle), 8));
         let most = i64::from(u32::MAX);
         let target = *self.random.pick(&[0, -1, most, most + 1]);
         i32::try_from(target - pointer).unwrap_or(0)

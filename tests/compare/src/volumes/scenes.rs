@@ -35,9 +35,18 @@ pub fn any_scene(seed: u64) -> (&'static Kind, Scene) {
 }
 
 /// A sound volume with a table on which a long row of calls can go on, and its
-/// plan.
+/// plan. Three of four have room for files to grow.
 pub fn history_scene(random: &mut Random) -> (Plan, Scene) {
-    let plan = sound_plan(random);
+    let least = match random.one_in(4) {
+        true => 0,
+        false => 100,
+    };
+    let plan = loop {
+        let plan = sound_plan(random);
+        if plan.free_clusters().len() >= least {
+            break plan;
+        }
+    };
     let table = table_for_a_history(&plan, random);
     let scene = scene(plan.image(), table);
     (plan, scene)
