@@ -115,22 +115,23 @@ impl<'a> Caller<'a> {
 
     /// A call on a file by its name.
     fn name_call(&mut self) -> Call {
-        let name = self.some_name();
         match self.random.below(4) {
-            0 => Call::Delete { name },
+            0 => Call::Delete {
+                name: self.name_to_change(),
+            },
             1 => Call::Rename {
-                old: name,
+                old: self.name_to_change(),
                 new: self.new_name(),
             },
             2 => Call::Mode {
-                name,
+                name: self.some_name(),
                 function: self.rarely_above(2),
                 attribute: self.some_attribute(),
             },
             _ => {
                 let offset = self.random.below(3000) as u32;
                 Call::ViewNumber {
-                    name,
+                    name: self.some_name(),
                     offset: self.rarely_any(offset),
                 }
             }
@@ -140,6 +141,10 @@ impl<'a> Caller<'a> {
     /// A call on an open file.
     fn handle_call(&mut self) -> Call {
         let handle = self.some_handle();
+        // Where there is nothing to read, the pointer goes back more often.
+        if self.is_at_the_end(handle) && self.random.one_in(4) {
+            return self.seek_into_file(handle);
+        }
         match self.random.below(20) {
             0..=4 => Call::Read { handle },
             5..=11 => Call::Write {
@@ -175,14 +180,35 @@ impl<'a> Caller<'a> {
         if self.random.one_in(4 * self.odds) {
             return noise_name(self.random);
         }
-        let in_reach = |byte: &u8| *byte == b' ' || is_name_byte(*byte);
-        let names = self.root().chunks_exact(32).map(|entry| &entry[..11]);
-        let names: Vec<&[u8]> = names.filter(|name| name.iter().all(in_reach)).collect();
+        let names = self.names_of(|_, _| true);
         let name = match self.random.choose(&names) {
             Some(stored) if !self.random.one_in(4) => callers_form(stored),
             _ => good_name(self.random),
         };
         varied(self.random, &name)
+    }
+
+    /// Half of the time the name of a file that is neither open nor read-only.
+    fn name_to_change(&mut self) -> Vec<u8> {
+        let table = &self.scene.table;
+        let is_open = |slot: usize| {
+            let mut records = table.chunks_exact(16).take(16);
+            records.any(|record| record[0] != 0 && word(record, 4) as usize == slot)
+        };
+        let names = self.names_of(|slot, entry| entry[11] & 0x09 == 0 && !is_open(slot));
+        match self.random.choose(&names) {
+            Some(stored) if self.random.one_in(2) => callers_form(stored),
+            _ => self.some_name(),
+        }
+    }
+
+    /// The names in a caller's reach, of the slots and entries that are wanted.
+    fn names_of(&self, wanted: impl Fn(usize, &[u8]) -> bool) -> Vec<&'a [u8]> {
+        let in_reach = |byte: &u8| *byte == b' ' || is_name_byte(*byte);
+        let entries = self.root().chunks_exact(32).enumerate();
+        let wanted = entries.filter(|(slot, entry)| wanted(*slot, entry));
+        let names = wanted.map(|(_, entry)| &entry[..11]);
+        names.filter(|name| name.iter().all(in_reach)).collect()
     }
 
     /// A name for rename's second: mostly one that is not there yet.
@@ -263,7 +289,7 @@ impl<'a> Caller<'a> {
     }
 
     fn some_seek(&mut self, handle: u32) -> Call {
-        if self.random.one_in(2) {
+        if self.random.one_in(4) {
             return self.seek_into_file(handle);
         }
         let method = self.rarely_above(3);
@@ -282,10 +308,19 @@ impl<'a> Caller<'a> {
         }
     }
 
+    /// The size of the handle's file, 0 where there is none.
+    fn size(&self, handle: u32) -> u32 {
+        let slot = word(self.record(handle), 4);
+        word(self.entry(slot), 28)
+    }
+
+    fn is_at_the_end(&self, handle: u32) -> bool {
+        word(self.record(handle), 8) >= self.size(handle)
+    }
+
     /// To some byte of the handle's file, or its end.
     fn seek_into_file(&mut self, handle: u32) -> Call {
-        let slot = word(self.record(handle), 4);
-        let size = word(self.entry(slot), 28).min(400_000);
+        let size = self.size(handle).min(400_000);
         let offset = self.random.between(0, size as usize) as i32;
         Call::Seek {
             handle,
