@@ -15,6 +15,7 @@ use compare::volumes::calls::{perform, Call, Scene, NAMES};
 use compare::volumes::random::Random;
 use compare::volumes::scenes::history_scene;
 use compare::volumes::texts::callers_form;
+use compare::volumes::word;
 
 const SEEDS: u64 = 20;
 
@@ -248,10 +249,9 @@ fn sorts_of_write(
     (table, image): &(Vec<u8>, Vec<u8>),
     (count, image_after): (usize, &[u8]),
 ) -> [bool; 6] {
-    let word = |bytes: &[u8], at| u32::from_le_bytes([0, 1, 2, 3].map(|n| bytes[at + n])) as usize;
     let root = Kind::of_image(image).map_or(0, |kind| kind.root_at());
-    let [slot, pointer] = [4, 8].map(|at| word(table, 16 * handle + at));
-    let gap = pointer > word(image, root + 32 * slot + 28);
+    let [slot, pointer] = [4, 8].map(|at| word(table, 16 * handle + at) as usize);
+    let gap = pointer > word(image, root + 32 * slot + 28) as usize;
     let grown = image[..root] != image_after[..root];
     let (some, short) = (count > 0, count < length);
     [

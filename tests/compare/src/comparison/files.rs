@@ -12,6 +12,7 @@ use crate::volume::kind::Kind;
 use crate::volumes::calls::Call;
 use crate::volumes::plan::Plan;
 use crate::volumes::texts::stored_form;
+use crate::volumes::word;
 
 pub struct File {
     pub slot: u32,
@@ -53,10 +54,6 @@ fn expect(what: &str, expected: u32, found: u32) -> Followed {
             "{what}: {expected} by the history, {found} answered"
         )),
     }
-}
-
-fn word(record: &[u8], at: usize) -> u32 {
-    u32::from_le_bytes([record[at], record[at + 1], record[at + 2], record[at + 3]])
 }
 
 fn place_of(record: &[u8]) -> Option<Place> {

@@ -14,3 +14,9 @@ pub mod random_calls;
 pub mod scenes;
 pub mod sound;
 pub mod texts;
+
+/// The number in four bytes of a record or an entry; 0 where it has none.
+pub fn word(bytes: &[u8], at: usize) -> u32 {
+    let field = bytes.get(at..).and_then(|bytes| bytes.first_chunk());
+    field.map_or(0, |field| u32::from_le_bytes(*field))
+}

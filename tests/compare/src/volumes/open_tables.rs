@@ -2,6 +2,7 @@
 
 use super::plan::Plan;
 use super::random::Random;
+use super::word;
 
 /// Mostly a table as below; also one without an unused place, and any bytes.
 pub fn any_table(plan: &Plan, random: &mut Random) -> Vec<u8> {
@@ -56,8 +57,7 @@ fn fill_record(plan: &Plan, record: &mut [u8], random: &mut Random) {
         true => any,
         false => random.choose(&files).unwrap_or(any),
     };
-    let size =
-        u32::from_le_bytes([0, 1, 2, 3].map(|at| plan.slots[slot % plan.slots.len()][28 + at]));
+    let size = word(&plan.slots[slot % plan.slots.len()], 28);
     let pointer = match random.below(5) {
         0 => random.word() as u32,
         1 => size,

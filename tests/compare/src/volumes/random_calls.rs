@@ -3,6 +3,7 @@
 use super::calls::{Call, Scene};
 use super::random::Random;
 use super::texts::{callers_form, good_name, noise_name, stamp, varied};
+use super::word;
 use crate::volume::kind::{Kind, KINDS};
 use crate::volume::names::is_name_byte;
 
@@ -41,12 +42,6 @@ pub fn buffer_for(call: &Call, random: &mut Random) -> Vec<u8> {
     let mut buffer = vec![0; length];
     random.fill(&mut buffer);
     buffer
-}
-
-/// The number in four bytes of a record or an entry; 0 where it has none.
-fn word(bytes: &[u8], at: usize) -> u32 {
-    let field = bytes.get(at..).and_then(|bytes| bytes.first_chunk());
-    field.map_or(0, |field| u32::from_le_bytes(*field))
 }
 
 /// Chooses arguments for a scene; one number in `odds` is an odd one.
