@@ -1,6 +1,6 @@
 #!/usr/bin/env bash
 # product.sh archive   makes target/staticlib/libscale.a
-# product.sh listing   makes target/bin/listing
+# product.sh PROGRAM   makes target/bin/PROGRAM (listing, sample)
 # Only where it is missing or older than a source; what is proved already is not proved again.
 set -eu
 cd "$(dirname "$0")/.."
@@ -12,7 +12,7 @@ is_fresh() {
 
 case $1 in
 archive) is_fresh target/staticlib/libscale.a || rt staticlib scale ;;
-listing) is_fresh target/bin/listing || rt check listing ;;
+listing | sample) is_fresh "target/bin/$1" || rt check "$1" ;;
 *)
   echo "product.sh: no product is called $1" >&2
   exit 2

@@ -13,7 +13,7 @@ ghost use mathlib.Core.Path.{_≡_};
 ghost use Rattle.diskette.specs.Places.{rootAt, rootEntries};
 ghost use Rattle.directory.specs.Search.{lowestOpenSlot};
 ghost use Rattle.calls.specs.Ready.{OnVolume};
-ghost use Rattle.filing.specs.Freed.{FileIn};
+ghost use Rattle.holding.specs.Holding.{FileIn};
 ghost use Rattle.filing.specs.Create.{Creates, Empties, MakesNew};
 
 // The lowest slot that a new file may take.

@@ -8,7 +8,7 @@ use diskette::Kind;
 use search::Found;
 ghost use mathlib.Core.Path.{_≡_};
 ghost use Rattle.calls.specs.Ready.{OnVolume};
-ghost use Rattle.filing.specs.Freed.{FileIn};
+ghost use Rattle.holding.specs.Holding.{FileIn};
 ghost use Rattle.filing.specs.Delete.{erasedIn, Deletes, DeletesSlot};
 
 // Frees the chain of the file in the slot and erases its entry.

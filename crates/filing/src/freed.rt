@@ -2,7 +2,8 @@
 use diskette::Kind;
 ghost use mathlib.Core.Path.{_≡_};
 ghost use Rattle.calls.specs.Ready.{OnVolume};
-ghost use Rattle.filing.specs.Freed.{chainFreed, FileIn};
+ghost use Rattle.filing.specs.Freed.{chainFreed};
+ghost use Rattle.holding.specs.Holding.{FileIn};
 
 // Frees the clusters of the file in the slot: a sound volume's file has exactly as many as its size needs.
 pub fn free_file(img: &mut [u8], k: Kind, slot: usize)

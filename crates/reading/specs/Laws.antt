@@ -1,4 +1,3 @@
 -- The laws of the definitions beside this folder.
-pub mod Clusters
 pub mod Read
 pub mod View

@@ -1,26 +1,17 @@
 -- "Read moves as many bytes as buffer and file allow; the rest of the buffer keeps its bytes. At or past the end: 0."
 -- "A read or write that ends well moves the pointer by the count."
-use Prim.Native.Nat.{ℕ, _+_, _-_, _*_, min}
+use Prim.Native.Nat.{ℕ, _+_, _-_, min}
 use mathlib.Core.List.{List, [], _∷_}
 use mathlib.Core.Path.{_≡_}
 use lib.Dec.{eqb}
 use lib.ListN.{length}
 use Rattle.image.specs.Store.{stored, part}
-use Rattle.chains.specs.Content.{content}
-use Rattle.contents.specs.Contents.{chainFrom}
-use Rattle.diskette.specs.Places.{firstData, clusterBytes, lastCluster, slotAt}
-use Rattle.diskette.specs.declared.Kind.{Kind}
-use Rattle.directory.specs.Fields.{startOf, sizeOf}
+use Rattle.directory.specs.Fields.{sizeOf}
 use Rattle.opened.specs.Records.{slotOf, accessOf, pointerOf, withPointer}
 use Rattle.calls.specs.Outcome.{Row, Outcome, outcome, decided}
 use Rattle.calls.specs.Refusals.{theKind, notOfKind, notSound, notLive, entryAt}
+use Rattle.holding.specs.Holding.{fileBytes}
 use Rattle.calls.specs.declared.Answer.{Answer}
-
--- the bytes of the file in a slot of a volume of the kind k
-unfoldable pub fileBytes : Kind → List ℕ → ℕ → List ℕ
-fileBytes k img slot =
-    let a = slotAt k slot in
-    content (512 * firstData k) (clusterBytes k) img (chainFrom (lastCluster k) img (startOf img a)) (sizeOf img a)
 
 -- as many as buffer and file allow: room is the buffer's length
 abbrev pub readCount : ℕ → ℕ → ℕ → ℕ

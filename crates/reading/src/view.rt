@@ -5,11 +5,9 @@ use calls::make_ready;
 use diskette::Kind;
 use search::Found;
 ghost use Prim.Native.Nat.{_<_};
-ghost use mathlib.Core.Bool.{true};
 ghost use mathlib.Core.Path.{_≡_};
-ghost use Rattle.diskette.specs.Places.{rootEntries, slotAt};
-ghost use Rattle.directory.specs.Slots.{standingOf, isPlain};
 ghost use Rattle.calls.specs.Ready.{OnVolume};
+ghost use Rattle.holding.specs.Holding.{FileIn};
 ghost use Rattle.reading.specs.View.{viewCount, Views, ViewNumbers, Sees, SeesFile};
 
 // A refusal's number, or 0 and the bytes of the image from at on.
@@ -33,8 +31,7 @@ fn bytes_from(cb: usize, size: u32, offset: u32) -> usize
 // The bytes of the file in the slot, from its byte offset on.
 fn see_file(img: &[u8], k: Kind, slot: usize, offset: u32) -> Seen
     requires { ⌜ OnVolume (now img) k ⌝ }
-    requires { ⌜ slot < rootEntries k ⌝ }
-    requires { ⌜ isPlain (standingOf (now img) (slotAt k slot)) ≡ true ⌝ }
+    requires { ⌜ FileIn (now img) k slot ⌝ }
     ensures { λ r. ⌜ SeesFile (now (img .entry)) k slot offset (r .number) (r .at) (r .bytes) ⌝ }
 {
     let a = k.slot_at(slot);

@@ -11,6 +11,7 @@ ghost use Rattle.calls.specs.Seek.{seekOutcome};
 ghost use Rattle.filing.specs.Create.{createOutcome};
 ghost use Rattle.filing.specs.Delete.{deleteOutcome};
 ghost use Rattle.reading.specs.Read.{readOutcome};
+ghost use Rattle.writing.specs.Write.{writeOutcome};
 ghost use Rattle.scale.specs.Calls.{Leaves, viewNumberCall, stampOf};
 
 // The six numbers of a caller's stamp.
@@ -61,6 +62,14 @@ pub extern "C" fn bm_read(img: &[u8], t: &mut [u8], handle: u32, buf: &mut [u8])
     ensures { λ r. ⌜ Leaves (readOutcome (now (img .entry)) (now (t .entry)) handle (now (buf .entry))) r (now (img .entry)) (now (t .exit)) (now (buf .exit)) ⌝ }
 {
     answer::hand(reading::read::read(img, t, handle, buf))
+}
+
+// Writes from the pointer on: the value is the count.
+#[no_mangle]
+pub extern "C" fn bm_write(img: &mut [u8], t: &mut [u8], handle: u32, bytes: &[u8]) -> u64
+    ensures { λ r. ⌜ Leaves (writeOutcome (now (img .entry)) (now (t .entry)) handle (now (bytes .entry))) r (now (img .exit)) (now (t .exit)) [] ⌝ }
+{
+    answer::hand(writing::write::write(img, t, handle, bytes))
 }
 
 // Moves a pointer: the value is where it then stands.

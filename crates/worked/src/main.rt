@@ -1,6 +1,7 @@
 // Prints document 01's worked numbers, computed by the library. The file stdout beside src/ has them as the paper prints them.
 mod print;
 mod run;
+mod volumes;
 
 fn main() {
     run::table_entries();
@@ -8,4 +9,7 @@ fn main() {
     run::stamps();
     run::pointers();
     run::sizes();
+    volumes::full_disk();
+    volumes::full_root();
+    volumes::no_places();
 }

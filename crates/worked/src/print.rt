@@ -9,10 +9,15 @@ pub fn line_end() {
     io::write_all(1, b"\n");
 }
 
+// A decimal number.
+pub fn number(n: u64) {
+    io::print_decimal(1, n);
+}
+
 // A label, a decimal number and the line's end.
 pub fn decimal(text: &[u8], n: u64) {
     label(text);
-    io::print_decimal(1, n);
+    number(n);
     line_end();
 }
 

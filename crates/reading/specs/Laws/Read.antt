@@ -2,7 +2,6 @@
 use Prim.Native.Nat.{ℕ, _+_, _-_, _*_, _≤_, _<_}
 use native.Mathlib.Omega.{arith}
 use native.Mathlib.Decide.{decLt}
-use mathlib.Core.Bool.{true}
 use mathlib.Core.List.{List}
 use mathlib.Core.Logic.{_≢_, inr}
 use mathlib.Core.Path.{_≡_, sym, ap, _∙_}
@@ -20,20 +19,19 @@ use Rattle.diskette.specs.declared.Kind.{Kind}
 use Rattle.search.specs.declared.Found.{Found}
 use Rattle.search.specs.declared.Found.the-variants.{At, Nothing}
 use Rattle.directory.specs.Fields.{startOf, sizeOf}
-use Rattle.directory.specs.Slots.{standingOf, isPlain}
-use Rattle.directory.specs.Laws.Slots.{plain-is}
 use Rattle.opened.specs.Records.{accessOf, pointerOf, withPointer}
 use Rattle.opened.specs.Places.{liveSlot}
-use Rattle.sound.specs.Files.{IsFile}
 use Rattle.calls.specs.Outcome.{Outcome, refusal, decided, refusedBy, answering}
 use Rattle.calls.specs.Ready.{readyOf, OnVolume}
-use Rattle.reading.specs.Read.{fileBytes, readCount, readOutcome, Reads}
+use Rattle.holding.specs.Holding.{fileChain, fileBytes, FileIn}
+use Rattle.holding.specs.Laws.Clusters.{on-clusters}
+use Rattle.holding.specs.Laws.Chain.{file-holds}
+use Rattle.reading.specs.Read.{readCount, readOutcome, Reads}
 use Rattle.calls.specs.Laws.Ready.{on-kind, known-passed, sound-passed, ready-refused}
 use Rattle.calls.specs.Laws.Files.{not-live, live-passed, live-slot}
 use Rattle.calls.specs.declared.Answer.{Answer}
 use Rattle.calls.specs.declared.Ready.{Ready}
 use Rattle.calls.specs.declared.Ready.the-variants.{Refused}
-use Rattle.reading.specs.Laws.Clusters.{on-clusters, file-holds}
 
 pub reads-only : {img t : List ℕ} {h : ℕ} {buf : List ℕ} {r r′ : Answer} {m m′ b b′ : List ℕ} → Reads img t h buf r m b → Reads img t h buf r′ m′ b′
     → (r .number ≡ r′ .number) × (r .value ≡ r′ .value) × (m ≡ m′) × (b ≡ b′)
@@ -52,22 +50,19 @@ count-short img k slot room size pointer n e a sized ae = rw (← ae, ← sized)
 -- ---- the bytes of a file of a volume that is ready
 
 module _ (img : List ℕ) (k : Kind) (v : OnVolume img k) where
-  module _ (slot : ℕ) (below : slot < rootEntries k) (plain : isPlain (standingOf img (slotAt k slot)) ≡ true) (pointer n : ℕ) (short : n ≤ sizeOf img (slotAt k slot) - pointer) where
-    is-file : IsFile k img slot
-    is-file = (below, plain-is img (slotAt k slot) .0 plain)
-
+  module _ (slot : ℕ) (i : FileIn img k slot) (pointer n : ℕ) (short : n ≤ sizeOf img (slotAt k slot) - pointer) where
     module _ (some : n ≢ 0) (cb last : ℕ) (ce : cb ≡ clusterBytes k) (le : last ≡ lastCluster k) where
       module _ (a start : ℕ) (ae : a ≡ slotAt k slot) (se : start ≡ startOf img a) where
         pub copy-room : pointer + n ≤ length (chainFrom last img start) * cb
         copy-room =
-            let h : sizeOf img (slotAt k slot) ≤ length (chainFrom (lastCluster k) img (startOf img (slotAt k slot))) * clusterBytes k = file-holds img k v slot is-file in
-            let g : pointer + n ≤ length (chainFrom (lastCluster k) img (startOf img (slotAt k slot))) * clusterBytes k = omega arith in
+            let h : sizeOf img (slotAt k slot) ≤ length (fileChain k img slot) * clusterBytes k = file-holds img k v slot i in
+            let g : pointer + n ≤ length (fileChain k img slot) * clusterBytes k = omega arith in
             rw (se, ae, ce, le) g
 
         pub copied-is : (first : ℕ) → first ≡ firstData k → (buf m : List ℕ) → m ≡ stored buf 0 (fetched (512 * first) cb last img start pointer n) → m ≡ stored buf 0 (part (fileBytes k img slot) pointer n)
         unfolding fileBytes
         copied-is first fe buf m e =
-            let q = fetched-content (512 * firstData k) (clusterBytes k) (lastCluster k) img (startOf img (slotAt k slot)) (on-clusters img k v) pointer n (sizeOf img (slotAt k slot)) (omega arith) (file-holds img k v slot is-file) in
+            let q = fetched-content (512 * firstData k) (clusterBytes k) (lastCluster k) img (startOf img (slotAt k slot)) (on-clusters img k v) pointer n (sizeOf img (slotAt k slot)) (omega arith) (file-holds img k v slot i) in
             rw (e, fe, ce, le, se, ae, q)
 
 pub copied-none : (k : Kind) (img : List ℕ) (slot pointer n : ℕ) (buf : List ℕ) → n ≡ 0 → buf ≡ stored buf 0 (part (fileBytes k img slot) pointer n)
@@ -105,7 +100,7 @@ module _ (img t : List ℕ) (h : ℕ) (buf : List ℕ) where
 -- ---- what it means
 
 -- as many bytes are moved as are answered
-module _ (img : List ℕ) (k : Kind) (v : OnVolume img k) (slot : ℕ) (i : IsFile k img slot) (pointer n : ℕ) (short : n ≤ sizeOf img (slotAt k slot) - pointer) where
+module _ (img : List ℕ) (k : Kind) (v : OnVolume img k) (slot : ℕ) (i : FileIn img k slot) (pointer n : ℕ) (short : n ≤ sizeOf img (slotAt k slot) - pointer) where
   pub moved-length : length (part (fileBytes k img slot) pointer n) ≡ n
   unfolding fileBytes
   moved-length = elim (decLt 0 n) [

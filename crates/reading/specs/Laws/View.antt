@@ -14,8 +14,6 @@ use Rattle.diskette.specs.declared.Kind.{Kind}
 use Rattle.search.specs.declared.Found.{Found}
 use Rattle.search.specs.declared.Found.the-variants.{At, Nothing}
 use Rattle.directory.specs.Fields.{startOf, sizeOf}
-use Rattle.directory.specs.Slots.{standingOf, isPlain}
-use Rattle.directory.specs.Laws.Slots.{plain-is}
 use Rattle.calls.specs.Outcome.{Outcome, refusal, decided}
 use Rattle.calls.specs.Ready.{readyOf, OnVolume}
 use Rattle.calls.specs.Laws.Ready.{on-kind, known-passed, sound-passed, ready-refused}
@@ -26,13 +24,13 @@ use native.Mathlib.Nat.{div-lt-iff-lt-mul, mod-lt}
 use Rattle.chains.specs.Content.{byteAt}
 use Rattle.chains.specs.Laws.Lists.{index-mem}
 use Rattle.chains.specs.Laws.Runs.{content-run}
-use Rattle.sound.specs.Files.{IsFile}
-use Rattle.reading.specs.Read.{fileBytes}
+use Rattle.holding.specs.Holding.{fileBytes, FileIn}
+use Rattle.holding.specs.Laws.Clusters.{on-clusters}
+use Rattle.holding.specs.Laws.Chain.{file-holds}
 use Rattle.directory.specs.Search.{slotNamed}
 use Rattle.names.specs.declared.Spelled.{Spelled}
 use Rattle.reading.specs.View.{viewCount, viewAt, viewPart, viewOutcome, Views, ViewNumbers, Sees, SeesFile}
 use Rattle.names.specs.Reading as reading
-use Rattle.reading.specs.Laws.Clusters.{on-clusters, file-holds}
 
 pub views-only : {img s : List ℕ} {offset : ℕ} {p q : List ℕ} → Views img s offset p → Views img s offset q → p ≡ q
 views-only x y = x .is ∙ sym (y .is)
@@ -47,7 +45,7 @@ offset-inside cb offset wide = omega (arith, mod-lt offset wide)
 
 -- ---- the file in a slot of a volume that is ready
 
-module _ (img : List ℕ) (k : Kind) (v : OnVolume img k) (slot : ℕ) (below : slot < rootEntries k) (plain : isPlain (standingOf img (slotAt k slot)) ≡ true) (a : ℕ) (ae : a ≡ slotAt k slot) (size : ℕ) (sized : size ≡ sizeOf img a) (offset : ℕ) where
+module _ (img : List ℕ) (k : Kind) (v : OnVolume img k) (slot : ℕ) (i : FileIn img k slot) (a : ℕ) (ae : a ≡ slotAt k slot) (size : ℕ) (sized : size ≡ sizeOf img a) (offset : ℕ) where
   pub see-none : size ≤ offset → SeesFile img k slot offset 0 0 0
   unfolding viewPart
   see-none h = record {
@@ -61,7 +59,7 @@ module _ (img : List ℕ) (k : Kind) (v : OnVolume img k) (slot : ℕ) (below : 
   module _ (more : offset < size) (cb last start : ℕ) (ce : cb ≡ clusterBytes k) (le : last ≡ lastCluster k) (se : start ≡ startOf img a) where
     holds : offset < length (chainFrom (lastCluster k) img (startOf img (slotAt k slot))) * clusterBytes k
     holds =
-        let h = file-holds img k v slot (below, plain-is img (slotAt k slot) .0 plain) in
+        let h = file-holds img k v slot i in
         let g : offset < sizeOf img (slotAt k slot) = rw (← ae, ← sized) more in
         omega (arith, h, g)
 
@@ -73,8 +71,8 @@ module _ (img : List ℕ) (k : Kind) (v : OnVolume img k) (slot : ℕ) (below : 
     room =
         let cs = chainFrom (lastCluster k) img (startOf img (slotAt k slot)) in
         let w : 0 < clusterBytes k = on-clusters img k v .wide in
-        let i : offset / clusterBytes k < length cs = div-lt-iff-lt-mul {k = clusterBytes k} {x = offset} {y = length cs} w .1 holds in
-        let r = chain-room (512 * firstData k) (clusterBytes k) (lastCluster k) img (startOf img (slotAt k slot)) (on-clusters img k v) (getD cs (offset / clusterBytes k) 0) (index-mem cs (offset / clusterBytes k) i) .1 in
+        let inside : offset / clusterBytes k < length cs = div-lt-iff-lt-mul {k = clusterBytes k} {x = offset} {y = length cs} w .1 holds in
+        let r = chain-room (512 * firstData k) (clusterBytes k) (lastCluster k) img (startOf img (slotAt k slot)) (on-clusters img k v) (getD cs (offset / clusterBytes k) 0) (index-mem cs (offset / clusterBytes k) inside) .1 in
         omega (arith, r, mod-lt offset w)
 
     pub see-some : (first at bytes : ℕ) → first ≡ firstData k → at ≡ placeOf (512 * first) cb last img start offset → bytes ≡ viewCount cb size offset → SeesFile img k slot offset 0 at bytes
@@ -123,7 +121,7 @@ module _ (img s : List ℕ) (offset : ℕ) where
 
 -- ---- what it means: the part is bytes of the file
 
-pub view-content : (img : List ℕ) (k : Kind) → OnVolume img k → (slot : ℕ) → IsFile k img slot → (offset : ℕ)
+pub view-content : (img : List ℕ) (k : Kind) → OnVolume img k → (slot : ℕ) → FileIn img k slot → (offset : ℕ)
     → viewPart k img slot offset ≡ part (fileBytes k img slot) offset (viewCount (clusterBytes k) (sizeOf img (slotAt k slot)) offset)
 unfolding viewPart fileBytes
 view-content img k v slot i offset =

@@ -1,7 +1,8 @@
 -- Each way out is one row that holds after those that don't.
 use Rattle.calls.specs.Laws.Ready.{on-usable}
 use Rattle.calls.specs.Laws.Files.{unused-below, unused-fits}
-use Rattle.filing.specs.Laws.Freed.{file-below, file-fits, freed-within}
+use Rattle.holding.specs.Laws.Chain.{file-below, slot-fits}
+use Rattle.filing.specs.Laws.Freed.{freed-within}
 use Rattle.filing.specs.Laws.Create.{empty-open, empty-read-only, empty-4, empty-well}
 use borrow.Author.Needs.{needs}
 use Rattle.filing.proofs.create.empty_old.Statement.{statement}
@@ -47,7 +48,7 @@ enum-known-place : tie.Need-enum-known-place
 enum-known-place c = search needs
 
 cast-put-record : tie.Need-cast-put-record
-cast-put-record c = search (needs, file-fits)
+cast-put-record c = search (needs, slot-fits)
 
 put-record-requires : tie.Need-put-record-requires
 put-record-requires c κs = search unused-below

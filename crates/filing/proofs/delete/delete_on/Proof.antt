@@ -1,5 +1,5 @@
 -- Each way out is one row that holds after those that don't, or the last two rows.
-use Rattle.filing.specs.Laws.Freed.{named-file}
+use Rattle.holding.specs.Laws.Found.{named-file}
 use Rattle.filing.specs.Laws.Delete.{delete-42, delete-2, delete-rest}
 use borrow.Author.Needs.{needs}
 use Rattle.filing.proofs.delete.delete_on.Statement.{statement}

@@ -1,6 +1,7 @@
 -- Freeing keeps the length, so the slot still stands within the image.
 use Rattle.calls.specs.Laws.Ready.{on-usable}
-use Rattle.filing.specs.Laws.Freed.{file-below, freed-within}
+use Rattle.holding.specs.Laws.Chain.{file-below}
+use Rattle.filing.specs.Laws.Freed.{freed-within}
 use borrow.Author.Needs.{needs}
 use Rattle.filing.proofs.delete.erase_in.Statement.{statement}
 use Rattle.filing.proofs.delete.erase_in.Tie as tie

@@ -1,7 +1,9 @@
 -- The file has as many clusters as its size needs, so those freed along the table are its chain.
 use native.Mathlib.Omega.{arith}
 use Rattle.calls.specs.Laws.Ready.{on-usable}
-use Rattle.filing.specs.Laws.Freed.{copies-reach, last-small, file-below, file-within, freed-is}
+use Rattle.holding.specs.Laws.Clusters.{copies-reach, last-small}
+use Rattle.holding.specs.Laws.Chain.{file-below, file-within}
+use Rattle.filing.specs.Laws.Freed.{freed-is}
 use borrow.Author.Needs.{needs}
 use Rattle.filing.proofs.freed.free_file.Statement.{statement}
 use Rattle.filing.proofs.freed.free_file.Tie as tie

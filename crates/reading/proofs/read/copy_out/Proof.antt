@@ -1,7 +1,7 @@
 -- The chain of a file of a sound volume has room for its size, and what is fetched along it is the file's.
 use Rattle.calls.specs.Laws.Ready.{on-usable}
 use Rattle.calls.specs.Laws.Files.{slot-within}
-use Rattle.reading.specs.Laws.Clusters.{base-fits, kind-area}
+use Rattle.holding.specs.Laws.Clusters.{base-fits, kind-area}
 use Rattle.reading.specs.Laws.Read.{copy-room, copied-is, copied-none}
 use native.Mathlib.Omega.{arith}
 use borrow.Author.Needs.{needs}

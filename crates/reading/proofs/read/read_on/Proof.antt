@@ -1,7 +1,7 @@
 -- Each way out is one row that holds after those that don't.
 use Rattle.calls.specs.Laws.Ready.{on-usable}
-use Rattle.calls.specs.Laws.Files.{live-below, live-counted, live-at-most, live-within}
-use Rattle.reading.specs.Laws.Clusters.{live-plain}
+use Rattle.calls.specs.Laws.Files.{live-counted, live-at-most, live-within}
+use Rattle.holding.specs.Laws.Found.{live-file}
 use Rattle.reading.specs.Laws.Read.{count-roomy, count-short, read-6, read-5, read-well}
 use borrow.Author.Needs.{needs}
 use Rattle.reading.proofs.read.read_on.Statement.{statement}
@@ -44,7 +44,7 @@ count-of-requires : tie.Need-count-of-requires
 count-of-requires c κs = search needs
 
 copy-out-requires : tie.Need-copy-out-requires
-copy-out-requires c κs = (search needs, (search live-below, (search live-plain, (search count-short, search count-roomy))))
+copy-out-requires c κs = (search needs, (search live-file, (search count-short, search count-roomy)))
 
 add-put-pointer : tie.Need-add-put-pointer
 add-put-pointer c = search needs

@@ -2,7 +2,7 @@
 use native.Mathlib.Omega.{arith}
 use Rattle.calls.specs.Laws.Ready.{on-usable}
 use Rattle.calls.specs.Laws.Files.{slot-within}
-use Rattle.reading.specs.Laws.Clusters.{base-fits, kind-area, cluster-wide}
+use Rattle.holding.specs.Laws.Clusters.{base-fits, kind-area, cluster-wide}
 use Rattle.reading.specs.Laws.View.{see-none, see-room, see-some}
 use borrow.Author.Needs.{needs}
 use Rattle.reading.proofs.view.see_file.Statement.{statement}

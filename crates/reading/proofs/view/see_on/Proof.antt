@@ -1,6 +1,5 @@
 -- Each way out is one row that holds after those that don't.
-use Rattle.calls.specs.Laws.Files.{named-below}
-use Rattle.reading.specs.Laws.Clusters.{named-plain}
+use Rattle.holding.specs.Laws.Found.{named-file}
 use Rattle.reading.specs.Laws.View.{see-42, see-2, see-well}
 use borrow.Author.Needs.{needs}
 use Rattle.reading.proofs.view.see_on.Statement.{statement}
@@ -22,7 +21,7 @@ enum-known-slot : tie.Need-enum-known-slot
 enum-known-slot c = search needs
 
 see-file-requires : tie.Need-see-file-requires
-see-file-requires c κs = (search needs, (search named-below, search named-plain))
+see-file-requires c κs = (search needs, search named-file)
 
 returns-2 : tie.Need-returns-2
 returns-2 c = search see-2

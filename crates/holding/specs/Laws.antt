@@ -1,0 +1,4 @@
+-- The laws of the definitions beside this folder.
+pub mod Clusters
+pub mod Found
+pub mod Chain

@@ -1,0 +1,63 @@
+-- A file of a ready volume has exactly the clusters that its size needs, and they hold it.
+use Prim.Native.Nat.{ℕ, _+_, _*_, _≤_, _<_}
+use native.Mathlib.Omega.{arith}
+use mathlib.Core.List.{List}
+use mathlib.Core.Path.{_≡_, refl, sym, ap, _∙_, subst}
+use lib.ListN.{length}
+use Rattle.chains.specs.Chain.{Chain}
+use Rattle.chains.specs.Holders.{Holder, Owns, fileHolder}
+use Rattle.chains.specs.Sizes.{clustersFor}
+use Rattle.chains.specs.Laws.Clusters.{file-owns}
+use Rattle.chains.specs.Laws.Holders.{file-fits}
+use Rattle.chains.specs.Laws.Sizes.{fits-exact}
+use Rattle.chains.specs.Laws.Tests.{says-true}
+use Rattle.contents.specs.Laws.Chain.{chain-is}
+use Rattle.diskette.specs.Places.{firstData, clusterBytes, lastCluster, rootEntries, slotAt}
+use Rattle.diskette.specs.declared.Kind.{Kind}
+use Rattle.directory.specs.Fields.{startOf, sizeOf}
+use Rattle.sound.specs.Files.{valueOf}
+use Rattle.sound.specs.Sound.{Sound}
+use Rattle.sound.specs.Laws.Geometry.{geometry}
+use Rattle.sound.specs.Laws.IsSound.{known-says}
+use Rattle.calls.specs.Ready.{OnVolume}
+use Rattle.calls.specs.Laws.Ready.{on-usable}
+use Rattle.calls.specs.Laws.Files.{slot-within}
+use Rattle.holding.specs.Holding.{fileChain, FileIn}
+use Rattle.holding.specs.Laws.Clusters.{on-clusters}
+
+module _ (img : List ℕ) (k : Kind) (v : OnVolume img k) (slot : ℕ) (i : FileIn img k slot) where
+  pub file-below : slot ≤ rootEntries k
+  file-below = let h : slot < rootEntries k = i .below in omega arith
+
+  -- its slot fits 32 bits
+  pub slot-fits : slot < 4294967296
+  slot-fits =
+      let h : slot < rootEntries k = i .below in
+      let r : k .root ≤ 4096 = on-usable img k v .few-slots in
+      omega arith
+
+  pub file-within : (a : ℕ) → a ≡ slotAt k slot → a + 32 ≤ length img
+  file-within a e = slot-within img k v slot a (i .below) e
+
+  abbrev holder : Holder
+  holder = fileHolder (clusterBytes k) (startOf img (slotAt k slot)) (sizeOf img (slotAt k slot))
+
+  sound : Sound k img
+  sound = says-true (known-says img k (v .known)) (v .sound)
+
+  pub file-owned : Owns (lastCluster k) (valueOf k img) holder (fileChain k img slot)
+  file-owned =
+      let o : Owns (lastCluster k) (valueOf k img) holder (sound .0 slot)
+      = file-owns (lastCluster k) (clusterBytes k) (geometry k (on-usable img k v) .wide) (valueOf k img) _ _ (sound .0 slot) (sound .1 .chains slot (i .below, i .plain)) in
+      let e = chain-is (512 * firstData k) (clusterBytes k) (lastCluster k) img (startOf img (slotAt k slot)) (on-clusters img k v) (sound .0 slot) (o .chain) in
+      subst (Owns (lastCluster k) (valueOf k img) holder) (sym e) o
+
+  pub file-chain : Chain (lastCluster k) (valueOf k img) (startOf img (slotAt k slot)) (fileChain k img slot)
+  file-chain = file-owned .chain
+
+  pub chain-long : length (fileChain k img slot) ≡ clustersFor (clusterBytes k) (sizeOf img (slotAt k slot))
+  chain-long = fits-exact (clusterBytes k) (sizeOf img (slotAt k slot)) (length (fileChain k img slot)) (file-owned .long)
+
+  -- the chain has room for the size
+  pub file-holds : sizeOf img (slotAt k slot) ≤ length (fileChain k img slot) * clusterBytes k
+  file-holds = file-fits (geometry k (on-usable img k v)) (valueOf k img) holder (fileChain k img slot) (startOf img (slotAt k slot)) (sizeOf img (slotAt k slot)) refl file-owned

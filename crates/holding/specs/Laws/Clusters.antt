@@ -1,0 +1,38 @@
+-- The clusters and the tables of a volume that is ready, in the form of the code's needs.
+use Prim.Native.Nat.{ℕ, _+_, _*_, _/_, _≤_, _<_}
+use native.Mathlib.Omega.{arith}
+use mathlib.Core.List.{List}
+use mathlib.Core.Path.{_≡_}
+use lib.ListN.{length}
+use Rattle.contents.specs.Contents.{Area}
+use Rattle.contents.specs.Laws.Kinds.{area-kind}
+use Rattle.diskette.specs.Kinds.{Usable}
+use Rattle.diskette.specs.Places.{firstData, clusterBytes, copyTwo, lastCluster}
+use Rattle.diskette.specs.declared.Kind.{Kind}
+use Rattle.table.specs.Entries.{Reaches}
+use Rattle.calls.specs.Ready.{OnVolume}
+use Rattle.calls.specs.Laws.Ready.{on-usable, on-of-kind, on-area}
+
+module _ (img : List ℕ) (k : Kind) (v : OnVolume img k) where
+  pub on-clusters : Area (512 * firstData k) (clusterBytes k) (lastCluster k) (length img)
+  on-clusters = area-kind k (on-usable img k v) (length img) (omega (arith, on-of-kind img k v .long))
+
+  pub kind-area : (first cb last : ℕ) → first ≡ firstData k → cb ≡ clusterBytes k → last ≡ lastCluster k → Area (512 * first) cb last (length img)
+  kind-area first cb last fe ce le = rw (fe, ce, le) on-clusters
+
+  pub base-fits : (first : ℕ) → first ≡ firstData k → 512 * first < 18446744073709551616
+  base-fits first e = omega (arith, on-usable img k v .whole, on-usable img k v .small)
+
+  pub cluster-wide : (cb : ℕ) → cb ≡ clusterBytes k → 0 < cb
+  cluster-wide cb e = rw e (on-clusters .wide)
+
+  -- both copies of the table stand within the image
+  pub copies-reach : (second last : ℕ) → second ≡ copyTwo k → last ≡ lastCluster k → Reaches second img last
+  copies-reach second last e f =
+      let u : Usable k = on-usable img k v in
+      let h : 512 * firstData k ≤ length img = on-area img k v in
+      let r : lastCluster k * 3 / 2 + 2 ≤ 512 * k .fat = u .reaches in
+      rw (e, f) (record { low = omega arith; high = omega arith })
+
+  pub last-small : (last : ℕ) → last ≡ lastCluster k → last ≤ 4079
+  last-small last e = rw e (on-usable img k v .below-aside)

@@ -1,0 +1,116 @@
+-- Write: how much is written, and each way out, by the rows passed before it. Only one outcome fits.
+use Prim.Native.Nat.{ℕ, _+_, _-_, _*_, _≤_, _<_}
+use native.Mathlib.Omega.{arith}
+use mathlib.Core.List.{List, []}
+use mathlib.Core.Logic.{_≢_}
+use mathlib.Core.Path.{_≡_, refl, sym, ap, _∙_}
+use lib.ListN.{length, take}
+use borrow.Author.Tests.{eq-eqb, ne-eqb}
+use Rattle.chains.specs.Write.{accepted}
+use Rattle.diskette.specs.Places.{clusterBytes, rootAt, rootEntries}
+use Rattle.diskette.specs.declared.Kind.{Kind}
+use Rattle.search.specs.declared.Found.{Found}
+use Rattle.search.specs.declared.Found.the-variants.{At, Nothing}
+use Rattle.opened.specs.Records.{accessOf, pointerOf, withPointer, withWritten}
+use Rattle.opened.specs.Places.{liveSlot}
+use Rattle.sound.specs.Counts.{freeOf}
+use Rattle.calls.specs.Outcome.{Outcome, refusal, decided, refusedBy, answering}
+use Rattle.calls.specs.Ready.{readyOf, OnVolume}
+use Rattle.calls.specs.Laws.Ready.{on-kind, on-usable, known-passed, sound-passed, ready-refused}
+use Rattle.calls.specs.Laws.Files.{not-live, live-passed, live-slot}
+use Rattle.calls.specs.declared.Answer.{Answer}
+use Rattle.calls.specs.declared.Ready.{Ready}
+use Rattle.calls.specs.declared.Ready.the-variants.{Refused}
+use Rattle.holding.specs.Holding.{fileChain, FileIn}
+use Rattle.writing.specs.Longer.{roomOf}
+use Rattle.writing.specs.Write.{writtenIn, writeAt, writeOutcome, Writes, WritesAt}
+use Rattle.writing.specs.Laws.Room.{room-clusters, room-fits}
+
+pub writes-only : {img t : List ℕ} {h : ℕ} {bs : List ℕ} {r r′ : Answer} {l l′ m m′ : List ℕ} → Writes img t h bs r l m → Writes img t h bs r′ l′ m′
+    → (r .number ≡ r′ .number) × (r .value ≡ r′ .value) × (l ≡ l′) × (m ≡ m′)
+writes-only x y =
+    let e = x .is ∙ sym (y .is) in
+    (ap (λ (o : Outcome). o .number) e, ap (λ (o : Outcome). o .value) e, ap (λ (o : Outcome). o .image) e, ap (λ (o : Outcome). o .table) e)
+
+-- ---- the room
+
+module _ (img : List ℕ) (k : Kind) (v : OnVolume img k) (slot : ℕ) (i : FileIn img k slot) (own free : ℕ) (eo : own ≡ length (fileChain k img slot)) (ef : free ≡ freeOf k img) where
+  pub clusters-fit : own + free < 18446744073709551616
+  clusters-fit = omega (arith, room-clusters img k v slot i, on-usable img k v .below-aside)
+
+  pub room-fits-word : (cb : ℕ) → cb ≡ clusterBytes k → (own + free) * cb < 18446744073709551616
+  unfolding roomOf
+  room-fits-word cb ec = rw (eo, ef, ec) (omega (arith, room-fits img k v slot i))
+
+  pub room-is : (cb : ℕ) → cb ≡ clusterBytes k → (own + free) * cb ≡ roomOf k img slot
+  unfolding roomOf
+  room-is cb ec = rw (eo, ef, ec)
+
+-- ---- the count
+
+module _ (room pointer n : ℕ) where
+  pub none-left : room ≤ pointer → 0 ≡ accepted room pointer n
+  unfolding accepted
+  none-left h = omega arith
+
+  module _ (more : pointer < room) where
+    pub all-taken : n < room - pointer → n ≡ accepted room pointer n
+    unfolding accepted
+    all-taken h = omega arith
+
+    pub some-taken : room - pointer ≤ n → room - pointer ≡ accepted room pointer n
+    unfolding accepted
+    some-taken h = omega arith
+
+pub count-within : (room pointer : ℕ) (bs : List ℕ) (n : ℕ) → n ≡ accepted room pointer (length bs) → n ≤ length bs
+unfolding accepted
+count-within room pointer bs n e = omega arith
+
+module _ (img : List ℕ) (k : Kind) (slot room pointer many n : ℕ) (er : room ≡ roomOf k img slot) (e : n ≡ accepted room pointer many) (some : n ≢ 0) where
+  pub count-reaches : pointer + n ≤ roomOf k img slot
+  unfolding accepted
+  count-reaches = omega arith
+
+  module _ (v : OnVolume img k) (i : FileIn img k slot) where
+    pub pointer-fits : pointer + n < 4294967296
+    pointer-fits = omega (arith, count-reaches, room-fits img k v slot i)
+
+    pub answer-fits : n < 4294967296
+    answer-fits = omega (arith, count-reaches, room-fits img k v slot i)
+
+-- ---- the file in the slot
+
+module _ (k : Kind) (img t : List ℕ) (slot h : ℕ) (bs : List ℕ) (room pointer n : ℕ) (ep : pointer ≡ pointerOf t h) (er : room ≡ roomOf k img slot) (en : n ≡ accepted room pointer (length bs)) where
+  pub write-none : n ≡ 0 → (a : Answer) → a ≡ answering 0 → WritesAt k img t slot h bs a img t
+  unfolding writeAt
+  write-none z a x = record { is = rw (x, ← ep, ← er, ← en, eq-eqb n 0 z) }
+
+  pub write-some : n ≢ 0 → (l m : List ℕ) → l ≡ writtenIn k img slot pointer (take n bs) → m ≡ withWritten (withPointer t h (pointer + n)) h → (a : Answer) → a ≡ answering n → WritesAt k img t slot h bs a l m
+  unfolding writeAt
+  write-some z l m el em a x = record { is = rw (x, el, em, ← ep, ← er, ← en, ne-eqb n 0 z) }
+
+-- ---- the ways out
+
+module _ (img t : List ℕ) (h : ℕ) (bs : List ℕ) where
+  abbrev Refuses : ℕ → Type 0
+  Refuses n = (a : Answer) → a ≡ refusedBy n → Writes img t h bs a img t
+
+  pub write-not-ready : (r : Ready) → r ≡ readyOf img → (n : ℕ) → r ≡ Refused n → Refuses n
+  unfolding writeOutcome
+  write-not-ready r e n q a x = record { is = rw x (sym (ready-refused img r e n q .answer _ _ t [])) }
+
+  module _ (k : Kind) (v : OnVolume img k) (f : Found) (found : f ≡ liveSlot t h img (rootAt k) (rootEntries k)) where
+    pub write-6 : f ≡ Nothing → Refuses 6
+    unfolding writeOutcome decided refusal
+    write-6 q a x = record { is = rw (x, known-passed img k v, sound-passed img k v, not-live img k t h f found v q) }
+
+    module _ (slot : ℕ) (at : f ≡ At slot) (access : ℕ) (has : access ≡ accessOf t h) where
+      pub write-5 : access ≡ 0 → Refuses 5
+      unfolding writeOutcome decided refusal
+      write-5 q a x = record { is = rw (x, known-passed img k v, sound-passed img k v, live-passed img k t h f found slot at v, ← has, eq-eqb access 0 q) }
+
+      pub write-well : access ≢ 0 → (a : Answer) (l m : List ℕ) → WritesAt k img t slot h bs a l m → Writes img t h bs a l m
+      unfolding writeOutcome decided refusal
+      write-well may a l m y = record {
+        is = rw (known-passed img k v, sound-passed img k v, live-passed img k t h f found slot at v, ← has, ne-eqb access 0 may, on-kind img k v, ← live-slot img k t h f found slot at) (y .is);
+      }

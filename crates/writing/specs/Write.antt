@@ -1,0 +1,65 @@
+-- "Write has room for (own clusters + free) times cluster bytes. It writes the smaller of the length and room less pointer; 0
+-- when the pointer is at or past the room. If 0, nothing changes. Else bytes between the old size and the pointer become zero,
+-- size becomes the larger of old size and pointer plus count, and each new cluster is the lowest free. Bytes past the size
+-- stay. Size and start are stored at once (group's rule)."
+-- "A read or write that ends well moves the pointer by the count."
+use Prim.Native.Nat.{ℕ, _+_, _*_, max}
+use mathlib.Core.Bool.{cond}
+use mathlib.Core.List.{List, [], _∷_}
+use mathlib.Core.Path.{_≡_}
+use lib.Dec.{eqb}
+use lib.ListN.{length, take}
+use Rattle.chains.specs.Write.{accepted, writtenImage}
+use Rattle.diskette.specs.Places.{firstData, clusterBytes, slotAt}
+use Rattle.diskette.specs.declared.Kind.{Kind}
+use Rattle.directory.specs.Fields.{sizeOf}
+use Rattle.opened.specs.Records.{slotOf, accessOf, pointerOf, withPointer, withWritten}
+use Rattle.calls.specs.Outcome.{Row, Outcome, outcome, decided}
+use Rattle.calls.specs.Refusals.{theKind, notOfKind, notSound, notLive}
+use Rattle.calls.specs.declared.Answer.{Answer}
+use Rattle.writing.specs.Longer.{roomOf, chainAfter, lengthened}
+
+-- "the smaller of the length and room less pointer"
+abbrev pub writeCount : Kind → List ℕ → ℕ → ℕ → ℕ → ℕ
+writeCount k img slot pointer n = accepted (roomOf k img slot) pointer n
+
+-- "size becomes the larger of old size and pointer plus count"
+abbrev pub sizeAfter : Kind → List ℕ → ℕ → ℕ → ℕ → ℕ
+sizeAfter k img slot pointer n = max (sizeOf img (slotAt k slot)) (pointer + n)
+
+-- the image after the bytes bs were put at the pointer, zeros before them from the old size on
+unfoldable pub writtenIn : Kind → List ℕ → ℕ → ℕ → List ℕ → List ℕ
+writtenIn k img slot pointer bs =
+    let size = sizeAfter k img slot pointer (length bs) in
+    writtenImage (512 * firstData k) (clusterBytes k) (lengthened k img slot size) (chainAfter k img slot size) (sizeOf img (slotAt k slot)) pointer bs
+
+abbrev pub writeRows : List ℕ → List ℕ → ℕ → List Row
+writeRows img t h =
+    (notOfKind img, 40)
+    ∷ (notSound img, 41)
+    ∷ (notLive img t h, 6)
+    ∷ (eqb (accessOf t h) 0, 5)
+    ∷ []
+
+-- at the pointer of place h, into the file in the slot: "If 0, nothing changes"
+unfoldable pub writeAt : Kind → List ℕ → List ℕ → ℕ → ℕ → List ℕ → Outcome
+writeAt k img t slot h bs =
+    let pointer = pointerOf t h in
+    let n = writeCount k img slot pointer (length bs) in
+    cond (eqb n 0) (outcome 0 0 img t [])
+    (outcome 0 n (writtenIn k img slot pointer (take n bs)) (withWritten (withPointer t h (pointer + n)) h) [])
+
+abbrev pub writeEffect : List ℕ → List ℕ → ℕ → List ℕ → Outcome
+writeEffect img t h bs = writeAt (theKind img) img t (slotOf t h) h bs
+
+unfoldable pub writeOutcome : List ℕ → List ℕ → ℕ → List ℕ → Outcome
+writeOutcome img t h bs = decided (writeRows img t h) (writeEffect img t h bs) img t []
+
+-- what the call promises: its answer r, the image and the table after
+pub record Writes (img t : List ℕ) (h : ℕ) (bs : List ℕ) (r : Answer) (after table : List ℕ) : Type 0 where
+  pub is : outcome (r .number) (r .value) after table [] ≡ writeOutcome img t h bs
+
+-- ---- an aid to the proofs: the effect, of the file in a slot
+
+pub record WritesAt (k : Kind) (img t : List ℕ) (slot h : ℕ) (bs : List ℕ) (r : Answer) (after table : List ℕ) : Type 0 where
+  pub is : outcome (r .number) (r .value) after table [] ≡ writeAt k img t slot h bs

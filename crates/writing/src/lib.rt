@@ -1,0 +1,4 @@
+// Bytes put into files: write.
+pub mod longer;
+pub mod put;
+pub mod write;

@@ -1,0 +1,104 @@
+// Write.
+use crate::longer;
+use crate::put;
+use calls::Answer;
+use calls::Ready;
+use calls::files;
+use calls::make_ready;
+use diskette::Kind;
+use search::Found;
+ghost use Prim.Native.Nat.{_+_, _<_};
+ghost use mathlib.Core.Path.{_≡_};
+ghost use Rattle.chains.specs.Write.{accepted};
+ghost use Rattle.opened.specs.Records.{placeCount, withPointer, withWritten};
+ghost use Rattle.sound.specs.Counts.{freeOf};
+ghost use Rattle.calls.specs.Ready.{OnVolume};
+ghost use Rattle.holding.specs.Holding.{FileIn};
+ghost use Rattle.writing.specs.Longer.{roomOf};
+ghost use Rattle.writing.specs.Write.{Writes, WritesAt};
+
+// The bytes for which the file in the slot has room, where so many clusters are free.
+fn room_for(img: &[u8], k: Kind, slot: usize, free: usize) -> usize
+    requires { ⌜ OnVolume (now img) k ⌝ }
+    requires { ⌜ FileIn (now img) k slot ⌝ }
+    requires { ⌜ free ≡ freeOf k (now img) ⌝ }
+    ensures { λ r. ⌜ r ≡ roomOf k (now (img .entry)) slot ⌝ }
+{
+    let clusters = longer::own_clusters(img, k, slot) + free;
+    clusters * k.cluster_bytes()
+}
+
+// How many of n bytes are written at the pointer.
+fn count_of(room: usize, pointer: u32, n: usize) -> usize
+    ensures { λ r. ⌜ r ≡ accepted room pointer n ⌝ }
+{
+    let pointer = pointer as usize;
+    if room <= pointer {
+        return 0;
+    }
+    let left = room - pointer;
+    if n < left { n } else { left }
+}
+
+// The place after n bytes were written at its pointer.
+fn move_on(t: &mut [u8], place: usize, pointer: u32, n: usize)
+    requires { ⌜ place < placeCount (now t) ⌝ }
+    requires { ⌜ pointer + n < 4294967296 ⌝ }
+    ensures { λ _. ⌜ now (t .exit) ≡ withWritten (withPointer (now (t .entry)) place (pointer + n)) place ⌝ }
+{
+    opened::put_pointer(t, place, pointer + n as u32);
+    opened::put_written(t, place);
+}
+
+// Writes at the pointer of the place into the file in the slot.
+fn write_at(
+    img: &mut [u8],
+    k: Kind,
+    free: usize,
+    slot: usize,
+    t: &mut [u8],
+    place: usize,
+    bytes: &[u8],
+) -> Answer
+    requires { ⌜ OnVolume (now img) k ⌝ }
+    requires { ⌜ FileIn (now img) k slot ⌝ }
+    requires { ⌜ free ≡ freeOf k (now img) ⌝ }
+    requires { ⌜ place < placeCount (now t) ⌝ }
+    ensures { λ r. ⌜ WritesAt k (now (img .entry)) (now (t .entry)) slot place (now (bytes .entry)) r (now (img .exit)) (now (t .exit)) ⌝ }
+{
+    let pointer = opened::pointer_at(t, place);
+    let n = count_of(room_for(img, k, slot, free), pointer, bytes.len());
+    if n == 0 {
+        return Answer::well(0);
+    }
+    put::put_first(img, k, slot, pointer, bytes, n);
+    move_on(t, place, pointer, n);
+    Answer::well(n as u32)
+}
+
+// Writes to a file of a volume that is ready, where so many clusters are free.
+fn write_on(img: &mut [u8], k: Kind, free: usize, t: &mut [u8], handle: u32, bytes: &[u8]) -> Answer
+    requires { ⌜ OnVolume (now img) k ⌝ }
+    requires { ⌜ free ≡ freeOf k (now img) ⌝ }
+    ensures { λ r. ⌜ Writes (now (img .entry)) (now (t .entry)) handle (now (bytes .entry)) r (now (img .exit)) (now (t .exit)) ⌝ }
+{
+    match files::file_open(img, k, t, handle) {
+        Found::Nothing => Answer::refused(6),
+        Found::At(slot) => {
+            let place = handle as usize;
+            if opened::access_at(t, place) == 0 {
+                return Answer::refused(5);
+            }
+            write_at(img, k, free, slot, t, place, bytes)
+        }
+    }
+}
+
+pub fn write(img: &mut [u8], t: &mut [u8], handle: u32, bytes: &[u8]) -> Answer
+    ensures { λ r. ⌜ Writes (now (img .entry)) (now (t .entry)) handle (now (bytes .entry)) r (now (img .exit)) (now (t .exit)) ⌝ }
+{
+    match make_ready(img) {
+        Ready::Refused(number) => Answer::refused(number),
+        Ready::Volume(k, free) => write_on(img, k, free, t, handle, bytes),
+    }
+}
