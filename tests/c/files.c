@@ -111,6 +111,11 @@ static uint64_t read_file(struct desk *desk, uint32_t handle, uint8_t *buffer, s
     return bm_read(IMAGE, TABLE, handle, buffer, length);
 }
 
+static uint64_t write_file(struct desk *desk, uint32_t handle, const uint8_t *data, size_t length)
+{
+    return bm_write(IMAGE, TABLE, handle, data, length);
+}
+
 static uint64_t seek_file(struct desk *desk, uint32_t handle, uint32_t method, int32_t offset)
 {
     return bm_seek(IMAGE, TABLE, handle, method, offset);
@@ -365,6 +370,113 @@ static void try_read(void)
     put_away(&d);
 }
 
+/* ---- Write ---- */
+
+/* The specification's listing, made by the calls. */
+static void try_write_listing(void)
+{
+    struct desk d = new_desk(lay_out_blank_fe, BM_TABLE_SIZE(2));
+    uint8_t data[1025];
+    puts("-- write");
+    memset(data, 'T', 40);
+    expect(answers(create_file(&d, "TARE.KEY", 0x01, &morning), 0, 0), "TARE.KEY is made");
+    expect(answers(write_file(&d, 0, data, 40), 0, 40), "40 bytes are written, though it is read-only");
+    expect(answers(close_file(&d, 0, &morning), 0, 0), "and it is closed");
+    memset(data, 'D', 1025);
+    expect(answers(create_file(&d, "DAY001.LOG", 0x00, &evening), 0, 0), "DAY001.LOG is made");
+    expect(answers(write_file(&d, 0, data, 1025), 0, 1025), "1,025 bytes are written");
+    lay_out_listing(d.wanted_image.bytes);
+    leaves(&d, close_file(&d, 0, &evening), 0, 0, "when it is closed, the volume is the listing's to the byte");
+    put_away(&d);
+}
+
+/* The record of DAY001.LOG after a write. */
+static void want_written(struct desk *desk, uint32_t pointer)
+{
+    put_record(desk->wanted_table.bytes, 0, 1, 1, DAY, pointer);
+}
+
+/* Over the end, and then past the end: the bytes between become 0, and the lowest free cluster, 6, is added. */
+static void try_write_scattered(void)
+{
+    static const uint8_t data[10] = {1, 2, 3, 4, 5, 6, 7, 8, 9, 10};
+    static const uint8_t table[12] = {0xFE, 0xFF, 0xFF, 0xFF, 0x4F, 0x00, 0x06, 0x30, 0x00, 0xFF, 0x0F, 0x00};
+    struct desk d = new_desk(lay_out_scattered, BM_TABLE_SIZE(2));
+    uint8_t *wanted = d.wanted_image.bytes;
+    set_record(&d, 0, 1, 0, DAY, 1020);
+    memcpy(wanted + 8 * 512 + 508, data, 4);
+    memcpy(wanted + 9 * 512, data + 4, 6);
+    put16(wanted_slot(&d, DAY) + 28, 1030);
+    want_written(&d, 1030);
+    leaves(&d, write_file(&d, 0, data, 10), 0, 10, "10 bytes at 1,020, in clusters 3 and 4: the size is 1,030");
+    set_record(&d, 0, 1, 1, DAY, 2000);
+    memset(wanted + 9 * 512 + 6, 0, 506);
+    memset(wanted + 11 * 512, 0, 464);
+    memcpy(wanted + 11 * 512 + 464, data, 5);
+    memcpy(wanted + COPY_1, table, sizeof table);
+    memcpy(wanted + COPY_2, table, sizeof table);
+    put16(wanted_slot(&d, DAY) + 28, 2005);
+    want_written(&d, 2005);
+    leaves(&d, write_file(&d, 0, data, 5), 0, 5, "5 bytes at 2,000, with zeros before them, in a new cluster");
+    set_record(&d, 0, 1, 1, DAY, 0);
+    wanted[10 * 512] = 1;
+    want_written(&d, 1);
+    leaves(&d, write_file(&d, 0, data, 1), 0, 1, "1 byte at 0: the size stays");
+    put_away(&d);
+}
+
+static void try_write_nothing(void)
+{
+    struct desk d = new_desk(lay_out_scattered, BM_TABLE_SIZE(2));
+    uint8_t data[1] = {7};
+    set_record(&d, 0, 2, 0, DAY, 3000);
+    leaves(&d, write_file(&d, 0, data, 0), 0, 0, "no bytes: nothing changes, past the end either");
+    set_record(&d, 0, 2, 0, DAY, 312 * 512);
+    leaves(&d, write_file(&d, 0, data, 1), 0, 0, "at the room's end, 312 clusters: nothing changes");
+    set_record(&d, 0, 2, 0, DAY, 4294967295u);
+    leaves(&d, write_file(&d, 0, data, 1), 0, 0, "far past it: the same");
+    set_record(&d, 0, 0, 0, DAY, 0);
+    leaves(&d, write_file(&d, 0, data, 1), BM_ACCESS_DENIED, 0, "a file open for reading: 5");
+    leaves(&d, write_file(&d, 1, data, 1), BM_INVALID_HANDLE, 0, "a place that is not used: 6");
+    leaves(&d, write_file(&d, 4000000000u, data, 1), BM_INVALID_HANDLE, 0, "handle 4,000,000,000: 6");
+    put_away(&d);
+}
+
+/* Stores an entry of a table, by the specification's rule. */
+static void put_link(uint8_t *table, unsigned cluster, unsigned value)
+{
+    uint8_t *at = table + cluster * 3 / 2;
+    unsigned word = at[0] + 256u * at[1];
+    put16(at, cluster % 2 == 0 ? (word & 0xF000) | value : (word & 0x000F) | value << 4);
+}
+
+/* "A blank FD has 354 free clusters; a write of 362,497 bytes answers 362,496, the next 0." */
+static void try_write_all(void)
+{
+    struct block image = new_block(BM_IMAGE_SIZE_FD), wanted = new_block(BM_IMAGE_SIZE_FD), data = new_block(362497);
+    uint8_t table[16] = {0};
+    unsigned cluster;
+    lay_out_blank(&kinds[3], image.bytes);
+    lay_out_blank(&kinds[3], wanted.bytes);
+    for (cluster = 2; cluster <= 355; cluster++) {
+        put_link(wanted.bytes + 512, cluster, cluster < 355 ? cluster + 1 : 0xFFF);
+        put_link(wanted.bytes + 512 * 3, cluster, cluster < 355 ? cluster + 1 : 0xFFF);
+    }
+    put_entry(wanted.bytes + 512 * 5, "ALL        ", 0x00, 0x3500, 2, 362496 % 65536);
+    put16(wanted.bytes + 512 * 5 + 30, 362496 / 65536);
+    memset(wanted.bytes + 512 * 12, OLD_BYTE, 362496);
+    bm_create(image.bytes, image.length, table, 16, NAME("ALL"), 0, 6, 40, 0, 3, 9, 1);
+    expect(answers(bm_write(image.bytes, image.length, table, 16, 0, data.bytes, 362497), 0, 362496),
+           "362,496 of 362,497");
+    expect(answers(bm_write(image.bytes, image.length, table, 16, 0, data.bytes, 1), 0, 0), "the next: 0");
+    expect(memcmp(image.bytes, wanted.bytes, image.length) == 0, "every cluster holds its bytes");
+    expect(answers(bm_free_space(image.bytes, image.length, NULL, 0), 0, 0), "none is free");
+    expect(guards_stand(&image) && guards_stand(&data), "nothing outside the image");
+    free(image.all);
+    free(wanted.all);
+    free(data.all);
+}
+
 /* ---- Seek ---- */
 
 static void seeks(struct desk *d, uint32_t method, int32_t offset, uint32_t pointer, const char *what)
@@ -514,6 +626,7 @@ static void refuse_all(struct desk *d, uint32_t number, const char *what)
     leaves(d, open_file(d, "*", 3), number, 0, "open");
     leaves(d, create_file(d, "*", 0xFF, &bad), number, 0, "create");
     leaves(d, read_file(d, 99, buffer.bytes, 8), number, 0, "read");
+    leaves(d, write_file(d, 99, buffer.bytes, 8), number, 0, "write");
     leaves(d, seek_file(d, 99, 3, -1), number, 0, "seek");
     leaves(d, close_file(d, 99, &bad), number, 0, "close");
     leaves(d, delete_file(d, "*"), number, 0, "delete");
@@ -544,6 +657,7 @@ static void try_null_runs(void)
     leaves(&d, bm_open(IMAGE, NULL, 0, NAME("TARE.KEY"), 0), BM_TOO_MANY_OPEN, 0, "open without a table: 4");
     leaves(&d, bm_open(IMAGE, TABLE, NULL, 0, 0), BM_BAD_NAME, 0, "open without a name: 42");
     leaves(&d, bm_read(IMAGE, TABLE, 0, NULL, 0), 0, 0, "read without a buffer: 0 bytes");
+    leaves(&d, bm_write(IMAGE, TABLE, 0, NULL, 0), 0, 0, "write without data: 0 bytes");
     leaves(&d, bm_seek(IMAGE, NULL, 0, 0, 0, 0), BM_INVALID_HANDLE, 0, "seek without a table: 6");
     leaves(&d, bm_delete(IMAGE, NULL, 0, NULL, 0), BM_BAD_NAME, 0, "delete without a name: 42");
     leaves(&d, bm_rename(IMAGE, NULL, 0, NAME("DAY001.LOG"), NULL, 0), BM_BAD_NAME, 0, "rename without a new name: 42");
@@ -562,6 +676,10 @@ void try_files(void)
     try_full_root();
     try_stamps();
     try_read();
+    try_write_listing();
+    try_write_scattered();
+    try_write_nothing();
+    try_write_all();
     try_seek();
     try_close();
     try_delete();
