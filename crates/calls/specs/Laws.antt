@@ -2,8 +2,4 @@
 pub mod Rows
 pub mod Ready
 pub mod Files
-pub mod Open
-pub mod Seek
-pub mod Close
-pub mod Mode
-pub mod Rename
+pub mod Attribute

@@ -1,10 +1,6 @@
-// The calls on a volume and an open table.
-pub mod close;
+// What the calls on a volume and an open table have in common.
+pub mod attribute;
 pub mod files;
-pub mod mode;
-pub mod open;
-pub mod rename;
-pub mod seek;
 
 use diskette::Kind;
 use diskette::WhichKind;

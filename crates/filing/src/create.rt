@@ -2,9 +2,9 @@
 use crate::freed;
 use calls::Answer;
 use calls::Ready;
+use calls::attribute;
 use calls::files;
 use calls::make_ready;
-use calls::mode;
 use diskette::Kind;
 use search::Found;
 use stamps::Packed;
@@ -95,7 +95,7 @@ fn create_on(img: &mut [u8], k: Kind, t: &mut [u8], s: &[u8], attr: u32, stamp: 
     match stamp.pack() {
         Packed::OutOfRange => Answer::refused(43),
         Packed::Words(time, date) => {
-            if mode::is_bad_attr(attr) {
+            if attribute::is_bad_attr(attr) {
                 return Answer::refused(5);
             }
             let name = given.name;

@@ -1,6 +1,6 @@
 // Makes the volume of document 01's listing case by the calls, and writes its system area to standard output.
-use calls::close::close;
 use filing::create::create;
+use opening::close::close;
 use stamps::Stamp;
 use volume::format::format;
 use writing::write::write;

@@ -3,11 +3,11 @@ use crate::answer;
 use stamps::Stamp;
 ghost use mathlib.Core.List.{[]};
 ghost use mathlib.Core.Path.{_≡_};
-ghost use Rattle.calls.specs.Close.{closeOutcome};
-ghost use Rattle.calls.specs.Mode.{modeOutcome};
-ghost use Rattle.calls.specs.Open.{openOutcome};
-ghost use Rattle.calls.specs.Rename.{renameOutcome};
-ghost use Rattle.calls.specs.Seek.{seekOutcome};
+ghost use Rattle.opening.specs.Close.{closeOutcome};
+ghost use Rattle.marking.specs.Mode.{modeOutcome};
+ghost use Rattle.opening.specs.Open.{openOutcome};
+ghost use Rattle.marking.specs.Rename.{renameOutcome};
+ghost use Rattle.opening.specs.Seek.{seekOutcome};
 ghost use Rattle.filing.specs.Create.{createOutcome};
 ghost use Rattle.filing.specs.Delete.{deleteOutcome};
 ghost use Rattle.reading.specs.Read.{readOutcome};
@@ -33,7 +33,7 @@ fn stamp(hour: u32, minute: u32, step: u32, year: u32, month: u32, day: u32) -> 
 pub extern "C" fn bm_open(img: &[u8], t: &mut [u8], name: &[u8], access: u32) -> u64
     ensures { λ r. ⌜ Leaves (openOutcome (now (img .entry)) (now (t .entry)) (now (name .entry)) access) r (now (img .entry)) (now (t .exit)) [] ⌝ }
 {
-    answer::hand(calls::open::open(img, t, name, access))
+    answer::hand(opening::open::open(img, t, name, access))
 }
 
 // Creates or empties a file and opens it: the value is its handle.
@@ -77,7 +77,7 @@ pub extern "C" fn bm_write(img: &mut [u8], t: &mut [u8], handle: u32, bytes: &[u
 pub extern "C" fn bm_seek(img: &[u8], t: &mut [u8], handle: u32, method: u32, offset: i32) -> u64
     ensures { λ r. ⌜ Leaves (seekOutcome (now (img .entry)) (now (t .entry)) handle method offset) r (now (img .entry)) (now (t .exit)) [] ⌝ }
 {
-    answer::hand(calls::seek::seek(img, t, handle, method, offset))
+    answer::hand(opening::seek::seek(img, t, handle, method, offset))
 }
 
 // Closes a file.
@@ -96,7 +96,7 @@ pub extern "C" fn bm_close(
     ensures { λ r. ⌜ Leaves (closeOutcome (now (img .entry)) (now (t .entry)) handle (stampOf hour minute step year month day)) r (now (img .exit)) (now (t .exit)) [] ⌝ }
 {
     let closed = stamp(hour, minute, step, year, month, day);
-    answer::hand(calls::close::close(img, t, handle, closed))
+    answer::hand(opening::close::close(img, t, handle, closed))
 }
 
 // Deletes a file.
@@ -112,7 +112,7 @@ pub extern "C" fn bm_delete(img: &mut [u8], t: &[u8], name: &[u8]) -> u64
 pub extern "C" fn bm_rename(img: &mut [u8], t: &[u8], name: &[u8], new: &[u8]) -> u64
     ensures { λ r. ⌜ Leaves (renameOutcome (now (img .entry)) (now (t .entry)) (now (name .entry)) (now (new .entry))) r (now (img .exit)) (now (t .entry)) [] ⌝ }
 {
-    answer::hand(calls::rename::rename(img, t, name, new))
+    answer::hand(marking::rename::rename(img, t, name, new))
 }
 
 // Answers a file's attribute (function 0) or sets it (function 1).
@@ -120,7 +120,7 @@ pub extern "C" fn bm_rename(img: &mut [u8], t: &[u8], name: &[u8], new: &[u8]) -
 pub extern "C" fn bm_mode(img: &mut [u8], t: &[u8], name: &[u8], function: u32, attr: u32) -> u64
     ensures { λ r. ⌜ Leaves (modeOutcome (now (img .entry)) (now (t .entry)) (now (name .entry)) function attr) r (now (img .exit)) (now (t .entry)) [] ⌝ }
 {
-    answer::hand(calls::mode::mode(img, t, name, function, attr))
+    answer::hand(marking::mode::mode(img, t, name, function, attr))
 }
 
 // The number by which view refuses, or 0.

@@ -1,7 +1,7 @@
 // The worked numbers that need a volume: a full disk, a full root, a table without places.
 use crate::print;
-use calls::close::close;
 use filing::create::create;
+use opening::close::close;
 use stamps::Stamp;
 use volume::format::format;
 use volume::free_space::free_space;

@@ -19,9 +19,9 @@ use Rattle.volume.specs.FreeSpace.{Spaced}
 use Rattle.volume.specs.declared.EntryAnswer.{EntryAnswer}
 use Rattle.volume.specs.declared.FreeAnswer.{FreeAnswer}
 use Rattle.calls.specs.Outcome.{Outcome, outcome}
-use Rattle.calls.specs.Close.{closeOutcome, Closes}
-use Rattle.calls.specs.Seek.{seekOutcome, Seeks}
-use Rattle.calls.specs.Laws.Seek.{seek-handed}
+use Rattle.opening.specs.Close.{closeOutcome, Closes}
+use Rattle.opening.specs.Seek.{seekOutcome, Seeks}
+use Rattle.opening.specs.Laws.Seek.{seek-handed}
 use Rattle.calls.specs.declared.Answer.{Answer}
 use Rattle.filing.specs.Create.{createOutcome, Creates}
 use Rattle.reading.specs.View.{ViewNumbers}

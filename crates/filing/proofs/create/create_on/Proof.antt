@@ -1,5 +1,5 @@
 -- Each way out is one row that holds after those that don't, or the last rows of a new file or of an existing one.
-use Rattle.calls.specs.Laws.Mode.{attr-fits}
+use Rattle.calls.specs.Laws.Attribute.{attr-fits}
 use Rattle.holding.specs.Laws.Found.{named-file}
 use Rattle.filing.specs.Laws.Create.{create-42, create-43, create-attr, create-new, create-old}
 use borrow.Author.Needs.{needs}

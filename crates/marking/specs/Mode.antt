@@ -1,0 +1,34 @@
+-- "File mode: function 0 answers the attribute, 1 sets it (bits as for create)."
+use Prim.Native.Nat.{ℕ}
+use mathlib.Core.Bool.{cond, _&&_}
+use mathlib.Core.List.{List, [], _∷_}
+use mathlib.Core.Path.{_≡_}
+use lib.Dec.{eqb, ltb}
+use Rattle.directory.specs.Fields.{attrOf, withAttr}
+use Rattle.opened.specs.Places.{isOpen}
+use Rattle.calls.specs.Outcome.{Row, Outcome, outcome, decided}
+use Rattle.calls.specs.Refusals.{notOfKind, notSound, badName, noFile, fileSlot, entryAt, badAttr}
+use Rattle.calls.specs.declared.Answer.{Answer}
+
+abbrev pub modeRows : List ℕ → List ℕ → List ℕ → ℕ → ℕ → List Row
+modeRows img t s function attr =
+    (notOfKind img, 40)
+    ∷ (notSound img, 41)
+    ∷ (ltb 1 function, 1)
+    ∷ (badName s, 42)
+    ∷ (noFile img s, 2)
+    ∷ (eqb function 1 && badAttr attr, 5)
+    ∷ (eqb function 1 && isOpen t (fileSlot img s), 5)
+    ∷ []
+
+abbrev pub modeEffect : List ℕ → List ℕ → List ℕ → ℕ → ℕ → Outcome
+modeEffect img t s function attr =
+    let a = entryAt img (fileSlot img s) in
+    cond (eqb function 1) (outcome 0 0 (withAttr img a attr) t []) (outcome 0 (attrOf img a) img t [])
+
+unfoldable pub modeOutcome : List ℕ → List ℕ → List ℕ → ℕ → ℕ → Outcome
+modeOutcome img t s function attr = decided (modeRows img t s function attr) (modeEffect img t s function attr) img t []
+
+-- what the call promises: its answer r, and the image after
+pub record Modes (img t s : List ℕ) (function attr : ℕ) (r : Answer) (after : List ℕ) : Type 0 where
+  pub is : outcome (r .number) (r .value) after t [] ≡ modeOutcome img t s function attr

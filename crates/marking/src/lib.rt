@@ -1,0 +1,3 @@
+// A file's entry changed: rename and file mode.
+pub mod mode;
+pub mod rename;

@@ -1,0 +1,4 @@
+-- The laws of the definitions beside this folder.
+pub mod Open
+pub mod Seek
+pub mod Close

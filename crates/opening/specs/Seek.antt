@@ -1,0 +1,51 @@
+-- "Seek: signed 32-bit offset from 0, from the pointer or from the size (methods 0, 1, 2). It moves that place's pointer and
+-- nothing else, and answers it."
+use Prim.Native.Nat.{ℕ}
+use mathlib.Core.Bool.{Bool, true, false, cond}
+use mathlib.Core.List.{List, [], _∷_}
+use mathlib.Core.Path.{_≡_}
+use lib.Dec.{eqb, ltb}
+use lib.IntN.{ℤ}
+use Rattle.directory.specs.Fields.{sizeOf}
+use Rattle.offset.specs.Offset.{movedBy}
+use Rattle.offset.specs.declared.Moved.{Moved}
+use Rattle.offset.specs.declared.Moved.the-variants.{To, Beyond}
+use Rattle.opened.specs.Records.{slotOf, pointerOf, withPointer}
+use Rattle.calls.specs.Outcome.{Row, Outcome, outcome, decided}
+use Rattle.calls.specs.Refusals.{notOfKind, notSound, notLive, entryAt}
+use Rattle.calls.specs.declared.Answer.{Answer}
+
+-- from where the offset counts
+unfoldable pub seekBase : List ℕ → List ℕ → ℕ → ℕ → ℕ
+seekBase img t h method = cond (eqb method 0) 0 (cond (eqb method 1) (pointerOf t h) (sizeOf img (entryAt img (slotOf t h))))
+
+-- where it leads
+abbrev pub seekMoved : List ℕ → List ℕ → ℕ → ℕ → ℤ → Moved
+seekMoved img t h method offset = movedBy (seekBase img t h method) offset
+
+abbrev pub isBeyond : Moved → Bool
+isBeyond (To v) = false
+isBeyond Beyond = true
+
+abbrev pub pointerMoved : Moved → ℕ
+pointerMoved (To v) = v
+pointerMoved Beyond = 0
+
+abbrev pub seekRows : List ℕ → List ℕ → ℕ → ℕ → ℤ → List Row
+seekRows img t h method offset =
+    (notOfKind img, 40)
+    ∷ (notSound img, 41)
+    ∷ (ltb 2 method, 1)
+    ∷ (notLive img t h, 6)
+    ∷ (isBeyond (seekMoved img t h method offset), 1)
+    ∷ []
+
+abbrev pub seekEffect : List ℕ → List ℕ → ℕ → ℕ → ℤ → Outcome
+seekEffect img t h method offset = let v = pointerMoved (seekMoved img t h method offset) in outcome 0 v img (withPointer t h v) []
+
+unfoldable pub seekOutcome : List ℕ → List ℕ → ℕ → ℕ → ℤ → Outcome
+seekOutcome img t h method offset = decided (seekRows img t h method offset) (seekEffect img t h method offset) img t []
+
+-- what the call promises: its answer r, and the table after
+pub record Seeks (img t : List ℕ) (h method : ℕ) (offset : ℤ) (r : Answer) (after : List ℕ) : Type 0 where
+  pub is : outcome (r .number) (r .value) img after [] ≡ seekOutcome img t h method offset
