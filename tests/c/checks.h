@@ -64,5 +64,6 @@ void lay_out_listing(uint8_t *image);
 
 void try_volumes(void);
 void try_files(void);
+void try_contents(void);
 
 #endif

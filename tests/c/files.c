@@ -1,172 +1,10 @@
-/* The calls over an open table, in the header's order. After each call the whole image, the whole table and the buffer
- * are compared with what they must be. */
-#include "checks.h"
+/* The calls on the files of a volume: open, create, close, delete, rename and file mode; and volumes that every call
+ * over an open table refuses. After each call the whole image and the whole table are compared with what they must be.
+ */
+#include "desk.h"
 
 #include <stdio.h>
 #include <stdlib.h>
-#include <string.h>
-
-/* ---- An image and a table, and beside each what it must be ---- */
-
-struct desk {
-    struct block image, table, wanted_image, wanted_table;
-};
-
-/* A desk with that volume and an open table of that many bytes, in which no file is open. */
-static struct desk new_desk(void (*lay_out)(uint8_t *), size_t table_length)
-{
-    struct desk desk;
-    desk.image = new_block(BM_IMAGE_SIZE_FE);
-    desk.wanted_image = new_block(BM_IMAGE_SIZE_FE);
-    desk.table = new_block(table_length);
-    desk.wanted_table = new_block(table_length);
-    lay_out(desk.image.bytes);
-    lay_out(desk.wanted_image.bytes);
-    memset(desk.table.bytes, 0, table_length);
-    memset(desk.wanted_table.bytes, 0, table_length);
-    return desk;
-}
-
-static void put_away(struct desk *desk)
-{
-    free(desk->image.all);
-    free(desk->wanted_image.all);
-    free(desk->table.all);
-    free(desk->wanted_table.all);
-}
-
-/* One check: the call answered this, and image and table are what they must be. */
-static void leaves(const struct desk *desk, uint64_t answer, uint32_t number, uint32_t value, const char *what)
-{
-    int image = memcmp(desk->image.bytes, desk->wanted_image.bytes, desk->image.length) == 0;
-    int table = memcmp(desk->table.bytes, desk->wanted_table.bytes, desk->table.length) == 0;
-    int answered = answers(answer, number, value);
-    if (!answered)
-        printf("answered number %lu, value %lu\n", (unsigned long)BM_NUMBER(answer), (unsigned long)BM_VALUE(answer));
-    expect(answered && image && table && guards_stand(&desk->image) && guards_stand(&desk->table), what);
-}
-
-/* A record of the open table, in use, as docs/INTERFACE.md lays it out. */
-static void put_record(uint8_t *table, unsigned place, uint8_t access, uint8_t written, uint8_t slot, uint32_t pointer)
-{
-    uint8_t *at = table + 16 * place;
-    memset(at, 0, 16);
-    at[0] = 1;
-    at[1] = access;
-    at[2] = written;
-    at[4] = slot;
-    put16(at + 8, pointer & 0xFFFF);
-    put16(at + 10, pointer >> 16);
-}
-
-static void want_record(struct desk *desk, unsigned place, uint8_t access, uint8_t slot, uint32_t pointer)
-{
-    put_record(desk->wanted_table.bytes, place, access, 0, slot, pointer);
-}
-
-static void want_no_record(struct desk *desk, unsigned place)
-{
-    memset(desk->wanted_table.bytes + 16 * place, 0, 16);
-}
-
-/* A record that stands in the table from now on. */
-static void set_record(struct desk *desk, unsigned place, uint8_t access, uint8_t written, uint8_t slot,
-                       uint32_t pointer)
-{
-    put_record(desk->table.bytes, place, access, written, slot, pointer);
-    put_record(desk->wanted_table.bytes, place, access, written, slot, pointer);
-}
-
-static uint8_t *wanted_slot(struct desk *desk, unsigned slot)
-{
-    return desk->wanted_image.bytes + ROOT + 32 * slot;
-}
-
-/* ---- The calls on a desk, with names as C strings ---- */
-
-struct stamp {
-    uint32_t hour, minute, step, year, month, day;
-};
-
-static const struct stamp morning = {6, 40, 0, 3, 9, 1};  /* 1983-09-01 06:40:00 is 3500 and 0721 */
-static const struct stamp evening = {18, 5, 29, 3, 9, 1}; /* 1983-09-01 18:05:58 is 90BD and 0721 */
-
-#define IMAGE desk->image.bytes, desk->image.length
-#define TABLE desk->table.bytes, desk->table.length
-#define NAME(name) (const uint8_t *)(name), strlen(name)
-#define STAMP stamp->hour, stamp->minute, stamp->step, stamp->year, stamp->month, stamp->day
-
-static uint64_t open_file(struct desk *desk, const char *name, uint32_t access)
-{
-    return bm_open(IMAGE, TABLE, NAME(name), access);
-}
-
-static uint64_t create_file(struct desk *desk, const char *name, uint32_t attribute, const struct stamp *stamp)
-{
-    return bm_create(IMAGE, TABLE, NAME(name), attribute, STAMP);
-}
-
-static uint64_t read_file(struct desk *desk, uint32_t handle, uint8_t *buffer, size_t length)
-{
-    return bm_read(IMAGE, TABLE, handle, buffer, length);
-}
-
-static uint64_t seek_file(struct desk *desk, uint32_t handle, uint32_t method, int32_t offset)
-{
-    return bm_seek(IMAGE, TABLE, handle, method, offset);
-}
-
-static uint64_t close_file(struct desk *desk, uint32_t handle, const struct stamp *stamp)
-{
-    return bm_close(IMAGE, TABLE, handle, STAMP);
-}
-
-static uint64_t delete_file(struct desk *desk, const char *name)
-{
-    return bm_delete(IMAGE, TABLE, NAME(name));
-}
-
-static uint64_t rename_file(struct desk *desk, const char *name, const char *new_name)
-{
-    return bm_rename(IMAGE, TABLE, NAME(name), NAME(new_name));
-}
-
-static uint64_t mode_file(struct desk *desk, const char *name, uint32_t function, uint32_t attribute)
-{
-    return bm_mode(IMAGE, TABLE, NAME(name), function, attribute);
-}
-
-static uint64_t view_number(struct desk *desk, const char *name, uint32_t offset)
-{
-    return bm_view_number(IMAGE, NAME(name), offset);
-}
-
-/* ---- Volumes ---- */
-
-static void lay_out_blank_fe(uint8_t *image)
-{
-    lay_out_blank(&kinds[0], image);
-}
-
-static uint8_t day_byte(size_t n)
-{
-    return (uint8_t)(n % 251);
-}
-
-/* The listing's volume, but that DAY001.LOG has bytes of its own and stands in the clusters 5, 3, 4. */
-static void lay_out_scattered(uint8_t *image)
-{
-    static const uint8_t table[9] = {0xFE, 0xFF, 0xFF, 0xFF, 0x4F, 0x00, 0xFF, 0x3F, 0x00};
-    static const size_t sectors[3] = {10, 8, 9};
-    size_t n;
-    lay_out_listing(image);
-    memset(image + 8 * 512, 0xF6, 3 * 512);
-    memcpy(image + COPY_1, table, sizeof table);
-    memcpy(image + COPY_2, table, sizeof table);
-    put16(image + ROOT + 32 + 26, 5);
-    for (n = 0; n < 1025; n++)
-        image[512 * sectors[n / 512] + n % 512] = day_byte(n);
-}
 
 /* What is left of the table when the clusters 3 to 5 are free. */
 static void want_day_freed(struct desk *desk)
@@ -175,8 +13,6 @@ static void want_day_freed(struct desk *desk)
     memcpy(desk->wanted_image.bytes + COPY_1, table, sizeof table);
     memcpy(desk->wanted_image.bytes + COPY_2, table, sizeof table);
 }
-
-enum { TARE = 0, DAY = 1 }; /* the slots of the two files */
 
 /* ---- Open ---- */
 
@@ -319,84 +155,6 @@ static void try_stamps(void)
     put_away(&d);
 }
 
-/* ---- Read ---- */
-
-/* Reads length bytes at the pointer; count of them, the file's from byte pointer on, must come to the front. */
-static void reads(struct desk *d, uint32_t pointer, size_t length, size_t count, const char *what)
-{
-    struct block buffer = new_block(length);
-    uint64_t answer;
-    size_t n;
-    int same = 1;
-    want_record(d, 0, 2, DAY, pointer + (uint32_t)count);
-    answer = read_file(d, 0, buffer.bytes, length);
-    leaves(d, answer, 0, (uint32_t)count, what);
-    for (n = 0; n < count; n++)
-        same = same && buffer.bytes[n] == day_byte(pointer + n);
-    expect(same && all_are(buffer.bytes + count, length - count, OLD_BYTE) && guards_stand(&buffer), ".. those bytes");
-    free(buffer.all);
-}
-
-static void try_read(void)
-{
-    struct desk d = new_desk(lay_out_scattered, BM_TABLE_SIZE(2));
-    struct block buffer = new_block(8);
-    puts("-- read");
-    set_record(&d, 0, 2, 0, DAY, 0);
-    reads(&d, 0, 600, 600, "600 bytes of clusters 5 and 3");
-    reads(&d, 600, 0, 0, "none");
-    reads(&d, 600, 600, 425, "only 425 are left, the last in cluster 4");
-    reads(&d, 1025, 600, 0, "none at the end");
-    set_record(&d, 0, 2, 0, DAY, 4294967295u);
-    reads(&d, 4294967295u, 600, 0, "none past the end");
-    set_record(&d, 0, 2, 0, DAY, 0);
-    reads(&d, 0, 2000, 1025, "all the file");
-    set_record(&d, 0, 1, 0, DAY, 0);
-    leaves(&d, read_file(&d, 0, buffer.bytes, 8), BM_ACCESS_DENIED, 0, "a file open for writing: 5");
-    leaves(&d, read_file(&d, 1, buffer.bytes, 8), BM_INVALID_HANDLE, 0, "a place that is not used: 6");
-    leaves(&d, read_file(&d, 2, buffer.bytes, 8), BM_INVALID_HANDLE, 0, "a place that is not there: 6");
-    leaves(&d, read_file(&d, 4000000000u, buffer.bytes, 8), BM_INVALID_HANDLE, 0, "handle 4,000,000,000: 6");
-    set_record(&d, 0, 3, 0, DAY, 0);
-    leaves(&d, read_file(&d, 0, buffer.bytes, 8), BM_INVALID_HANDLE, 0, "a record with access 3: 6");
-    set_record(&d, 0, 0, 0, 2, 0);
-    leaves(&d, read_file(&d, 0, buffer.bytes, 8), BM_INVALID_HANDLE, 0, "a record of an empty slot: 6");
-    expect(all_are(buffer.bytes, 8, OLD_BYTE) && guards_stand(&buffer), "a refusal leaves the buffer");
-    free(buffer.all);
-    put_away(&d);
-}
-
-/* ---- Seek ---- */
-
-static void seeks(struct desk *d, uint32_t method, int32_t offset, uint32_t pointer, const char *what)
-{
-    want_record(d, 0, 0, DAY, pointer);
-    leaves(d, seek_file(d, 0, method, offset), 0, pointer, what);
-}
-
-static void try_seek(void)
-{
-    struct desk d = new_desk(lay_out_scattered, BM_TABLE_SIZE(2));
-    puts("-- seek");
-    set_record(&d, 0, 0, 0, DAY, 10);
-    leaves(&d, seek_file(&d, 0, BM_FROM_POINTER, -11), BM_INVALID_FUNCTION, 0, "pointer 10, offset -11: 1");
-    seeks(&d, BM_FROM_POINTER, -10, 0, "pointer 10, offset -10 gives 0");
-    leaves(&d, seek_file(&d, 0, BM_FROM_START, -1), BM_INVALID_FUNCTION, 0, "-1 from the start: 1");
-    seeks(&d, BM_FROM_START, 0, 0, "0 from the start");
-    seeks(&d, BM_FROM_END, 0, 1025, "0 from the end");
-    seeks(&d, BM_FROM_END, -1025, 0, "all the file back");
-    leaves(&d, seek_file(&d, 0, BM_FROM_END, -1026), BM_INVALID_FUNCTION, 0, "one byte more: 1");
-    seeks(&d, BM_FROM_START, INT32_MAX, 2147483647u, "2,147,483,647 from the start, far past the end");
-    seeks(&d, BM_FROM_POINTER, INT32_MAX, 4294967294u, "and as much again");
-    seeks(&d, BM_FROM_POINTER, 1, 4294967295u, "4,294,967,295 is still a pointer");
-    leaves(&d, seek_file(&d, 0, BM_FROM_POINTER, 1), BM_INVALID_FUNCTION, 0, "one more: 1");
-    seeks(&d, BM_FROM_POINTER, INT32_MIN, 2147483647u, "-2,147,483,648 from there");
-    leaves(&d, seek_file(&d, 0, BM_FROM_POINTER, INT32_MIN), BM_INVALID_FUNCTION, 0, "and once more: 1");
-    leaves(&d, seek_file(&d, 0, 3, 0), BM_INVALID_FUNCTION, 0, "method 3: 1");
-    leaves(&d, seek_file(&d, 9, UINT32_MAX, 0), BM_INVALID_FUNCTION, 0, "method 4,294,967,295: 1, before 6");
-    leaves(&d, seek_file(&d, 1, BM_FROM_START, -1), BM_INVALID_HANDLE, 0, "a place that is not used: 6, before 1");
-    put_away(&d);
-}
-
 /* ---- Close ---- */
 
 static void try_close(void)
@@ -488,21 +246,6 @@ static void try_mode(void)
     put_away(&d);
 }
 
-/* ---- View's number ---- */
-
-static void try_view_number(void)
-{
-    struct desk d = new_desk(lay_out_scattered, 0);
-    puts("-- view's number");
-    leaves(&d, view_number(&d, "DAY001.LOG", 0), 0, 0, "0 for a file");
-    leaves(&d, view_number(&d, "day001.log", 1024), 0, 0, ".. at its last byte");
-    leaves(&d, view_number(&d, "DAY001.LOG", 1025), 0, 0, ".. at its end");
-    leaves(&d, view_number(&d, "DAY001.LOG", UINT32_MAX), 0, 0, ".. and far past it");
-    leaves(&d, view_number(&d, "DAY002.LOG", 0), BM_FILE_NOT_FOUND, 0, "no such file: 2");
-    leaves(&d, view_number(&d, "DAY/002", 0), BM_BAD_NAME, 0, "a name that breaks the rules: 42");
-    put_away(&d);
-}
-
 /* ---- Volumes that every call refuses ---- */
 
 /* What else came in would be refused too, by a number that is tested later. */
@@ -514,6 +257,7 @@ static void refuse_all(struct desk *d, uint32_t number, const char *what)
     leaves(d, open_file(d, "*", 3), number, 0, "open");
     leaves(d, create_file(d, "*", 0xFF, &bad), number, 0, "create");
     leaves(d, read_file(d, 99, buffer.bytes, 8), number, 0, "read");
+    leaves(d, write_file(d, 99, buffer.bytes, 8), number, 0, "write");
     leaves(d, seek_file(d, 99, 3, -1), number, 0, "seek");
     leaves(d, close_file(d, 99, &bad), number, 0, "close");
     leaves(d, delete_file(d, "*"), number, 0, "delete");
@@ -544,6 +288,7 @@ static void try_null_runs(void)
     leaves(&d, bm_open(IMAGE, NULL, 0, NAME("TARE.KEY"), 0), BM_TOO_MANY_OPEN, 0, "open without a table: 4");
     leaves(&d, bm_open(IMAGE, TABLE, NULL, 0, 0), BM_BAD_NAME, 0, "open without a name: 42");
     leaves(&d, bm_read(IMAGE, TABLE, 0, NULL, 0), 0, 0, "read without a buffer: 0 bytes");
+    leaves(&d, bm_write(IMAGE, TABLE, 0, NULL, 0), 0, 0, "write without data: 0 bytes");
     leaves(&d, bm_seek(IMAGE, NULL, 0, 0, 0, 0), BM_INVALID_HANDLE, 0, "seek without a table: 6");
     leaves(&d, bm_delete(IMAGE, NULL, 0, NULL, 0), BM_BAD_NAME, 0, "delete without a name: 42");
     leaves(&d, bm_rename(IMAGE, NULL, 0, NAME("DAY001.LOG"), NULL, 0), BM_BAD_NAME, 0, "rename without a new name: 42");
@@ -561,13 +306,10 @@ void try_files(void)
     try_create_over();
     try_full_root();
     try_stamps();
-    try_read();
-    try_seek();
     try_close();
     try_delete();
     try_rename();
     try_mode();
-    try_view_number();
     try_refused_volumes();
     try_null_runs();
 }
