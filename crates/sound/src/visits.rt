@@ -14,7 +14,8 @@ ghost use Rattle.chains.specs.Check.{inTwo, lost};
 ghost use Rattle.chains.specs.Verdict.{first};
 ghost use Rattle.search.specs.Laws.Theory.{optional};
 ghost use Rattle.table.specs.Entries.{wordAt, tableOf};
-ghost use Rattle.sound.specs.Visits.{ValueIs, LeadsTo, Tails, Walked, leftStored, Visited, SlotVisited, FilesVisited};
+ghost use Rattle.sound.specs.Walks.{LeadsTo, Tails, Walked, leftStored, Visited};
+ghost use Rattle.sound.specs.Visits.{ValueIs, SlotVisited, FilesVisited};
 
 // Cluster c is met once more.
 fn mark_met(marks: &mut [u8], c: usize)
@@ -90,9 +91,10 @@ fn store_left(img: &[u8], left: &mut [u16], last: usize, start: usize, n: usize,
     let mut c = start;
     let mut rest = n;
     while known < rest {
+        let behind = rest - 1;
         left[c] = rest as u16;
         c = value_of(img, last, c) as usize;
-        rest -= 1;
+        rest = behind;
     }
 }
 

@@ -28,7 +28,8 @@ use Rattle.directory.specs.Search.{slotFrom}
 use Rattle.directory.specs.Slots.{standingOf, isPlain}
 use Rattle.sound.specs.Counts.{plainSlot, heldBy}
 use Rattle.sound.specs.Judged.{holderAt, badChainSlot, chainsOf}
-use Rattle.sound.specs.Visits.{chainsFound, slotBy, slotFound, chainAt, Tails, SlotMarked, markedUnlessBad, SlotVisited, Underway, FilesVisited}
+use Rattle.sound.specs.Walks.{Tails}
+use Rattle.sound.specs.Visits.{chainsFound, slotBy, slotFound, chainAt, SlotMarked, markedUnlessBad, SlotVisited, Underway, FilesVisited}
 use Rattle.sound.specs.Laws.SlotTurns.{holder-none, holder-file}
 use Rattle.sound.specs.declared.Slot.{Slot}
 use Rattle.sound.specs.declared.Slot.the-variants.{NoFile, Bad, Clusters}

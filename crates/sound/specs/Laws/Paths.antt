@@ -7,14 +7,14 @@ use mathlib.Core.Path.{_≡_, refl, sym, ap, subst, _∙_}
 use lib.ListN.{length, getD, set}
 use lib.Seq.{set-getD}
 use Rattle.chains.specs.Chain.{Chain, Leads}
-use Rattle.chains.specs.Lists.{Once, _∈_, occ}
+use Rattle.chains.specs.Lists.{_∈_, occ}
 use Rattle.chains.specs.Marks.{mark, marks}
 use Rattle.chains.specs.Sizes.{Geometry}
 use Rattle.chains.specs.Values.{Link}
 use Rattle.chains.specs.Laws.Chain.{chain-once}
 use Rattle.chains.specs.Laws.Lists.{dec-mem, mem-occ, occ-append, occ-not}
 use Rattle.chains.specs.Laws.Marks.{marks-at}
-use Rattle.sound.specs.Visits.{Path, Tails}
+use Rattle.sound.specs.Walks.{Path, Tails}
 
 -- ---- paths
 

@@ -23,7 +23,8 @@ use Rattle.directory.specs.Slots.{standingOf, isPlain}
 use Rattle.directory.specs.declared.Standing.{Standing}
 use Rattle.directory.specs.declared.Standing.the-variants.{NeverUsed, Erased, Label, Plain}
 use Rattle.sound.specs.Judged.{holderBy, holderAt}
-use Rattle.sound.specs.Visits.{Tails, Chained, visitedBy, Visited, slotFound, chainAt, SlotVisited}
+use Rattle.sound.specs.Walks.{Tails, Chained, visitedBy, Visited}
+use Rattle.sound.specs.Visits.{slotFound, chainAt, SlotVisited}
 use Rattle.sound.specs.declared.Length.{Length}
 use Rattle.sound.specs.declared.Length.the-variants.{Of, NoEnd}
 use Rattle.sound.specs.declared.Slot.the-variants.{NoFile, Bad, Clusters}

@@ -17,8 +17,9 @@ use Rattle.chains.specs.Values.{Link}
 use Rattle.chains.specs.Laws.Chain.{chain-length}
 use Rattle.chains.specs.Laws.Lists.{dec-mem, mem-append}
 use Rattle.table.specs.Entries.{tableOf}
-use Rattle.sound.specs.Visits.{ValueIs, LeadsTo, Tails, WalkEnds, Walked, walkedBy, leftStored, Chained, Visited}
-use Rattle.sound.specs.Laws.Paths.{leads-chain, chain-leads, path-split, mark-of, mark-unmet, marks-rising}
+use Rattle.sound.specs.Walks.{LeadsTo, Tails, WalkEnds, Walked, walkedBy, leftStored, Visited}
+use Rattle.sound.specs.Visits.{ValueIs}
+use Rattle.sound.specs.Laws.Paths.{leads-chain, chain-leads, mark-of, mark-unmet, marks-rising}
 use Rattle.sound.specs.declared.Length.the-variants.{Of, NoEnd}
 use Rattle.sound.specs.declared.Walk.{Walk}
 use Rattle.sound.specs.declared.Walk.the-variants.{Ends, Endless}

@@ -1,34 +1,34 @@
 -- The walk along a chain, turn by turn: n clusters were met, c is the next.
 use Prim.Native.Nat.{ℕ, _+_, _-_, _≤_, _<_}
 use native.Mathlib.Omega.{arith}
-use mathlib.Core.Bool.{Bool, true, false}
+use mathlib.Core.Bool.{false}
 use mathlib.Core.List.{List, [], _∷_, _++_, append-nil}
-use mathlib.Core.Logic.{_≢_, inl, inr}
+use mathlib.Core.Logic.{_≢_}
 use mathlib.Core.Path.{_≡_, refl, sym, ap, subst, _∙_}
 use lib.ListN.{length, getD, length-append}
 use Rattle.chains.specs.Chain.{Leads}
 use Rattle.chains.specs.Lists.{_∈_}
 use Rattle.chains.specs.Marks.{mark, marks}
 use Rattle.chains.specs.Sizes.{Geometry}
-use Rattle.chains.specs.Values.{Link, endb, linkb}
+use Rattle.chains.specs.Values.{Link}
 use Rattle.chains.specs.Laws.Chain.{chain-length}
-use Rattle.chains.specs.Laws.Lists.{dec-mem}
 use Rattle.chains.specs.Laws.Marks.{marks-append}
-use Rattle.chains.specs.Laws.Tests.{says-true, says-false}
+use Rattle.chains.specs.Laws.Tests.{says-false}
 use Rattle.chains.specs.Laws.Values.{says-end, says-link}
 use Rattle.table.specs.Entries.{tableOf}
 use Rattle.table.specs.Values.{Values, meaningOf}
 use Rattle.table.specs.declared.Meaning.{Meaning}
 use Rattle.table.specs.declared.Meaning.the-variants.{Free, Next, Aside, End, NoneOfThese}
-use Rattle.sound.specs.Visits.{ValueIs, LeadsTo, Tails, WalkEnds, Walked, Path, Underfoot}
+use Rattle.sound.specs.Walks.{Tails, Walked, Walking}
+use Rattle.sound.specs.Visits.{ValueIs}
 use Rattle.sound.specs.Laws.Meanings.{isEnd, isNext, meaning-says, end-said, link-said}
 use Rattle.sound.specs.Laws.Paths.{path-on, path-leads, path-head, path-rising, leads-chain, path-split, path-once, mark-of, mark-unmet, marks-rising, tail-twice, marks-stay}
 use Rattle.sound.specs.declared.Walk.the-variants.{Ends, Endless}
 
-pub walk-begins : (last : ℕ) (l : List ℕ) (start : ℕ) (m : List ℕ) → 2 ≤ start → start ≤ last → Underfoot last (tableOf last l) start m 0 start m
+pub walk-begins : (last : ℕ) (l : List ℕ) (start : ℕ) (m : List ℕ) → 2 ≤ start → start ≤ last → Walking last (tableOf last l) start m 0 start m
 walk-begins last l start m a b = record { from = a; to = b; met = []; path = refl; many = refl; marks-are = unfold marks in refl }
 
-module _ (last : ℕ) (l : List ℕ) (start : ℕ) (m₀ m t : List ℕ) (n c : ℕ) (u : Underfoot last (tableOf last l) start m₀ n c m) (T : Tails last (tableOf last l) m₀ t) (low : last ≤ 4079) (big : last < length m₀) where
+module _ (last : ℕ) (l : List ℕ) (start : ℕ) (m₀ m t : List ℕ) (n c : ℕ) (u : Walking last (tableOf last l) start m₀ n c m) (T : Tails last (tableOf last l) m₀ t) (low : last ≤ 4079) (big : last < length m₀) where
   abbrev f : ℕ → ℕ
   f = tableOf last l
 
@@ -162,7 +162,7 @@ module _ (last : ℕ) (l : List ℕ) (start : ℕ) (m₀ m t : List ℕ) (n c : 
       next-is : Link last v × (d ≡ v)
       next-is = subst (λ (k : Meaning). Values k last v) x (meaning-says last v low (r .small) g e)
 
-      pub walk-goes-on : Underfoot last f start m₀ (n + 1) d m′
+      pub walk-goes-on : Walking last f start m₀ (n + 1) d m′
       unfolding met-now
       walk-goes-on = record {
         from = omega (arith, next-is .0 .0, next-is .1);

@@ -4,7 +4,7 @@ use Prim.Native.Nat.{_-_, _≤_}
 use mathlib.Core.Path.{_≡_}
 use lib.ListN.{length}
 use Rattle.table.specs.Entries.{tableOf}
-use Rattle.sound.specs.Visits.{LeadsTo, leftStored}
+use Rattle.sound.specs.Walks.{LeadsTo, leftStored}
 use Rattle.sound.specs.Laws.Tails.{store-from, store-to, store-at, store-inside, store-on, store-turn, store-end}
 use Rattle.sound.proofs.visits.store_left.Statement.{statement}
 use Rattle.sound.proofs.visits.store_left.Tie as tie
@@ -17,6 +17,9 @@ abbrev μ-loop : tie.MeasureT-loop
 
 loop-holds : tie.Need-loop-holds Inv-loop μ-loop
 loop-holds c = search needs
+
+sub-behind : tie.Need-sub-behind Inv-loop μ-loop
+sub-behind c = search needs
 
 cast-left : tie.Need-cast-left Inv-loop μ-loop
 cast-left c = search needs
@@ -32,9 +35,6 @@ value-of-requires c κs = search (needs, store-from, store-to)
 
 cast-c : tie.Need-cast-c Inv-loop μ-loop
 cast-c c = search needs
-
-sub-rest : tie.Need-sub-rest Inv-loop μ-loop
-sub-rest c = search needs
 
 loop-less : tie.Need-loop-less Inv-loop μ-loop
 loop-less c = search needs
@@ -55,12 +55,12 @@ store-left-spec =
     Inv-loop
     μ-loop
     loop-holds
+    sub-behind
     cast-left
     mul-left
     slice-write-left
     value-of-requires
     cast-c
-    sub-rest
     loop-less
     loop-again
     same-length

@@ -1,17 +1,17 @@
 -- A chain from the start, if there is one, goes on from here, and the clusters before are marked.
 use borrow.Author.Needs.{needs}
 use native.Mathlib.Omega.{arith}
-use Prim.Native.Nat.{_-_, _≤_}
+use Prim.Native.Nat.{_-_}
 use mathlib.Core.Path.{_≡_}
 use lib.ListN.{length}
 use Rattle.table.specs.Entries.{tableOf}
-use Rattle.sound.specs.Visits.{Underfoot}
+use Rattle.sound.specs.Walks.{Walking}
 use Rattle.sound.specs.Laws.WalkTurns.{walk-begins, walk-circles, walk-joins, walk-ends-again, walk-ends, walk-goes-on, walk-free, walk-aside, walk-bad, walk-spent}
 use Rattle.sound.proofs.visits.walk.Statement.{statement}
 use Rattle.sound.proofs.visits.walk.Tie as tie
 
 abbrev Inv-loop : tie.InvT-loop
-Inv-loop img marks₀ left last start clusters met₀ c₀ marks met c = (length marks ≡ length marks₀) × Underfoot last (tableOf last img) start marks₀ met c marks
+Inv-loop img marks₀ left last start clusters met₀ c₀ marks met c = (length marks ≡ length marks₀) × Walking last (tableOf last img) start marks₀ met c marks
 
 abbrev μ-loop : tie.MeasureT-loop
 μ-loop img marks₀ left last start clusters met₀ c₀ marks met c = last - met
