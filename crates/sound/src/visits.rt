@@ -9,25 +9,12 @@ use table::Meaning;
 ghost use mathlib.Core.Path.{_≡_};
 ghost use Prim.Native.Nat.{_+_, _*_, _-_, _≤_, _<_};
 ghost use lib.ListN.{length};
-ghost use Rattle.chains.specs.Marks.{mark};
 ghost use Rattle.chains.specs.Check.{inTwo, lost};
 ghost use Rattle.chains.specs.Verdict.{first};
 ghost use Rattle.search.specs.Laws.Theory.{optional};
 ghost use Rattle.table.specs.Entries.{wordAt, tableOf};
 ghost use Rattle.sound.specs.Walks.{LeadsTo, Tails, Walked, leftStored, Visited};
 ghost use Rattle.sound.specs.Visits.{ValueIs, SlotVisited, FilesVisited};
-
-// Cluster c is met once more.
-fn mark_met(marks: &mut [u8], c: usize)
-    requires { ⌜ c < length (now marks) ⌝ }
-    ensures { λ _. ⌜ now (marks .exit) ≡ mark (now (marks .entry)) c ⌝ }
-{
-    if marks[c] < 1 {
-        marks[c] = 1;
-    } else {
-        marks[c] = 2;
-    }
-}
 
 // The value of cluster c, which has 12 bits.
 fn value_of(img: &[u8], last: usize, c: usize) -> u16
@@ -54,18 +41,19 @@ fn walk(img: &[u8], marks: &mut [u8], left: &[u16], last: usize, start: usize) -
     let mut met: usize = 0;
     let mut c = start;
     while met < clusters {
-        if marks[c] == 2 {
+        let before = marks[c];
+        if before == 2 {
             let rest = left[c] as usize;
             if rest == 0 {
                 return Walk::Endless;
             }
             return Walk::Ends(met + rest, rest);
         }
-        mark_met(marks, c);
+        marks[c] = before + 1;
         met += 1;
         match table::meaning_of(value_of(img, last, c), last) {
             Meaning::End => {
-                if marks[c] == 2 {
+                if before == 1 {
                     return Walk::Ends(met, 0);
                 }
                 return Walk::Ends(met, met);

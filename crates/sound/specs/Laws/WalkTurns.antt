@@ -1,18 +1,21 @@
 -- The walk along a chain, turn by turn: n clusters were met, c is the next.
-use Prim.Native.Nat.{ℕ, _+_, _-_, _≤_, _<_}
+use Prim.Native.Nat.{ℕ, _+_, _-_, _≤_, _<_, min}
 use native.Mathlib.Omega.{arith}
 use mathlib.Core.Bool.{false}
 use mathlib.Core.List.{List, [], _∷_, _++_, append-nil}
 use mathlib.Core.Logic.{_≢_}
 use mathlib.Core.Path.{_≡_, refl, sym, ap, subst, _∙_}
-use lib.ListN.{length, getD, length-append}
+use mir.Syntax.{w8}
+use mir.Val.{Fits}
+use lib.ListN.{length, getD, set, length-append}
+use lib.Seq.{getD-set-same}
 use Rattle.chains.specs.Chain.{Leads}
 use Rattle.chains.specs.Lists.{_∈_}
 use Rattle.chains.specs.Marks.{mark, marks}
 use Rattle.chains.specs.Sizes.{Geometry}
 use Rattle.chains.specs.Values.{Link}
 use Rattle.chains.specs.Laws.Chain.{chain-length}
-use Rattle.chains.specs.Laws.Marks.{marks-append}
+use Rattle.chains.specs.Laws.Marks.{marks-append, marks-length}
 use Rattle.chains.specs.Laws.Tests.{says-false}
 use Rattle.chains.specs.Laws.Values.{says-end, says-link}
 use Rattle.table.specs.Entries.{tableOf}
@@ -83,8 +86,22 @@ module _ (last : ℕ) (l : List ℕ) (start : ℕ) (m₀ m t : List ℕ) (n c : 
         };
       }
 
+  -- the mark of one that was not met twice
+  mark-small : getD m c 0 ≤ 2
+  mark-small = omega (arith, ap (λ (k : List ℕ). getD k c 0) (u .marks-are), mark-of last f low m₀ t T big (u .met) c here)
+
+  pub mark-fits : getD m c 0 ≢ 2 → Fits w8 (getD m c 0 + 1)
+  mark-fits d = record { fits = omega (arith, mark-small) }
+
   -- m′ are the marks with that of c, v is the value of c, g what it means
-  module _ (m′ : List ℕ) (v : ℕ) (g : Meaning) (s : m′ ≡ mark m c) (r : ValueIs last l c v) (e : g ≡ meaningOf last v) where
+  module _ (m′ : List ℕ) (v : ℕ) (g : Meaning) (d : getD m c 0 ≢ 2) (s : m′ ≡ set m c (getD m c 0 + 1)) (r : ValueIs last l c v) (e : g ≡ meaningOf last v) where
+    marked : m′ ≡ mark m c
+    unfolding mark
+    marked = let z : getD m c 0 + 1 ≡ min 2 (getD m c 0 + 1) = omega (arith, mark-small) in s ∙ ap (set m c) z
+
+    mark-now : getD m′ c 0 ≡ getD m c 0 + 1
+    mark-now = ap (λ (k : List ℕ). getD k c 0) s ∙ getD-set-same m c (getD m c 0 + 1) 0 (omega (arith, ap length (u .marks-are), marks-length m₀ (u .met)))
+
     met-now : List ℕ
     met-now = u .met ++ (c ∷ [])
 
@@ -94,7 +111,7 @@ module _ (last : ℕ) (l : List ℕ) (start : ℕ) (m₀ m t : List ℕ) (n c : 
 
     marks-now : m′ ≡ marks m₀ met-now
     unfolding met-now
-    marks-now = s ∙ ap (λ (k : List ℕ). mark k c) (u .marks-are) ∙ sym (marks-append m₀ (u .met) (c ∷ []) ∙ (unfold marks in refl))
+    marks-now = marked ∙ ap (λ (k : List ℕ). mark k c) (u .marks-are) ∙ sym (marks-append m₀ (u .met) (c ∷ []) ∙ (unfold marks in refl))
 
     -- ---- the end
 
@@ -105,9 +122,9 @@ module _ (last : ℕ) (l : List ℕ) (start : ℕ) (m₀ m t : List ℕ) (n c : 
           let a : Values End last v = subst (λ (k : Meaning). Values k last v) x (meaning-says last v low (r .small) g e) in
           path-leads last f start c (u .met) (c ∷ []) (u .path) (refl, here, rw (sym (r .is)) a)
 
-      -- c was met before, so all that are met here get their number
-      pub walk-ends-again : getD m′ c 0 ≡ 2 → Walked last f start m₀ t (Ends (n + 1) 0) m′
-      walk-ends-again h = record {
+      -- to store the number left for all of them is always right
+      pub walk-ends-stored : Walked last f start m₀ t (Ends (n + 1) 0) m′
+      walk-ends-stored = record {
         is = record {
           ahead = met-now;
           behind = [];
@@ -119,8 +136,8 @@ module _ (last : ℕ) (l : List ℕ) (start : ℕ) (m₀ m t : List ℕ) (n c : 
         };
       }
 
-      -- it was not, so none of them was
-      pub walk-ends : getD m′ c 0 ≢ 2 → Walked last f start m₀ t (Ends (n + 1) (n + 1)) m′
+      -- where c was not met before none of them was, and it need not be stored
+      pub walk-ends : getD m c 0 ≢ 1 → Walked last f start m₀ t (Ends (n + 1) (n + 1)) m′
       unfolding met-now
       walk-ends h =
           let k : (a : ℕ) → getD m′ a 0 ≡ getD (marks m₀ met-now) a 0 = λ a. ap (λ (z : List ℕ). getD z a 0) marks-now in
@@ -134,7 +151,7 @@ module _ (last : ℕ) (l : List ℕ) (start : ℕ) (m₀ m t : List ℕ) (n c : 
               long = omega (arith, many-now);
               known-are = many-now;
               marks-are = marks-now;
-              twice-known = λ a i b. absurd (h (omega (arith, k a, k c, w a i, mark-of last f low m₀ t T big met-now c here)));
+              twice-known = λ a i b. absurd (h (omega (arith, k a, k c, w a i, mark-now, mark-small)));
             };
           }
 
@@ -158,11 +175,11 @@ module _ (last : ℕ) (l : List ℕ) (start : ℕ) (m₀ m t : List ℕ) (n c : 
 
     -- ---- the value that was read is the next cluster
 
-    module _ (d : ℕ) (x : g ≡ Next d) where
-      next-is : Link last v × (d ≡ v)
+    module _ (next : ℕ) (x : g ≡ Next next) where
+      next-is : Link last v × (next ≡ v)
       next-is = subst (λ (k : Meaning). Values k last v) x (meaning-says last v low (r .small) g e)
 
-      pub walk-goes-on : Walking last f start m₀ (n + 1) d m′
+      pub walk-goes-on : Walking last f start m₀ (n + 1) next m′
       unfolding met-now
       walk-goes-on = record {
         from = omega (arith, next-is .0 .0, next-is .1);

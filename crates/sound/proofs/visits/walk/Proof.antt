@@ -6,7 +6,7 @@ use mathlib.Core.Path.{_≡_}
 use lib.ListN.{length}
 use Rattle.table.specs.Entries.{tableOf}
 use Rattle.sound.specs.Walks.{Walking}
-use Rattle.sound.specs.Laws.WalkTurns.{walk-begins, walk-circles, walk-joins, walk-ends-again, walk-ends, walk-goes-on, walk-free, walk-aside, walk-bad, walk-spent}
+use Rattle.sound.specs.Laws.WalkTurns.{walk-begins, walk-circles, walk-joins, mark-fits, walk-ends-stored, walk-ends, walk-goes-on, walk-free, walk-aside, walk-bad, walk-spent}
 use Rattle.sound.proofs.visits.walk.Statement.{statement}
 use Rattle.sound.proofs.visits.walk.Tie as tie
 
@@ -22,8 +22,8 @@ sub-clusters c = search needs
 loop-holds : tie.Need-loop-holds Inv-loop μ-loop
 loop-holds c = search (needs, walk-begins)
 
-slice-read-if1 : tie.Need-slice-read-if1 Inv-loop μ-loop
-slice-read-if1 c = search needs
+slice-read-before : tie.Need-slice-read-before Inv-loop μ-loop
+slice-read-before c = search needs
 
 mul-rest : tie.Need-mul-rest Inv-loop μ-loop
 mul-rest c = search needs
@@ -40,8 +40,8 @@ same-length c = search needs
 returns : tie.Need-returns Inv-loop μ-loop
 returns c = search walk-circles
 
-add-t14 : tie.Need-add-t14 Inv-loop μ-loop
-add-t14 c = omega (arith, c .before .shared-slice-known3 .given (c .before .before .before .before .before .loop .c))
+add-t15 : tie.Need-add-t15 Inv-loop μ-loop
+add-t15 c = omega (arith, c .before .shared-slice-known3 .given (c .before .before .before .before .before .loop .c))
 
 same-length-2 : tie.Need-same-length-2 Inv-loop μ-loop
 same-length-2 c = search needs
@@ -49,8 +49,11 @@ same-length-2 c = search needs
 returns-2 : tie.Need-returns-2 Inv-loop μ-loop
 returns-2 c = search walk-joins
 
-mark-met-requires : tie.Need-mark-met-requires Inv-loop μ-loop
-mark-met-requires c κs = search needs
+add-marks : tie.Need-add-marks Inv-loop μ-loop
+add-marks c = search mark-fits
+
+slice-write-marks : tie.Need-slice-write-marks Inv-loop μ-loop
+slice-write-marks c = search needs
 
 add-met : tie.Need-add-met Inv-loop μ-loop
 add-met c = search needs
@@ -64,14 +67,11 @@ meaning-of-requires c κs = search needs
 enum-told : tie.Need-enum-told Inv-loop μ-loop
 enum-told c = search needs
 
-slice-read-if3 : tie.Need-slice-read-if3 Inv-loop μ-loop
-slice-read-if3 c = search needs
-
 same-length-3 : tie.Need-same-length-3 Inv-loop μ-loop
 same-length-3 c = search needs
 
 returns-3 : tie.Need-returns-3 Inv-loop μ-loop
-returns-3 c = search walk-ends-again
+returns-3 c = search walk-ends-stored
 
 same-length-4 : tie.Need-same-length-4 Inv-loop μ-loop
 same-length-4 c = search needs
@@ -129,21 +129,21 @@ walk-spec =
     μ-loop
     sub-clusters
     loop-holds
-    slice-read-if1
+    slice-read-before
     mul-rest
     shared-slice-read-rest
     cast-rest
     same-length
     returns
-    add-t14
+    add-t15
     same-length-2
     returns-2
-    mark-met-requires
+    add-marks
+    slice-write-marks
     add-met
     value-of-requires
     meaning-of-requires
     enum-told
-    slice-read-if3
     same-length-3
     returns-3
     same-length-4
