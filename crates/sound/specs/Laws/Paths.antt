@@ -4,11 +4,10 @@ use native.Mathlib.Omega.{arith}
 use mathlib.Core.List.{List, [], _∷_, _++_}
 use mathlib.Core.Logic.{inl, inr}
 use mathlib.Core.Path.{_≡_, refl, sym, ap, subst, _∙_}
-use lib.ListN.{length, getD, set}
-use lib.Seq.{set-getD}
+use lib.ListN.{length, getD}
 use Rattle.chains.specs.Chain.{Chain, Leads}
 use Rattle.chains.specs.Lists.{_∈_, occ}
-use Rattle.chains.specs.Marks.{mark, marks}
+use Rattle.chains.specs.Marks.{marks}
 use Rattle.chains.specs.Sizes.{Geometry}
 use Rattle.chains.specs.Values.{Link}
 use Rattle.chains.specs.Laws.Chain.{chain-once}
@@ -102,13 +101,3 @@ module _ (last : ℕ) (f : ℕ → ℕ) (low : last ≤ 4079) where
         let a : f c ≡ d = p .0 in
         let r : getD m c 0 ≤ getD m d 0 = rw a at (T .rising c l (rw a (p .1))) in
         tail-twice ds d (p .1) (p .2) (omega (arith, T .few d (p .1))) x k
-
-mark-stays : (m : List ℕ) (c : ℕ) → getD m c 0 ≡ 2 → mark m c ≡ m
-unfolding mark
-mark-stays m c e = let z : min 2 (getD m c 0 + 1) ≡ getD m c 0 = omega arith in ap (set m c) z ∙ set-getD m c 0
-
--- whoever was met twice keeps the mark
-pub marks-stay : (m cs : List ℕ) → ((c : ℕ) → c ∈ cs → getD m c 0 ≡ 2) → marks m cs ≡ m
-unfolding marks
-marks-stay m [] h = refl
-marks-stay m (c ∷ cs) h = ap (λ (k : List ℕ). marks k cs) (mark-stays m c (h c (inl refl))) ∙ marks-stay m cs (λ d k. h d (inr k))

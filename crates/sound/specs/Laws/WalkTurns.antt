@@ -15,7 +15,7 @@ use Rattle.chains.specs.Marks.{mark, marks}
 use Rattle.chains.specs.Sizes.{Geometry}
 use Rattle.chains.specs.Values.{Link}
 use Rattle.chains.specs.Laws.Chain.{chain-length}
-use Rattle.chains.specs.Laws.Marks.{marks-append, marks-length}
+use Rattle.chains.specs.Laws.Marks.{marks-append, marks-length, marks-stay}
 use Rattle.chains.specs.Laws.Tests.{says-false}
 use Rattle.chains.specs.Laws.Values.{says-end, says-link}
 use Rattle.table.specs.Entries.{tableOf}
@@ -25,7 +25,7 @@ use Rattle.table.specs.declared.Meaning.the-variants.{Free, Next, Aside, End, N
 use Rattle.sound.specs.Walks.{Tails, Walked, Walking}
 use Rattle.sound.specs.Visits.{ValueIs}
 use Rattle.sound.specs.Laws.Meanings.{isEnd, isNext, meaning-says, end-said, link-said}
-use Rattle.sound.specs.Laws.Paths.{path-on, path-leads, path-head, path-rising, leads-chain, path-split, path-once, mark-of, mark-unmet, marks-rising, tail-twice, marks-stay}
+use Rattle.sound.specs.Laws.Paths.{path-on, path-leads, path-head, path-rising, leads-chain, path-split, path-once, mark-of, mark-unmet, marks-rising, tail-twice}
 use Rattle.sound.specs.declared.Walk.the-variants.{Ends, Endless}
 
 pub walk-begins : (last : ℕ) (l : List ℕ) (start : ℕ) (m : List ℕ) → 2 ≤ start → start ≤ last → Walking last (tableOf last l) start m 0 start m
