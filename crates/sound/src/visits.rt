@@ -26,9 +26,9 @@ fn value_of(img: &[u8], last: usize, c: usize) -> u16
     table::entry(img, c)
 }
 
-// Walks the chain that starts at start and marks its clusters. Where it comes to a cluster that files before this one met
-// twice, the rest has its marks, and left says how many clusters that is. Left is 0 where the walk itself met the cluster,
-// as on a chain that circles. No chain has more clusters than the volume.
+// Walks the chain that starts at start and marks its clusters. A cluster met twice ends it: where files before this one met
+// it, the rest has its marks, and left says how many clusters that is; where the walk itself did, left is 0 and the chain
+// circles. No chain has more clusters than the volume.
 fn walk(img: &[u8], marks: &mut [u8], left: &[u16], last: usize, start: usize) -> Walk
     requires { ⌜ last ≤ 4079 ⌝ }
     requires { ⌜ wordAt 512 last + 2 ≤ length (now img) ⌝ }
@@ -53,6 +53,7 @@ fn walk(img: &[u8], marks: &mut [u8], left: &[u16], last: usize, start: usize) -
         met += 1;
         match table::meaning_of(value_of(img, last, c), last) {
             Meaning::End => {
+                // Along a chain marks do not fall: where its last cluster was not met before, none was.
                 if before == 1 {
                     return Walk::Ends(met, 0);
                 }
@@ -67,7 +68,7 @@ fn walk(img: &[u8], marks: &mut [u8], left: &[u16], last: usize, start: usize) -
     Walk::Endless
 }
 
-// Stores how many clusters are left to the chain's end, for those of its n clusters that have more than known.
+// Stores how many clusters are left to the end of a chain of n clusters, for all but the known ones at its end.
 fn store_left(img: &[u8], left: &mut [u16], last: usize, start: usize, n: usize, known: usize)
     requires { ⌜ last ≤ 4079 ⌝ }
     requires { ⌜ wordAt 512 last + 2 ≤ length (now img) ⌝ }
