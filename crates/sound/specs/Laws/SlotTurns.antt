@@ -68,7 +68,7 @@ module _ (last cb : ℕ) (l : List ℕ) (a : ℕ) (m : List ℕ) (b : Bool) (low
       }
 
   -- the file's chain was visited
-  module _ (size start : ℕ) (g : Length) (after t : List ℕ) (x : not b ≡ false) (z : size ≡ sizeOf l a) (s : start ≡ startOf l a) (v : Visited last (tableOf last l) start m g after t) where
+  module _ (start : ℕ) (g : Length) (after t : List ℕ) (v : Visited last (tableOf last l) start m g after t) (s : start ≡ startOf l a) (size : ℕ) (z : size ≡ sizeOf l a) (x : not b ≡ false) where
     plain : isPlain (standingOf l a) ≡ true
     plain = sym p ∙ not-false b x
 
