@@ -51,16 +51,16 @@ chain-of G f h cs p = rw (chain-walk G f (h .start) cs p, chainOf)
 
 -- ---- the slot, in the form of the code's needs
 
-module _ (last cb : ℕ) (l : List ℕ) (a : ℕ) (m : List ℕ) (b : Bool) (low : last ≤ 4079) (wide : 0 < cb) (p : b ≡ isPlain (standingOf l a)) where
+module _ (last cb : ℕ) (l : List ℕ) (a : ℕ) (m : List ℕ) (low : last ≤ 4079) (wide : 0 < cb) where
   abbrev G : Geometry
   G = record { last = last; cb = cb; small = low; wide = wide }
 
   abbrev f : ℕ → ℕ
   f = tableOf last l
 
-  pub slot-no-file : (t : List ℕ) → Tails last f m t → not b ≡ true → SlotVisited last cb l a m NoFile m t
+  pub slot-no-file : (t : List ℕ) → Tails last f m t → (b : Bool) → b ≡ isPlain (standingOf l a) → not b ≡ true → SlotVisited last cb l a m NoFile m t
   unfolding slotFound chainAt marks
-  slot-no-file t T x =
+  slot-no-file t T b p x =
       let e : isPlain (standingOf l a) ≡ false = sym p ∙ not-true b x in
       record {
         is = rw e;
@@ -68,7 +68,8 @@ module _ (last cb : ℕ) (l : List ℕ) (a : ℕ) (m : List ℕ) (b : Bool) (low
       }
 
   -- the file's chain was visited
-  module _ (start : ℕ) (g : Length) (after t : List ℕ) (v : Visited last (tableOf last l) start m g after t) (s : start ≡ startOf l a) (size : ℕ) (z : size ≡ sizeOf l a) (x : not b ≡ false) where
+  module _ (start : ℕ) (g : Length) (after t : List ℕ) (v : Visited last (tableOf last l) start m g after t) (s : start ≡ startOf l a)
+      (size : ℕ) (z : size ≡ sizeOf l a) (b : Bool) (p : b ≡ isPlain (standingOf l a)) (x : not b ≡ false) where
     plain : isPlain (standingOf l a) ≡ true
     plain = sym p ∙ not-false b x
 
