@@ -21,11 +21,6 @@ chainOf last f h = elim (walk last f (h .start)) [ none ↦ [] | some cs ↦ cs 
 unfoldable pub ownsb : ℕ → (ℕ → ℕ) → Holder → Bool
 ownsb last f h = elim (walk last f (h .start)) [ none ↦ false | some cs ↦ h .allows (length cs) ]
 
--- the same of a length that a loop found
-abbrev pub allowed : Holder → Option ℕ → Bool
-allowed h none = false
-allowed h (some n) = h .allows n
-
 -- the marks of the chains of all of is, in a list of size places
 unfoldable pub chainMarks : ℕ → ℕ → (ℕ → ℕ) → (ℕ → Holder) → List ℕ → List ℕ
 chainMarks size last f h is = marksOf size (joined (λ i. chainOf last f (h i)) is)

@@ -8,8 +8,6 @@ pub mod Sizes
 pub mod Values
 pub mod Chain
 pub mod Walk
-pub mod Length
-pub mod LengthTurns
 pub mod Holders
 pub mod Clusters
 pub mod Counts

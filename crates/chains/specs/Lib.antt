@@ -7,7 +7,6 @@ pub mod Sizes
 pub mod Values
 pub mod Chain
 pub mod Walk
-pub mod Length
 pub mod Holders
 pub mod Replace
 pub mod Free

@@ -19,8 +19,9 @@ pub mod AreaAnswer
 pub mod Searches
 pub mod Meanings
 pub mod MarkTurns
+pub mod Paths
 pub mod WalkTurns
-pub mod Visits
+pub mod Tails
 pub mod SlotTurns
 pub mod Judged
 pub mod FileTurns

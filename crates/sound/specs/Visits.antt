@@ -1,17 +1,16 @@
 -- An aid to the proofs: what the loops of check find on their way, two things in one pass.
-use Prim.Native.Nat.{ℕ, zero, suc, _+_, _*_, _-_, _≤_, _<_}
-use mathlib.Core.Bool.{Bool, true, false, cond}
+use Prim.Native.Nat.{ℕ, _+_, _*_, _-_, _≤_, _<_}
+use mathlib.Core.Bool.{Bool, true, false}
 use mathlib.Core.List.{List}
 use mathlib.Core.Option.{Option, none, some}
 use mathlib.Core.Path.{_≡_}
-use lib.Dec.{eqb}
 use lib.ListN.{length}
 use Rattle.chains.specs.Findings.{holdersOf}
 use Rattle.chains.specs.Lists.{joined}
-use Rattle.chains.specs.Marks.{mark, marks}
+use Rattle.chains.specs.Marks.{marks}
 use Rattle.chains.specs.Rows.{rows}
 use Rattle.chains.specs.Sums.{sum, tally}
-use Rattle.chains.specs.Values.{endb, linkb, freeCount, asideCount}
+use Rattle.chains.specs.Values.{freeCount, asideCount}
 use Rattle.chains.specs.Verdict.{first}
 use Rattle.chains.specs.Check.{badValue, chainOf, ownsb}
 use Rattle.chains.specs.Sizes.{clustersFor}
@@ -21,10 +20,9 @@ use Rattle.directory.specs.Slots.{standingOf, isPlain}
 use Rattle.directory.specs.Search.{slotFrom}
 use Rattle.sound.specs.Counts.{plainSlot, heldBy}
 use Rattle.sound.specs.Judged.{holderAt, badChainSlot, chainsOf}
+use Rattle.sound.specs.Walks.{Tails}
 use Rattle.sound.specs.declared.Census.{Census}
 use Rattle.sound.specs.declared.Census.the-variants.{BadValue, Values}
-use Rattle.sound.specs.declared.Length.{Length}
-use Rattle.sound.specs.declared.Length.the-variants.{Of, NoEnd}
 use Rattle.sound.specs.declared.Slot.{Slot}
 use Rattle.sound.specs.declared.Slot.the-variants.{NoFile, Bad, Clusters}
 use Rattle.sound.specs.declared.Chains.{Chains}
@@ -47,35 +45,6 @@ pub record ValueIs (last : ℕ) (l : List ℕ) (c r : ℕ) : Type 0 where
   pub is : r ≡ tableOf last l c
   pub small : r < 4096
 
--- ---- a walk to a chain's end that marks the clusters it meets
-
-pub record Visit : Type 0 where
-  pub many : Option ℕ
-  pub marked : List ℕ
-
-abbrev pub visit : Option ℕ → List ℕ → Visit
-visit n m = record { many = n; marked = m }
-
--- n clusters were met and marked, c is the next of them, k more may be met
-unfoldable pub visitFrom : ℕ → (ℕ → ℕ) → ℕ → ℕ → ℕ → List ℕ → Visit
-visitFrom last f zero n c m = visit none m
-visitFrom last f (suc k) n c m =
-    cond (endb (f c)) (visit (some (n + 1)) (mark m c))
-    (cond (linkb last (f c)) (visitFrom last f k (n + 1) (f c) (mark m c))
-    (visit none (mark m c)))
-
-unfoldable pub visitOf : ℕ → (ℕ → ℕ) → ℕ → List ℕ → Visit
-visitOf last f c m =
-    cond (eqb c 0) (visit (some 0) m) (cond (linkb last c) (visitFrom last f last 0 c m) (visit none m))
-
-abbrev pub lengthSaid : Length → Option ℕ
-lengthSaid (Of n) = some n
-lengthSaid NoEnd = none
-
--- what the code's walk promises: its answer r, and the marks after
-pub record Visited (last : ℕ) (f : ℕ → ℕ) (c : ℕ) (m : List ℕ) (r : Length) (after : List ℕ) : Type 0 where
-  pub is : visit (lengthSaid r) after ≡ visitOf last f c m
-
 -- ---- the entry at byte a: no file, one with a bad chain, or the number of its clusters
 
 abbrev pub slotBy : Bool → Bool → ℕ → Slot
@@ -91,15 +60,20 @@ slotFound last cb l a =
 unfoldable pub chainAt : ℕ → ℕ → List ℕ → ℕ → List ℕ
 chainAt last cb l a = chainOf last (tableOf last l) (holderAt cb l a)
 
-abbrev pub marksUnlessBad : Slot → List ℕ → List ℕ → Type 0
-marksUnlessBad NoFile after all = after ≡ all
-marksUnlessBad Bad after all = Unit
-marksUnlessBad (Clusters n) after all = after ≡ all
+-- the marks after, and what the buffers hold then; of a bad chain nothing is said
+pub record SlotMarked (last cb : ℕ) (l : List ℕ) (a : ℕ) (m after t : List ℕ) : Type 0 where
+  pub marks-are : after ≡ marks m (chainAt last cb l a)
+  pub tails : Tails last (tableOf last l) after t
 
--- what the code promises of one slot: its answer r, and unless the chain is bad its marks
-pub record SlotVisited (last cb : ℕ) (l : List ℕ) (a : ℕ) (m : List ℕ) (r : Slot) (after : List ℕ) : Type 0 where
+abbrev pub markedUnlessBad : ℕ → ℕ → List ℕ → ℕ → List ℕ → Slot → List ℕ → List ℕ → Type 0
+markedUnlessBad last cb l a m NoFile after t = SlotMarked last cb l a m after t
+markedUnlessBad last cb l a m Bad after t = Unit
+markedUnlessBad last cb l a m (Clusters n) after t = SlotMarked last cb l a m after t
+
+-- what the code promises of one slot: its answer r, and unless the chain is bad the buffers after
+pub record SlotVisited (last cb : ℕ) (l : List ℕ) (a : ℕ) (m : List ℕ) (r : Slot) (after t : List ℕ) : Type 0 where
   pub is : r ≡ slotFound last cb l a
-  pub marks-are : marksUnlessBad r after (marks m (chainAt last cb l a))
+  pub marked : markedUnlessBad last cb l a m r after t
 
 -- ---- all files of a directory: the lowest with a bad chain, or how many files there are and what they hold
 
@@ -115,8 +89,8 @@ abbrev pub marksIf : Chains → List ℕ → List ℕ → Type 0
 marksIf (Held files held) after all = after ≡ all
 marksIf (BadChain s) after all = Unit
 
--- where the loop over the slots stands: those before s have files and held, no bad chain, and the marks m
-pub record Underway (last cb : ℕ) (l : List ℕ) (root count : ℕ) (m₀ : List ℕ) (s files held : ℕ) (m : List ℕ) : Type 0 where
+-- where the loop over the slots stands: those before s have files and held, no bad chain, and the marks m; t has its tails
+pub record Underway (last cb : ℕ) (l : List ℕ) (root count : ℕ) (m₀ : List ℕ) (s files held : ℕ) (m t : List ℕ) : Type 0 where
   pub within : s ≤ count
   pub long : length m ≡ length m₀
   pub few : files ≤ s
@@ -125,6 +99,7 @@ pub record Underway (last cb : ℕ) (l : List ℕ) (root count : ℕ) (m₀ : Li
   pub files-are : files + tally (plainSlot l root) (count - s) s ≡ tally (plainSlot l root) count 0
   pub held-is : held ≡ sum s (heldBy cb l root)
   pub marks-are : marks m (joined (chainAt last cb l) (holdersOf (rows (slotFrom root) s (count - s)))) ≡ marks m₀ (chainsOf last cb l root count)
+  pub tails : Tails last (tableOf last l) m t
 
 -- what the code's loop promises: its answer r, and where no chain is bad the marks of all chains
 pub record FilesVisited (last cb : ℕ) (l : List ℕ) (root count : ℕ) (m : List ℕ) (r : Chains) (after : List ℕ) : Type 0 where

@@ -33,6 +33,13 @@ pub enum Length {
     NoEnd,
 }
 
+// What a walk finds: the number of clusters to the chain's end, and of how many of them, the last ones, the number left
+// need not be stored; or that there is no end.
+pub enum Walk {
+    Ends(usize, usize),
+    Endless,
+}
+
 // The lowest slot of a file with a bad chain; or how many files there are and how many clusters they hold.
 pub enum Chains {
     BadChain(usize),
@@ -73,7 +80,8 @@ fn judge_chains(img: &[u8], k: Kind, free: usize, aside: usize) -> Verdict
     let count = k.root_entries();
     let bytes = k.cluster_bytes();
     let mut marks = [0u8; 4080];
-    match visits::visit_files(img, &mut marks, root, count, last, bytes) {
+    let mut left = [0u16; 4080];
+    match visits::visit_files(img, &mut marks, &mut left, root, count, last, bytes) {
         Chains::BadChain(slot) => Verdict::Finding(5, slot),
         Chains::Held(files, held) => {
             judge_marks(img, &marks, last, Verdict::Sound(files, free, held, aside))

@@ -1,11 +1,11 @@
--- What the marks say, and the turns of the loop that makes them.
+-- What the marks say.
 use Prim.Native.Nat.{ℕ, _+_, _≤_, _<_, min}
 use native.Mathlib.Omega.{arith}
 use mathlib.Core.Path.{_≡_, refl, sym, ap, _∙_, subst}
 use mathlib.Core.Logic.{_↔_, inl, inr}
 use mathlib.Core.List.{List, [], _∷_, _++_}
 use lib.ListN.{length, getD, set, replicate, length-set, length-replicate, getD-replicate}
-use lib.Seq.{getD-set-same, getD-set-other, set-out}
+use lib.Seq.{getD-set-same, getD-set-other, set-getD}
 use Rattle.chains.specs.Lists.{InTwoOf, Once, _∈_, hit, joined, occ}
 use Rattle.chains.specs.Marks.{mark, marks, marksOf}
 use Rattle.chains.specs.Laws.Lists.{dec-mem, hit-cases, hit-same, joined-mem, mem-joined, mem-occ, occ-append, occ-mem, occ-not, once-head, once-tail}
@@ -81,16 +81,13 @@ two-in-two size χ is c l e o = (λ q. occ-in-two χ is c e o (omega (arith, mar
 pub zero-none : (size : ℕ) (all : List ℕ) (c : ℕ) → c < size → (getD (marksOf size all) c 0 ≡ 0) ↔ (¬ (c ∈ all))
 zero-none size all c l = (λ e m. omega (arith, marks-of-at size all c l, mem-occ c all m), λ n. omega (arith, marks-of-at size all c l, occ-not c all n))
 
--- ---- one mark, in the shape of the code's tests
+-- ---- 2 stays
 
-pub mark-out : (m : List ℕ) (c : ℕ) → length m ≤ c → mark m c ≡ m
+mark-stays : (m : List ℕ) (c : ℕ) → getD m c 0 ≡ 2 → mark m c ≡ m
 unfolding mark
-mark-out m c h = set-out m c (min 2 (getD m c 0 + 1)) h
+mark-stays m c e = let z : min 2 (getD m c 0 + 1) ≡ getD m c 0 = omega arith in ap (set m c) z ∙ set-getD m c 0
 
-pub mark-first : (m : List ℕ) (c : ℕ) → getD m c 0 < 1 → mark m c ≡ set m c 1
-unfolding mark
-mark-first m c h = let e : min 2 (getD m c 0 + 1) ≡ 1 = omega arith in rw e refl
-
-pub mark-more : (m : List ℕ) (c : ℕ) → 1 ≤ getD m c 0 → mark m c ≡ set m c 2
-unfolding mark
-mark-more m c h = let e : min 2 (getD m c 0 + 1) ≡ 2 = omega arith in rw e refl
+pub marks-stay : (m cs : List ℕ) → ((c : ℕ) → c ∈ cs → getD m c 0 ≡ 2) → marks m cs ≡ m
+unfolding marks
+marks-stay m [] h = refl
+marks-stay m (c ∷ cs) h = ap (λ (k : List ℕ). marks k cs) (mark-stays m c (h c (inl refl))) ∙ marks-stay m cs (λ d k. h d (inr k))

@@ -1,6 +1,7 @@
 -- The visit of all files decides finding 5, and its marks the rest.
 use native.Mathlib.Omega.{arith}
 use Rattle.sound.specs.Laws.Judged.{visited-bad, visited-good}
+use Rattle.sound.specs.Laws.Tails.{tails-begin}
 use borrow.Author.Needs.{needs}
 use Rattle.sound.proofs.judge_chains.Statement.{statement}
 use Rattle.sound.proofs.judge_chains.Tie as tie
@@ -20,8 +21,11 @@ cluster-bytes-requires c κs = search needs
 slice-aggregate-visit-files : tie.Need-slice-aggregate-visit-files
 slice-aggregate-visit-files c = search needs
 
+slice-aggregate-visit-files-2 : tie.Need-slice-aggregate-visit-files-2
+slice-aggregate-visit-files-2 c = search needs
+
 visit-files-requires : tie.Need-visit-files-requires
-visit-files-requires c κs = omega arith
+visit-files-requires c κs = (search needs, (search needs, (search needs, (tails-begin _ _ (search needs), (omega arith, search needs)))))
 
 enum-known-slot : tie.Need-enum-known-slot
 enum-known-slot c = search needs
@@ -50,6 +54,7 @@ judge-chains-spec =
     root-entries-requires
     cluster-bytes-requires
     slice-aggregate-visit-files
+    slice-aggregate-visit-files-2
     visit-files-requires
     enum-known-slot
     enum-known-files

@@ -28,7 +28,8 @@ use Rattle.directory.specs.Search.{slotFrom}
 use Rattle.directory.specs.Slots.{standingOf, isPlain}
 use Rattle.sound.specs.Counts.{plainSlot, heldBy}
 use Rattle.sound.specs.Judged.{holderAt, badChainSlot, chainsOf}
-use Rattle.sound.specs.Visits.{chainsFound, slotBy, slotFound, chainAt, marksUnlessBad, SlotVisited, Underway, FilesVisited}
+use Rattle.sound.specs.Walks.{Tails}
+use Rattle.sound.specs.Visits.{chainsFound, slotBy, slotFound, chainAt, SlotMarked, markedUnlessBad, SlotVisited, Underway, FilesVisited}
 use Rattle.sound.specs.Laws.SlotTurns.{holder-none, holder-file}
 use Rattle.sound.specs.declared.Slot.{Slot}
 use Rattle.sound.specs.declared.Slot.the-variants.{NoFile, Bad, Clusters}
@@ -124,9 +125,9 @@ module _ (last cb : ℕ) (l : List ℕ) (root s : ℕ) (low : last ≤ 4079) (wi
 
 -- ---- the loop
 
-pub files-begin : (last cb : ℕ) (l : List ℕ) (root count : ℕ) (m : List ℕ) → Underway last cb l root count m 0 0 0 m
+pub files-begin : (last cb : ℕ) (l : List ℕ) (root count : ℕ) (m t : List ℕ) → Tails last (tableOf last l) m t → Underway last cb l root count m 0 0 0 m t
 unfolding sum chainsOf chainAt
-files-begin last cb l root count m =
+files-begin last cb l root count m t T =
     let z : count - 0 ≡ count = omega arith in
     record {
       within = omega arith;
@@ -137,9 +138,10 @@ files-begin last cb l root count m =
       files-are = rw z (omega arith);
       held-is = refl;
       marks-are = rw z;
+      tails = T;
     }
 
-module _ (last cb : ℕ) (l : List ℕ) (root count : ℕ) (m₀ : List ℕ) (s files held : ℕ) (m : List ℕ) (u : Underway last cb l root count m₀ s files held m) where
+module _ (last cb : ℕ) (l : List ℕ) (root count : ℕ) (m₀ : List ℕ) (s files held : ℕ) (m t : List ℕ) (u : Underway last cb l root count m₀ s files held m t) where
   pub files-done : count ≤ s → FilesVisited last cb l root count m₀ (Held files held) m
   unfolding chainsFound chainsOf chainAt
   files-done h =
@@ -152,8 +154,8 @@ module _ (last cb : ℕ) (l : List ℕ) (root count : ℕ) (m₀ : List ℕ) (s 
         marks-are = marks-end (chainAt last cb l) (slotFrom root) count s m (marks m₀ (chainsOf last cb l root count)) h (u .marks-are);
       }
 
-  -- g is the answer for slot s, m′ are the marks then
-  module _ (g : Slot) (m′ : List ℕ) (low : last ≤ 4079) (wide : 0 < cb) (h : s < count) (v : SlotVisited last cb l (root + 32 * s) m g m′) where
+  -- g is the answer for slot s, m′ and t′ are the buffers then
+  module _ (g : Slot) (m′ t′ : List ℕ) (low : last ≤ 4079) (wide : 0 < cb) (h : s < count) (v : SlotVisited last cb l (root + 32 * s) m g m′ t′) where
     pub files-bad : g ≡ Bad → FilesVisited last cb l root count m₀ (BadChain s) m′
     unfolding chainsFound
     files-bad t =
@@ -164,11 +166,11 @@ module _ (last cb : ℕ) (l : List ℕ) (root count : ℕ) (m₀ : List ℕ) (s 
     pub held-fits : (n : ℕ) → count ≤ 65536 → g ≡ Clusters n → Fits w64 (held + n)
     held-fits n k t = record { fits = omega (arith, u .bounded, ap holds t, few-said last cb l root s low wide g (v .is)) }
 
-    next : (files′ held′ : ℕ) → isBad g ≡ false → m′ ≡ marks m (chainAt last cb l (slotFrom root s)) → files′ ≤ files + 1 → held′ ≡ held + holds g
-        → files′ + tally (plainSlot l root) (count - (s + 1)) (s + 1) ≡ tally (plainSlot l root) count 0 → Underway last cb l root count m₀ (s + 1) files′ held′ m′
+    next : (files′ held′ : ℕ) → isBad g ≡ false → SlotMarked last cb l (slotFrom root s) m m′ t′ → files′ ≤ files + 1 → held′ ≡ held + holds g
+        → files′ + tally (plainSlot l root) (count - (s + 1)) (s + 1) ≡ tally (plainSlot l root) count 0 → Underway last cb l root count m₀ (s + 1) files′ held′ m′ t′
     next files′ held′ b x y z w = record {
       within = omega arith;
-      long = ap length x ∙ marks-length m (chainAt last cb l (slotFrom root s)) ∙ u .long;
+      long = ap length (x .marks-are) ∙ marks-length m (chainAt last cb l (slotFrom root s)) ∙ u .long;
       few = omega (arith, u .few);
       bounded = omega (arith, z, u .bounded, few-said last cb l root s low wide g (v .is));
       none-bad = first-miss (badChainSlot last cb l root) count s (first (badChainSlot last cb l root) count 0) h (bad-said last cb l root s low wide g (v .is) ∙ b) (u .none-bad);
@@ -177,18 +179,19 @@ module _ (last cb : ℕ) (l : List ℕ) (root count : ℕ) (m₀ : List ℕ) (s 
           let e : s + 1 ≡ suc s = omega arith in
           let q : sum (suc s) (heldBy cb l root) ≡ sum s (heldBy cb l root) + heldBy cb l root s = unfold sum in refl in
           rw e (omega (arith, z, q, u .held-is, held-said last cb l root s low wide g (v .is) b));
-      marks-are = marks-turn (chainAt last cb l) (slotFrom root) count s m m′ (marks m₀ (chainsOf last cb l root count)) h x (u .marks-are);
+      marks-are = marks-turn (chainAt last cb l) (slotFrom root) count s m m′ (marks m₀ (chainsOf last cb l root count)) h (x .marks-are) (u .marks-are);
+      tails = x .tails;
     }
 
     module _ (files′ held′ : ℕ) where
-      pub files-skip : g ≡ NoFile → files′ ≡ files → held′ ≡ held → Underway last cb l root count m₀ (s + 1) files′ held′ m′
-      files-skip t x y =
-          let d : plainSlot l root s ≡ false = plain-said last cb l root s low wide g (v .is) ∙ ap isFile t in
-          next files′ held′ (ap isBad t) (subst (λ (k : Slot). marksUnlessBad k m′ (marks m (chainAt last cb l (slotFrom root s)))) t (v .marks-are)) (omega arith) (omega (arith, ap holds t))
+      pub files-skip : g ≡ NoFile → files′ ≡ files → held′ ≡ held → Underway last cb l root count m₀ (s + 1) files′ held′ m′ t′
+      files-skip e x y =
+          let d : plainSlot l root s ≡ false = plain-said last cb l root s low wide g (v .is) ∙ ap isFile e in
+          next files′ held′ (ap isBad e) (subst (λ (k : Slot). markedUnlessBad last cb l (slotFrom root s) m k m′ t′) e (v .marked)) (omega arith) (omega (arith, ap holds e))
           (tally-miss (plainSlot l root) count s files files′ (tally (plainSlot l root) count 0) h d x (u .files-are))
 
-      pub files-add : (n : ℕ) → g ≡ Clusters n → files′ ≡ files + 1 → held′ ≡ held + n → Underway last cb l root count m₀ (s + 1) files′ held′ m′
-      files-add n t x y =
-          let d : plainSlot l root s ≡ true = plain-said last cb l root s low wide g (v .is) ∙ ap isFile t in
-          next files′ held′ (ap isBad t) (subst (λ (k : Slot). marksUnlessBad k m′ (marks m (chainAt last cb l (slotFrom root s)))) t (v .marks-are)) (omega arith) (omega (arith, ap holds t))
+      pub files-add : (n : ℕ) → g ≡ Clusters n → files′ ≡ files + 1 → held′ ≡ held + n → Underway last cb l root count m₀ (s + 1) files′ held′ m′ t′
+      files-add n e x y =
+          let d : plainSlot l root s ≡ true = plain-said last cb l root s low wide g (v .is) ∙ ap isFile e in
+          next files′ held′ (ap isBad e) (subst (λ (k : Slot). markedUnlessBad last cb l (slotFrom root s) m k m′ t′) e (v .marked)) (omega arith) (omega (arith, ap holds e))
           (tally-hit (plainSlot l root) count s files files′ (tally (plainSlot l root) count 0) h d x (u .files-are))

@@ -4,19 +4,18 @@ use native.Mathlib.Omega.{arith}
 use mathlib.Core.Bool.{Bool, true, false, not}
 use mathlib.Core.List.{List, []}
 use mathlib.Core.Logic.{_≢_}
-use mathlib.Core.Option.{some}
-use mathlib.Core.Path.{_≡_, refl, sym, ap, _∙_}
+use mathlib.Core.Path.{_≡_, refl, sym, ap, subst, _∙_}
 use lib.ListN.{length}
-use borrow.Author.Tests.{eq-eqb, ne-eqb}
+use borrow.Author.Tests.{eq-eqb}
 use Rattle.chains.specs.Chain.{Chain}
-use Rattle.chains.specs.Check.{allowed, chainOf, ownsb}
-use Rattle.chains.specs.Holders.{Holder, nobody, fileHolder}
-use Rattle.chains.specs.Length.{chainLength}
+use Rattle.chains.specs.Check.{chainOf, ownsb}
+use Rattle.chains.specs.Holders.{Holder, Owns, nobody, fileHolder}
 use Rattle.chains.specs.Marks.{marks}
 use Rattle.chains.specs.Sizes.{Geometry, clustersFor, fits}
-use Rattle.chains.specs.Walk.{walk}
-use Rattle.chains.specs.Laws.Length.{counted-chain, owns-length}
-use Rattle.chains.specs.Laws.Tests.{not-false, not-true}
+use Rattle.chains.specs.Laws.Chain.{chain-same}
+use Rattle.chains.specs.Laws.Check.{says-owned}
+use Rattle.chains.specs.Laws.Sizes.{fits-exact}
+use Rattle.chains.specs.Laws.Tests.{false-says, not-false, not-true, true-says}
 use Rattle.chains.specs.Laws.Walk.{chain-walk}
 use Rattle.table.specs.Entries.{tableOf}
 use Rattle.directory.specs.Fields.{startOf, sizeOf}
@@ -24,8 +23,8 @@ use Rattle.directory.specs.Slots.{standingOf, isPlain}
 use Rattle.directory.specs.declared.Standing.{Standing}
 use Rattle.directory.specs.declared.Standing.the-variants.{NeverUsed, Erased, Label, Plain}
 use Rattle.sound.specs.Judged.{holderBy, holderAt}
-use Rattle.sound.specs.Visits.{Visit, visitOf, lengthSaid, Visited, slotFound, chainAt, SlotVisited}
-use Rattle.sound.specs.Laws.Visits.{visit-length, chain-visited}
+use Rattle.sound.specs.Walks.{Tails, Chained, visitedBy, Visited}
+use Rattle.sound.specs.Visits.{slotFound, chainAt, SlotVisited}
 use Rattle.sound.specs.declared.Length.{Length}
 use Rattle.sound.specs.declared.Length.the-variants.{Of, NoEnd}
 use Rattle.sound.specs.declared.Slot.the-variants.{NoFile, Bad, Clusters}
@@ -50,65 +49,57 @@ chain-of : (G : Geometry) (f : ℕ → ℕ) (h : Holder) (cs : List ℕ) → Cha
 unfolding chainOf
 chain-of G f h cs p = rw (chain-walk G f (h .start) cs p, chainOf)
 
--- where the walk has an end it marks the holder's clusters
-visited-marks : (G : Geometry) (f : ℕ → ℕ) (h : Holder) (m : List ℕ) (n : ℕ) → chainLength (G .last) f (h .start) ≡ some n → visitOf (G .last) f (h .start) m .marked ≡ marks m (chainOf (G .last) f h)
-visited-marks G f h m n e =
-    let r = counted-chain G f (h .start) n e in
-    chain-visited G f (h .start) m (r .0) (r .1) ∙ ap (marks m) (sym (chain-of G f h (r .0) (r .1)))
-
 -- ---- the slot, in the form of the code's needs
 
-module _ (last cb : ℕ) (l : List ℕ) (a : ℕ) (m : List ℕ) (b : Bool) (low : last ≤ 4079) (wide : 0 < cb) (p : b ≡ isPlain (standingOf l a)) where
+module _ (last cb : ℕ) (l : List ℕ) (a : ℕ) (m : List ℕ) (low : last ≤ 4079) (wide : 0 < cb) where
   abbrev G : Geometry
   G = record { last = last; cb = cb; small = low; wide = wide }
 
   abbrev f : ℕ → ℕ
   f = tableOf last l
 
-  pub slot-no-file : not b ≡ true → SlotVisited last cb l a m NoFile m
+  pub slot-no-file : (t : List ℕ) → Tails last f m t → (b : Bool) → b ≡ isPlain (standingOf l a) → not b ≡ true → SlotVisited last cb l a m NoFile m t
   unfolding slotFound chainAt marks
-  slot-no-file t =
-      let e : isPlain (standingOf l a) ≡ false = sym p ∙ not-true b t in
+  slot-no-file t T b p x =
+      let e : isPlain (standingOf l a) ≡ false = sym p ∙ not-true b x in
       record {
         is = rw e;
-        marks-are = rw (holder-none cb (startOf l a) (sizeOf l a) (standingOf l a) e, chain-of G f nobody [] refl);
+        marked = record { marks-are = rw (holder-none cb (startOf l a) (sizeOf l a) (standingOf l a) e, chain-of G f nobody [] refl); tails = T };
       }
 
-  -- the file's chain was walked
-  module _ (size start : ℕ) (g : Length) (after : List ℕ) (t : not b ≡ false) (z : size ≡ sizeOf l a) (s : start ≡ startOf l a) (v : Visited last (tableOf last l) start m g after) where
+  -- the file's chain was visited
+  module _ (start : ℕ) (g : Length) (after t : List ℕ) (v : Visited last (tableOf last l) start m g after t) (s : start ≡ startOf l a)
+      (size : ℕ) (z : size ≡ sizeOf l a) (b : Bool) (p : b ≡ isPlain (standingOf l a)) (x : not b ≡ false) where
     plain : isPlain (standingOf l a) ≡ true
-    plain = sym p ∙ not-false b t
+    plain = sym p ∙ not-false b x
 
     holder : holderAt cb l a ≡ fileHolder cb start size
     holder = rw (z, s) (holder-file cb (startOf l a) (sizeOf l a) (standingOf l a) plain)
 
-    length-is : chainLength last f start ≡ lengthSaid g
-    length-is = sym (ap (λ (x : Visit). x .many) (v .is) ∙ visit-length last f start m)
-
-    owns-is : ownsb last f (holderAt cb l a) ≡ allowed (fileHolder cb start size) (lengthSaid g)
-    owns-is = ap (ownsb last f) holder ∙ owns-length last f (fileHolder cb start size) ∙ ap (allowed (fileHolder cb start size)) length-is
-
-    bad : allowed (fileHolder cb start size) (lengthSaid g) ≡ false → SlotVisited last cb l a m Bad after
+    bad : ((cs : List ℕ) → ¬ Owns last f (fileHolder cb start size) cs) → SlotVisited last cb l a m Bad after t
     unfolding slotFound
-    bad e = record { is = rw (plain, owns-is ∙ e); marks-are = tt }
+    bad never =
+        let o : ownsb last f (holderAt cb l a) ≡ false = rw holder (false-says (says-owned G f (fileHolder cb start size)) (λ r. never (r .0) (r .1))) in
+        record { is = rw (plain, o); marked = tt }
 
-    pub slot-endless : g ≡ NoEnd → SlotVisited last cb l a m Bad after
-    slot-endless e = bad (ap (λ (x : Length). allowed (fileHolder cb start size) (lengthSaid x)) e)
+    pub slot-endless : g ≡ NoEnd → SlotVisited last cb l a m Bad after t
+    slot-endless e = bad (λ cs o. subst (λ (r : Length). visitedBy last f start m r after t) e (v .is) cs (o .chain))
 
     module _ (n : ℕ) (e : g ≡ Of n) where
-      allowed-is : allowed (fileHolder cb start size) (lengthSaid g) ≡ fits cb size n
-      allowed-is = ap (λ (x : Length). allowed (fileHolder cb start size) (lengthSaid x)) e
+      has : Chained last f start m n after t
+      has = subst (λ (r : Length). visitedBy last f start m r after t) e (v .is)
 
-      pub slot-other : n ≢ (size + (cb - 1)) / cb → SlotVisited last cb l a m Bad after
-      unfolding fits clustersFor
-      slot-other d = bad (allowed-is ∙ ne-eqb n ((size + (cb - 1)) / cb) d)
+      pub slot-other : n ≢ (size + (cb - 1)) / cb → SlotVisited last cb l a m Bad after t
+      unfolding clustersFor
+      slot-other d = bad (λ cs o. d (sym (has .long) ∙ ap length (chain-same G f start (has .clusters) cs (has .chain) (o .chain)) ∙ fits-exact cb size (length cs) (o .long)))
 
-      pub slot-clusters : n ≡ (size + (cb - 1)) / cb → SlotVisited last cb l a m (Clusters n) after
+      pub slot-clusters : n ≡ (size + (cb - 1)) / cb → SlotVisited last cb l a m (Clusters n) after t
       unfolding slotFound fits clustersFor chainAt
       slot-clusters q =
-          let o : ownsb last f (holderAt cb l a) ≡ true = owns-is ∙ allowed-is ∙ eq-eqb n ((size + (cb - 1)) / cb) q in
-          let c : chainLength last f start ≡ some n = length-is ∙ ap lengthSaid e in
+          let w : Owns last f (fileHolder cb start size) (has .clusters) = record { chain = has .chain; long = eq-eqb (length (has .clusters)) ((size + (cb - 1)) / cb) (has .long ∙ q) } in
+          let o : ownsb last f (holderAt cb l a) ≡ true = rw holder (true-says (says-owned G f (fileHolder cb start size)) (has .clusters, w)) in
+          let c : chainOf last f (holderAt cb l a) ≡ has .clusters = rw holder (chain-of G f (fileHolder cb start size) (has .clusters) (has .chain)) in
           record {
             is = rw (plain, o, q, z);
-            marks-are = ap (λ (x : Visit). x .marked) (v .is) ∙ visited-marks G f (fileHolder cb start size) m n c ∙ ap (λ (h : Holder). marks m (chainOf last f h)) (sym holder);
+            marked = record { marks-are = has .marks-are ∙ ap (marks m) (sym c); tails = has .tails };
           }

@@ -32,7 +32,7 @@ cast-visit : tie.Need-cast-visit
 cast-visit c = search needs
 
 visit-requires : tie.Need-visit-requires
-visit-requires c κs = search needs
+visit-requires c κs = (search needs, (search needs, (search needs, search needs)))
 
 enum-known-n : tie.Need-enum-known-n
 enum-known-n c = search needs
@@ -43,17 +43,26 @@ enum-told c = search needs
 same-length : tie.Need-same-length
 same-length c = search needs
 
+same-length-2 : tie.Need-same-length-2
+same-length-2 c = search needs
+
 returns-2 : tie.Need-returns-2
 returns-2 c = search slot-clusters
 
-same-length-2 : tie.Need-same-length-2
-same-length-2 c = search needs
+same-length-3 : tie.Need-same-length-3
+same-length-3 c = search needs
+
+same-length-4 : tie.Need-same-length-4
+same-length-4 c = search needs
 
 returns-3 : tie.Need-returns-3
 returns-3 c = search slot-other
 
-same-length-3 : tie.Need-same-length-3
-same-length-3 c = search needs
+same-length-5 : tie.Need-same-length-5
+same-length-5 c = search needs
+
+same-length-6 : tie.Need-same-length-6
+same-length-6 c = search needs
 
 returns-4 : tie.Need-returns-4
 returns-4 c = search slot-endless
@@ -75,8 +84,11 @@ visit-slot-spec =
     enum-known-n
     enum-told
     same-length
-    returns-2
     same-length-2
-    returns-3
+    returns-2
     same-length-3
+    same-length-4
+    returns-3
+    same-length-5
+    same-length-6
     returns-4)
