@@ -1,0 +1,4 @@
+-- What runs of calls do.
+pub mod Files
+pub mod Changed
+pub mod Laws
