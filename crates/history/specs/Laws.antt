@@ -3,3 +3,5 @@ pub mod Changed
 pub mod Frames
 pub mod Rows
 pub mod Came
+pub mod Looks
+pub mod Runs

@@ -3,6 +3,7 @@
 pub mod World
 pub mod Files
 pub mod History
+pub mod Promises
 pub mod Changed
 pub mod Came
 pub mod Laws
