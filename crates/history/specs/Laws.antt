@@ -5,3 +5,5 @@ pub mod Rows
 pub mod Came
 pub mod Looks
 pub mod Runs
+pub mod Refused
+pub mod Shown

@@ -82,3 +82,6 @@ ShortOnlyWhereFull = (k : Kind) (w : World) → Begins k w → (h : ℕ) (bs : L
 -- "A call that refuses .. leaves volume, table and buffers exactly as they came"
 abbrev pub RefusalsLeaveAll : Type 0
 RefusalsLeaveAll = (w : World) (c : Call) → outcomeOf c w .number ≢ 0 → step w c ≡ w
+
+abbrev pub RefusedReadsLeaveBuffer : Type 0
+RefusedReadsLeaveBuffer = (w : World) (h : ℕ) (buffer : List ℕ) → outcomeOf (read h buffer) w .number ≢ 0 → outcomeOf (read h buffer) w .buffer ≡ buffer

@@ -28,3 +28,11 @@ pub passed : (test : Bool) (n : ℕ) (rows : List Row) → n ≢ 0 → refusal (
 unfolding refusal
 passed true n rows d e = absurd (d e)
 passed false n rows d e = (refl, e)
+
+-- an effect that ends well, and a call that doesn't: image and table are as they came
+pub refused-leaves : (rows : List Row) (effect : Outcome) (l t b : List ℕ) → effect .number ≡ 0 → decided rows effect l t b .number ≢ 0
+    → (decided rows effect l t b .image ≡ l) × (decided rows effect l t b .table ≡ t)
+refused-leaves rows effect l t b well n = elim (decided-cases rows effect l t b) [
+  | inl x ↦ (ap (λ (o : Outcome). o .image) (x .1), ap (λ (o : Outcome). o .table) (x .1))
+  | inr x ↦ absurd (n (ap (λ (o : Outcome). o .number) (x .1) ∙ well))
+]
