@@ -1,3 +1,4 @@
 -- The laws of the definitions beside this folder.
 pub mod Changed
 pub mod Frames
+pub mod Marks
