@@ -181,3 +181,57 @@ module _ (k : Kind) (l : List ℕ) (v : OnVolume l k) (s : ℕ) (i : FileIn l k 
       attr = d;
       bytes = (h .bytes .0, chain-stays (h .bytes .0) (h .bytes .1), same-content (h .bytes .0) (h .bytes .1) ∙ h .bytes .2);
     }
+
+  within : a + 32 ≤ length l
+  within = file-within l k v s i a refl
+
+  -- ---- rename
+
+  module _ (given : List ℕ) (fits : Given.nameOf given .fits ≡ true) where
+    abbrev name : List ℕ
+    name = Given.nameOf given .name
+
+    abbrev renamed : List ℕ
+    renamed = withName l a name
+
+    good : Proper name
+    good = proper given fits
+
+    rename-entry : EntryChanged k l renamed s
+    rename-entry = entry-stored k u s (i .below) l a name (omega arith) (omega (arith, good .long))
+
+    rename-leaves : Untouched renamed l a 11 a
+    rename-leaves = untouched l a 11 name (good .long) a within
+
+    rename-attr : attrOf renamed a ≡ attrOf l a
+    rename-attr = rename-leaves .attr (inr (omega arith))
+
+    rename-first : getD renamed a 0 ≡ getD name 0 0
+    rename-first = let z : a + 0 ≡ a = omega arith in rw z at (stored-inside l a name 0 (omega (arith, good .long)) (omega (arith, good .long, within)))
+
+    rename-name : nameOf renamed a ≡ name
+    rename-name = run-back l a 11 name (good .long) (omega (arith, within))
+
+    rename-stays : FileStays k l renamed s
+    rename-stays = record {
+      plain = ((λ e. good .neverUsed (sym rename-first ∙ e), λ e. good .erased (sym rename-first ∙ e)), rw rename-attr (i .plain .1));
+      start = rename-leaves .start (inl (omega arith));
+      size = rename-leaves .size (inl (omega arith));
+    }
+
+    rename-usual : ¬ StrangeEntry k renamed s
+    rename-usual (live, inl e) = good .dotted (sym rename-first ∙ e)
+    rename-usual (live, inr e) = usual-before (i .plain .0, inr (rw (sym rename-attr) e))
+
+    pub rename-changed : slotNamed l (rootAt k) (rootEntries k) name ≡ Nothing → SlotChanged k l renamed s (rootChains k l a)
+    rename-changed free =
+        let none : Answers (λ (t : ℕ). PlainAt l (slotAt k t) × (nameOf l (slotAt k t) ≡ name)) (rootEntries k) Nothing
+        = subst (Answers (λ (t : ℕ). PlainAt l (slotAt k t) × (nameOf l (slotAt k t) ≡ name)) (rootEntries k)) free
+        (slot-named-answers l (rootAt k) (rootEntries k) (root-within l k v (rootAt k) (rootEntries k) refl refl) name (good .long)) in
+        entry-changed renamed rename-entry rename-stays rename-usual (λ t h n p e. none t h (p, e ∙ rename-name))
+
+    pub rename-holds : (f : File) → Holds k l s f → Holds k renamed s (file name (f .attr) (f .bytes))
+    rename-holds f h = entry-holds renamed rename-entry rename-stays f h name (f .attr) rename-name (rename-attr ∙ h .attr)
+
+    pub rename-bytes : Bytes l → Bytes renamed
+    rename-bytes b = bytes-stored l a name b (good .bytes)
