@@ -9,14 +9,15 @@ use mathlib.Core.Logic.{_≢_, inl, inr}
 use mathlib.Core.Path.{_≡_, refl, sym, ap, _∙_, subst}
 use lib.Dec.{eqb}
 use lib.ListN.{length, getD}
-use borrow.Author.Tests.{eqb-true, eqb-false, not-false}
+use borrow.Author.Tests.{eqb-true, eqb-false, ne-eqb, not-false}
 use Rattle.image.specs.Bytes.{Bytes}
 use Rattle.image.specs.Numbers.{digits}
 use Rattle.image.specs.Store.{stored}
 use Rattle.image.specs.Laws.Numbers.{length-digits, bytes-digits}
-use Rattle.image.specs.Laws.Store.{length-stored, bytes-one, bytes-stored, stored-inside}
-use Rattle.chains.specs.Content.{Touches, Room, clusterAt, content}
-use Rattle.chains.specs.Holders.{Holder, Owns, FileClusters, fileHolder}
+use Rattle.image.specs.Laws.Store.{bytes-one, bytes-stored, stored-inside}
+use Rattle.chains.specs.Content.{Touches, Room, content}
+use Rattle.chains.specs.Holders.{Holder, Owns, fileHolder}
+use Rattle.chains.specs.Lists.{_∈_}
 use Rattle.chains.specs.Replace.{Replaced}
 use Rattle.chains.specs.Values.{Link}
 use Rattle.chains.specs.Laws.Chain.{chain-mem}
@@ -30,7 +31,7 @@ use Rattle.diskette.specs.Kinds.{Usable}
 use Rattle.diskette.specs.Places.{firstData, clusterBytes, lastCluster, rootAt, rootEntries, slotAt}
 use Rattle.diskette.specs.declared.Kind.{Kind}
 use Rattle.directory.specs.Entries.{Untouched}
-use Rattle.directory.specs.Fields.{nameOf, attrOf, startOf, sizeOf, withName, withAttr, withTime, withDate}
+use Rattle.directory.specs.Fields.{nameOf, attrOf, startOf, sizeOf, withName, withAttr}
 use Rattle.directory.specs.Search.{slotNamed}
 use Rattle.directory.specs.Slots.{hasBit, NeverUsedAt, PlainAt}
 use Rattle.directory.specs.Laws.Entries.{untouched, byte-leaves, word-leaves, byte-back, run-back}
@@ -39,7 +40,6 @@ use Rattle.names.specs.Reading as Given
 use Rattle.names.specs.Spelling.{Proper}
 use Rattle.names.specs.Laws.Proper.{proper}
 use Rattle.search.specs.Search.{Answers}
-use Rattle.search.specs.declared.Found.{Found}
 use Rattle.search.specs.declared.Found.the-variants.{Nothing}
 use Rattle.sound.specs.Files.{valueOf, ChainOf}
 use Rattle.sound.specs.Findings.{StrangeEntry}
@@ -57,8 +57,8 @@ use Rattle.opening.specs.Laws.Close.{archived-fits}
 use Rattle.holding.specs.Holding.{FileIn}
 use Rattle.holding.specs.Laws.Chain.{file-within}
 use Rattle.holding.specs.Laws.Clusters.{on-clusters}
-use Rattle.history.specs.Files.{File, file, Contains, Holds}
-use Rattle.history.specs.Changed.{Framed, GoodSlot, SlotChanged}
+use Rattle.history.specs.Files.{File, file, Holds}
+use Rattle.history.specs.Changed.{Framed, SlotChanged}
 use Rattle.history.specs.Laws.Changed.{on-sound, on-theory}
 use Rattle.history.specs.Laws.Frames.{frame-then, entry-frame, entry-table, entry-touches}
 
@@ -85,11 +85,78 @@ module _ (k : Kind) (u : Usable k) (s : ℕ) where
     clusters = λ ds. touched-twice (lastCluster k) (512 * firstData k) (clusterBytes k) l m n ds (x .clusters ds) (y .clusters ds);
   }
 
+-- ---- attributes
+
+-- an attribute that the entry of a file may have: none of the bits 08, 10, 40 and 80
+pub record FileMarks (attr : ℕ) : Type 0 where
+  pub plain : hasBit attr 0x08 ≡ false
+  pub not10 : hasBit attr 0x10 ≢ true
+  pub not40 : hasBit attr 0x40 ≢ true
+  pub not80 : hasBit attr 0x80 ≢ true
+
+-- what a caller may set
+pub allowed-marks : (attr : ℕ) → badAttr attr ≡ false → FileMarks attr
+unfolding badAttr
+allowed-marks attr e =
+    let q : attr ≡ attr % 8 + attr / 32 % 2 * 32 = eqb-true attr (attr % 8 + attr / 32 % 2 * 32) (not-false (eqb attr (attr % 8 + attr / 32 % 2 * 32)) e) in
+    let d8 : attr / 8 ≡ 4 * (attr / 32 % 2) = omega arith in
+    let h8 : attr / 8 / 2 ≡ 2 * (attr / 32 % 2) = omega arith in
+    let d16 : attr / 16 ≡ 2 * (attr / 32 % 2) = omega arith in
+    let h16 : attr / 16 / 2 ≡ attr / 32 % 2 = omega arith in
+    let d64 : attr / 64 ≡ 0 = omega arith in
+    let d128 : attr / 128 ≡ 0 = omega arith in
+    record {
+      plain = ne-eqb (attr / 8 % 2) 1 (omega arith);
+      not10 = λ t. let z : attr / 16 % 2 ≡ 1 = eqb-true (attr / 16 % 2) 1 t in omega arith;
+      not40 = λ t. let z : attr / 64 % 2 ≡ 1 = eqb-true (attr / 64 % 2) 1 t in omega arith;
+      not80 = λ t. let z : attr / 128 % 2 ≡ 1 = eqb-true (attr / 128 % 2) 1 t in omega arith;
+    }
+
+-- bit 20 set leaves the others
+pub archived-marks : (attr : ℕ) → FileMarks attr → FileMarks (archived attr)
+unfolding archived
+archived-marks attr x = by (hasBit attr 0x20) refl
+  where
+    by : (b : Bool) → hasBit attr 0x20 ≡ b → FileMarks (cond b attr (attr + 0x20))
+    by true e = x
+    by false e =
+        let n : attr / 32 % 2 ≢ 1 = eqb-false (attr / 32 % 2) 1 e in
+        let even : attr / 32 % 2 ≡ 0 = omega arith in
+        let d8 : (attr + 0x20) / 8 ≡ attr / 8 + 4 = omega arith in
+        let d16 : (attr + 0x20) / 16 ≡ attr / 16 + 2 = omega arith in
+        let d64 : (attr + 0x20) / 64 ≡ attr / 64 = omega arith in
+        let d128 : (attr + 0x20) / 128 ≡ attr / 128 = omega arith in
+        let m8 : (attr / 8 + 4) % 2 ≡ attr / 8 % 2 = omega arith in
+        let m16 : (attr / 16 + 2) % 2 ≡ attr / 16 % 2 = omega arith in
+        record {
+          plain = rw (d8, m8) (x .plain);
+          not10 = rw (d16, m16) (x .not10);
+          not40 = rw d64 (x .not40);
+          not80 = rw d128 (x .not80);
+        }
+
+pub archived-byte : (attr : ℕ) → attr < 256 → archived attr < 256
+unfolding archived
+archived-byte attr h = by (hasBit attr 0x20) refl
+  where
+    by : (b : Bool) → hasBit attr 0x20 ≡ b → cond b attr (attr + 0x20) < 256
+    by true e = h
+    by false e = archived-fits attr false (sym e) h refl
+
 -- ---- of a file, whose start and size stay
 
 -- slot s of m has a file of the start and the size that it had in l
 pub record FileStays (k : Kind) (l m : List ℕ) (s : ℕ) : Type 0 where
   pub plain : PlainAt m (slotAt k s)
+  pub start : startOf m (slotAt k s) ≡ startOf l (slotAt k s)
+  pub size : sizeOf m (slotAt k s) ≡ sizeOf l (slotAt k s)
+
+-- slot s of m has the entry that it had in l, but for the attribute and for words that soundness does not ask after
+pub record Marked (k : Kind) (l m : List ℕ) (s attr : ℕ) : Type 0 where
+  pub entry : EntryChanged k l m s
+  pub first : getD m (slotAt k s) 0 ≡ getD l (slotAt k s) 0
+  pub name : nameOf m (slotAt k s) ≡ nameOf l (slotAt k s)
+  pub is : attrOf m (slotAt k s) ≡ attr
   pub start : startOf m (slotAt k s) ≡ startOf l (slotAt k s)
   pub size : sizeOf m (slotAt k s) ≡ sizeOf l (slotAt k s)
 
@@ -102,13 +169,13 @@ module _ (k : Kind) (l : List ℕ) (v : OnVolume l k) (s : ℕ) (i : FileIn l k 
 
   -- ---- what soundness says of the entry before
 
-  usual-before : ¬ StrangeEntry k l s
+  pub usual-before : ¬ StrangeEntry k l s
   usual-before x = on-sound k l v .1 .slots s (i .below, inr (inl x))
 
-  below-before : (t : ℕ) → t < s → ¬ NeverUsedAt l (slotAt k t)
+  pub below-before : (t : ℕ) → t < s → ¬ NeverUsedAt l (slotAt k t)
   below-before t h z = on-sound k l v .1 .slots s (i .below, inl (i .plain .0 .0, (t, h, z)))
 
-  name-before : (t : ℕ) → t < rootEntries k → t ≢ s → PlainAt l (slotAt k t) → nameOf l (slotAt k t) ≢ nameOf l (slotAt k s)
+  pub name-before : (t : ℕ) → t < rootEntries k → t ≢ s → PlainAt l (slotAt k t) → nameOf l (slotAt k t) ≢ nameOf l (slotAt k s)
   name-before t h n p e = elim (decLt t s) [
     | yes q ↦ on-sound k l v .1 .slots s (i .below, inr (inr (inr (i .plain, (t, q, p, e)))))
     | no q ↦ elim (decLt s t) [
@@ -136,7 +203,7 @@ module _ (k : Kind) (l : List ℕ) (v : OnVolume l k) (s : ℕ) (i : FileIn l k 
         (keeps (geometry k u) (valueOf k l) (rootHolders k l) (rootChains k l) (on-theory k l v) a (holderAt (clusterBytes k) m a)
         (subst (λ (h : Holder). Owns (lastCluster k) (valueOf k l) h (rootChains k l a)) (sym same-holder) (on-theory k l v .owns a)))
 
-    -- the name is its own, and nothing in the entry is strange
+    -- where nothing in the entry is strange and no other file has its name
     pub entry-changed : ¬ StrangeEntry k m s
         → ((t : ℕ) → t < rootEntries k → t ≢ s → PlainAt l (slotAt k t) → nameOf l (slotAt k t) ≢ nameOf m a)
         → SlotChanged k l m s (rootChains k l a)
@@ -159,16 +226,17 @@ module _ (k : Kind) (l : List ℕ) (v : OnVolume l k) (s : ℕ) (i : FileIn l k 
       owned : Owns (lastCluster k) (valueOf k l) (fileHolder (clusterBytes k) (startOf l a) (sizeOf l a)) cs
       owned = file-owns (lastCluster k) (clusterBytes k) (geometry k u .wide) (valueOf k l) (startOf l a) (sizeOf l a) cs x
 
+      in-range : (d : ℕ) → d ∈ cs → Link (lastCluster k) d
+      in-range d n = chain-mem (geometry k u) (valueOf k l) (startOf l a) cs (owned .chain) d n .0
+
       room : Room (512 * firstData k) (clusterBytes k) l cs
-      room d m =
-          let h : Link (lastCluster k) d = chain-mem (geometry k u) (valueOf k l) (startOf l a) cs (owned .chain) d m .0 in
-          (h .0, omega (arith, on-clusters l k v .clusters, cluster-high (512 * firstData k) (clusterBytes k) (on-clusters l k v .wide) (geometry k u) d h))
+      room d n = (in-range d n .0, omega (arith, on-clusters l k v .clusters, cluster-high (512 * firstData k) (clusterBytes k) (on-clusters l k v .wide) (geometry k u) d (in-range d n)))
 
       same-content : content (512 * firstData k) (clusterBytes k) m cs (sizeOf m a) ≡ content (512 * firstData k) (clusterBytes k) l cs (sizeOf l a)
       same-content =
           ap (content (512 * firstData k) (clusterBytes k) m cs) (f .size)
           ∙ content-same (512 * firstData k) (clusterBytes k) (geometry k u .wide) l m cs (sizeOf l a) room (c .frame .long)
-          (λ d q n j. c .clusters [] .rest d q (chain-mem (geometry k u) (valueOf k l) (startOf l a) cs (owned .chain) d n .0) (λ e. e) j)
+          (λ d q n j. c .clusters [] .rest d q (in-range d n) (λ e. e) j)
           (file-fits (geometry k u) (valueOf k l) _ cs (startOf l a) (sizeOf l a) refl owned)
 
       chain-stays : ChainOf k m s cs
@@ -235,3 +303,100 @@ module _ (k : Kind) (l : List ℕ) (v : OnVolume l k) (s : ℕ) (i : FileIn l k 
 
     pub rename-bytes : Bytes l → Bytes renamed
     rename-bytes b = bytes-stored l a name b (good .bytes)
+
+  -- ---- file mode and close: the attribute, and words that mean nothing to soundness
+
+  marks-before : FileMarks (attrOf l a)
+  marks-before = record {
+    plain = i .plain .1;
+    not10 = λ e. usual-before (i .plain .0, inr (inl e));
+    not40 = λ e. usual-before (i .plain .0, inr (inr (inl e)));
+    not80 = λ e. usual-before (i .plain .0, inr (inr (inr e)));
+  }
+
+  module _ (m : List ℕ) (attr : ℕ) (x : Marked k l m s attr) (may : FileMarks attr) where
+    marked-stays : FileStays k l m s
+    marked-stays = record {
+      plain = ((λ e. i .plain .0 .0 (sym (x .first) ∙ e), λ e. i .plain .0 .1 (sym (x .first) ∙ e)), rw (x .is) (may .plain));
+      start = x .start;
+      size = x .size;
+    }
+
+    marked-usual : ¬ StrangeEntry k m s
+    marked-usual (live, inl e) = usual-before (i .plain .0, inl (sym (x .first) ∙ e))
+    marked-usual (live, inr (inl e)) = may .not10 (rw (x .is) at e)
+    marked-usual (live, inr (inr (inl e))) = may .not40 (rw (x .is) at e)
+    marked-usual (live, inr (inr (inr e))) = may .not80 (rw (x .is) at e)
+
+    marked-changed : SlotChanged k l m s (rootChains k l a)
+    marked-changed = entry-changed m (x .entry) marked-stays marked-usual (λ t h n p e. name-before t h n p (e ∙ x .name))
+
+    marked-holds : (f : File) → Holds k l s f → Holds k m s (file (f .name) attr (f .bytes))
+    marked-holds f h = entry-holds m (x .entry) marked-stays f h (f .name) attr (x .name ∙ h .name) (x .is)
+
+  -- the attribute stored
+  attr-marked : (attr : ℕ) → Marked k l (withAttr l a attr) s attr
+  attr-marked attr =
+      let r : Untouched (withAttr l a attr) l (a + 11) 1 a = byte-leaves l (a + 11) attr a within in
+      record {
+        entry = entry-stored k u s (i .below) l (a + 11) (attr ∷ []) (omega arith) (omega arith);
+        first = r .first (inl (omega arith));
+        name = r .name (inr (omega arith));
+        is = byte-back l (a + 11) attr (omega (arith, within));
+        start = r .start (inl (omega arith));
+        size = r .size (inl (omega arith));
+      }
+
+  -- and then the time or the date
+  word-marked : (m : List ℕ) (attr : ℕ) → Marked k l m s attr → (o w : ℕ) → 22 ≤ o → o + 2 ≤ 26 → Marked k l (stored m (a + o) (digits w 2)) s attr
+  word-marked m attr x o w low high =
+      let fits : a + 32 ≤ length m = rw (x .entry .frame .long) within in
+      let r : Untouched (stored m (a + o) (digits w 2)) m (a + o) 2 a = word-leaves m (a + o) w a fits in
+      record {
+        entry = entry-then k u s l m _ (x .entry) (entry-stored k u s (i .below) m (a + o) (digits w 2) (omega arith) (omega (arith, length-digits w 2)));
+        first = r .first (inl (omega arith)) ∙ x .first;
+        name = r .name (inr (omega arith)) ∙ x .name;
+        is = r .attr (inl (omega arith)) ∙ x .is;
+        start = r .start (inl (omega arith)) ∙ x .start;
+        size = r .size (inl (omega arith)) ∙ x .size;
+      }
+
+  -- ---- file mode, function 1
+
+  module _ (attr : ℕ) (may : badAttr attr ≡ false) where
+    pub mode-changed : SlotChanged k l (withAttr l a attr) s (rootChains k l a)
+    mode-changed = marked-changed (withAttr l a attr) attr (attr-marked attr) (allowed-marks attr may)
+
+    pub mode-holds : (f : File) → Holds k l s f → Holds k (withAttr l a attr) s (file (f .name) attr (f .bytes))
+    mode-holds = marked-holds (withAttr l a attr) attr (attr-marked attr) (allowed-marks attr may)
+
+    pub mode-bytes : Bytes l → Bytes (withAttr l a attr)
+    mode-bytes b = bytes-stored l (a + 11) (attr ∷ []) b (bytes-one attr (attr-fits attr (badAttr attr) refl may))
+
+  -- ---- close of a file that was written
+
+  module _ (time date : ℕ) where
+    stamp-marked : Marked k l (stamped l a time date) s (archived (attrOf l a))
+    unfolding stamped
+    stamp-marked =
+        let timed = word-marked _ _ (attr-marked (archived (attrOf l a))) 22 time (omega arith) (omega arith) in
+        word-marked _ _ timed 24 date (omega arith) (omega arith)
+
+    stamp-may : FileMarks (archived (attrOf l a))
+    stamp-may = archived-marks (attrOf l a) marks-before
+
+    pub close-changed : SlotChanged k l (stamped l a time date) s (rootChains k l a)
+    close-changed = marked-changed (stamped l a time date) _ stamp-marked stamp-may
+
+    pub close-holds : (f : File) → Holds k l s f → Holds k (stamped l a time date) s (file (f .name) (archived (f .attr)) (f .bytes))
+    close-holds f h =
+        subst (λ (x : ℕ). Holds k (stamped l a time date) s (file (f .name) (archived x) (f .bytes))) (h .attr)
+        (marked-holds (stamped l a time date) _ stamp-marked stamp-may f h)
+
+    pub close-bytes : Bytes l → Bytes (stamped l a time date)
+    unfolding stamped
+    close-bytes b =
+        bytes-stored _ (a + 24) (digits date 2)
+        (bytes-stored _ (a + 22) (digits time 2)
+        (bytes-stored l (a + 11) _ b (bytes-one (archived (attrOf l a)) (archived-byte (attrOf l a) (b (a + 11)))))
+        (bytes-digits time 2)) (bytes-digits date 2)
