@@ -7,3 +7,4 @@ pub mod Looks
 pub mod Runs
 pub mod Refused
 pub mod Shown
+pub mod Marks
