@@ -3,3 +3,7 @@ pub mod Changed
 pub mod Frames
 pub mod Given
 pub mod Root
+pub mod Slots
+pub mod Emptied
+pub mod Ended
+pub mod Made
