@@ -11,6 +11,8 @@ pub mod Made
 pub mod Rows
 pub mod Came
 pub mod Looks
+pub mod Well
+pub mod CameMarks
 pub mod Runs
 pub mod Refused
 pub mod Shown
