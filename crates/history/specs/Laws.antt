@@ -1,3 +1,6 @@
 -- The laws of the definitions beside this folder.
 pub mod Changed
 pub mod Frames
+pub mod Root
+pub mod SameSlot
+pub mod Lengthened
