@@ -4,3 +4,4 @@ pub mod Frames
 pub mod Root
 pub mod SameSlot
 pub mod Lengthened
+pub mod Wrote

@@ -1,7 +1,7 @@
 -- A file made longer: its entry then, the table, and what stays.
 use Prim.Native.Nat.{ℕ, _+_, _*_, _/_, _≤_, _<_}
 use native.Mathlib.Omega.{arith}
-use mathlib.Core.List.{List}
+use mathlib.Core.List.{List, []}
 use mathlib.Core.Logic.{_⊎_, inl, inr}
 use mathlib.Core.Path.{_≡_, refl, ap, _∙_}
 use lib.ListN.{length, getD}
@@ -9,12 +9,15 @@ use Rattle.image.specs.Bytes.{Bytes}
 use Rattle.image.specs.Numbers.{digits}
 use Rattle.image.specs.Laws.Numbers.{length-digits, bytes-digits}
 use Rattle.image.specs.Laws.Store.{length-stored, bytes-stored}
-use Rattle.chains.specs.Content.{Touches}
+use Rattle.chains.specs.Content.{Touches, content}
 use Rattle.chains.specs.Free.{Takable}
 use Rattle.chains.specs.Growth.{longerTable}
+use Rattle.chains.specs.Lists.{_∈_}
 use Rattle.chains.specs.Lists as lists
 use Rattle.chains.specs.Values.{Link}
-use Rattle.chains.specs.Laws.Touched.{touched-twice}
+use Rattle.chains.specs.Laws.Chain.{chain-mem}
+use Rattle.chains.specs.Laws.Content.{cluster-high}
+use Rattle.chains.specs.Laws.Touched.{content-same, touched-twice}
 use Rattle.diskette.specs.Kinds.{Usable}
 use Rattle.diskette.specs.Places.{firstData, clusterBytes, copyTwo, lastCluster, rootEntries, slotAt}
 use Rattle.diskette.specs.declared.Kind.{Kind}
@@ -27,10 +30,11 @@ use Rattle.links.specs.Laws.Leaves.{leaves-linked}
 use Rattle.links.specs.Laws.Linked.{end-behind, table-linked}
 use Rattle.links.specs.Laws.New.{new-takable}
 use Rattle.sound.specs.Files.{valueOf}
+use Rattle.sound.specs.Laws.Geometry.{geometry}
 use Rattle.calls.specs.Laws.Ready.{on-usable}
 use Rattle.holding.specs.Holding.{fileChain}
-use Rattle.holding.specs.Laws.Clusters.{copies-reach}
-use Rattle.holding.specs.Laws.Chain.{file-chain, file-within}
+use Rattle.holding.specs.Laws.Clusters.{on-clusters, copies-reach}
+use Rattle.holding.specs.Laws.Chain.{file-chain, file-holds, file-within}
 use Rattle.writing.specs.Longer.{newFor, chainAfter, withClusters, lengthened, CanGrow}
 use Rattle.writing.specs.Laws.Longer.{linked-length, start-small}
 use Rattle.writing.specs.Laws.Room.{room-fits}
@@ -144,3 +148,14 @@ module _ (k : Kind) (l : List ℕ) (s size : ℕ) (g : CanGrow k l s size) where
   pub longer-size : sizeOf (lengthened k l s size) a ≡ size
   unfolding lengthened
   longer-size = long-back two (a + 28) size (omega (arith, g .room, room-fits l k (g .on) s (g .file))) (omega (arith, in-two))
+
+  -- ---- its bytes
+
+  pub longer-content : content (512 * firstData k) (clusterBytes k) (lengthened k l s size) (fileChain k l s) (sizeOf l a) ≡ content (512 * firstData k) (clusterBytes k) l (fileChain k l s) (sizeOf l a)
+  longer-content =
+      let v = g .on in
+      let area = on-clusters l k v in
+      let in-range : (c : ℕ) → c ∈ fileChain k l s → Link (lastCluster k) c = λ c m. chain-mem (geometry k u) (valueOf k l) (startOf l a) (fileChain k l s) (file-chain l k v s (g .file)) c m .0 in
+      content-same (512 * firstData k) (clusterBytes k) (area .wide) l (lengthened k l s size) (fileChain k l s) (sizeOf l a)
+      (λ c m. (in-range c m .0, omega (arith, area .clusters, cluster-high (512 * firstData k) (clusterBytes k) (area .wide) (geometry k u) c (in-range c m))))
+      (longer-frame .long) (λ c q m h. longer-touches [] .rest c q (in-range c m) (λ x. x) h) (file-holds l k v s (g .file))
