@@ -4,4 +4,6 @@ pub mod Frames
 pub mod Root
 pub mod SameSlot
 pub mod Lengthened
+pub mod Count
+pub mod Put
 pub mod Wrote
