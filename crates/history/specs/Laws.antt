@@ -4,10 +4,15 @@ pub mod Frames
 pub mod Given
 pub mod Root
 pub mod Slots
+pub mod SameSlot
 pub mod Emptied
 pub mod Marks
 pub mod Ended
 pub mod Made
+pub mod Count
+pub mod Lengthened
+pub mod Put
+pub mod Wrote
 pub mod Rows
 pub mod Came
 pub mod Looks
