@@ -18,6 +18,8 @@ pub mod Came
 pub mod Looks
 pub mod Well
 pub mod CameMarks
+pub mod CameFiles
 pub mod Runs
 pub mod Refused
 pub mod Shown
+pub mod Promises
