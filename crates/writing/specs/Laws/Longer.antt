@@ -24,7 +24,7 @@ use Rattle.directory.specs.Fields.{startOf, sizeOf, withStart}
 use Rattle.table.specs.Entries.{wordAt, tableOf}
 use Rattle.table.specs.Laws.View.{table-beside}
 use Rattle.links.specs.Linked.{endOf, linked, newClusters}
-use Rattle.links.specs.Leaves.{Holds}
+use Rattle.links.specs.Leaves.{Holds, Leaves}
 use Rattle.links.specs.Laws.Leaves.{leaves-linked}
 use Rattle.links.specs.Laws.Linked.{end-behind, table-linked}
 use Rattle.links.specs.Laws.New.{new-takable, new-length}
@@ -86,8 +86,11 @@ module _ (k : Kind) (img : List ℕ) (slot size : ℕ) (g : CanGrow k img slot s
     | inr p ↦ inr (p .0)
   ]
 
+  pub linked-leaves : Leaves (copyTwo k) (lastCluster k) img (withClusters k img slot size)
+  linked-leaves = leaves-linked (copyTwo k) (lastCluster k) (newFor k img slot size) img (endOf own) (holds .reaches) behind (takable .range)
+
   pub linked-length : length (withClusters k img slot size) ≡ length img
-  linked-length = leaves-linked (copyTwo k) (lastCluster k) (newFor k img slot size) img (endOf own) (holds .reaches) behind (takable .range) .long
+  linked-length = linked-leaves .long
 
   pub longer-length : length (lengthened k img slot size) ≡ length img
   unfolding lengthened
@@ -97,7 +100,7 @@ module _ (k : Kind) (img : List ℕ) (slot size : ℕ) (g : CanGrow k img slot s
   longer-area = rw longer-length (on-clusters img k v)
 
   -- the entry stands behind the tables
-  longer-table : (c : ℕ) → tableOf (lastCluster k) (lengthened k img slot size) c ≡ extended (valueOf k img) own (newFor k img slot size) c
+  pub longer-table : (c : ℕ) → tableOf (lastCluster k) (lengthened k img slot size) c ≡ extended (valueOf k img) own (newFor k img slot size) c
   unfolding lengthened
   longer-table c =
       let far : wordAt 512 (lastCluster k) + 2 ≤ slotAt k slot = omega (arith, on-usable img k v .reaches) in

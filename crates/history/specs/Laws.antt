@@ -1,0 +1,25 @@
+-- The laws of the definitions beside this folder.
+pub mod Changed
+pub mod Frames
+pub mod Given
+pub mod Root
+pub mod Slots
+pub mod SameSlot
+pub mod Emptied
+pub mod Marks
+pub mod Ended
+pub mod Made
+pub mod Count
+pub mod Lengthened
+pub mod Put
+pub mod Wrote
+pub mod Rows
+pub mod Came
+pub mod Looks
+pub mod Well
+pub mod CameMarks
+pub mod CameFiles
+pub mod Runs
+pub mod Refused
+pub mod Shown
+pub mod Promises

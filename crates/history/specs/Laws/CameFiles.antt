@@ -1,0 +1,206 @@
+-- What delete, create and write come to.
+use Prim.Native.Nat.{ℕ, _≤_, _<_}
+use native.Mathlib.Omega.{arith}
+use native.Mathlib.Decide.{ℕ-discrete}
+use mathlib.Core.Bool.{Bool, true, false, cond}
+use mathlib.Core.List.{List, []}
+use mathlib.Core.Logic.{inl, inr, _≢_}
+use mathlib.Core.Option.{none, some}
+use mathlib.Core.Path.{_≡_, refl, sym, ap, _∙_, subst}
+use lib.Dec.{eqb}
+use lib.ListN.{length, take}
+use borrow.Author.Tests.{eq-eqb, ne-eqb}
+use Rattle.image.specs.Bytes.{Bytes}
+use Rattle.chains.specs.Put.{put}
+use Rattle.diskette.specs.Places.{rootAt, rootEntries, slotAt}
+use Rattle.diskette.specs.declared.Kind.{Kind}
+use Rattle.search.specs.Search.{Answers}
+use Rattle.search.specs.declared.Found.{Found}
+use Rattle.search.specs.declared.Found.the-variants.{At, Nothing}
+use Rattle.directory.specs.Fields.{withEntry}
+use Rattle.directory.specs.Search.{lowestOpenSlot}
+use Rattle.names.specs.Reading.{nameOf}
+use Rattle.stamps.specs.Stamps.{packed}
+use Rattle.stamps.specs.declared.Stamp.{Stamp}
+use Rattle.stamps.specs.declared.Packed.{Packed}
+use Rattle.stamps.specs.declared.Packed.the-variants.{Words, OutOfRange}
+use Rattle.opened.specs.Places.{lowestUnused}
+use Rattle.opened.specs.Records.{placeCount, usedOf, slotOf, pointerOf, withRecord}
+use Rattle.opened.specs.Laws.Places.{unused-answers}
+use Rattle.opened.specs.Laws.Stores.{record-holds}
+use Rattle.calls.specs.Outcome.{Outcome, refusal}
+use Rattle.calls.specs.Refusals.{isNothing, placeFound, noFile, fileSlot, slotForNew, noPlace, freePlace, isOut, theKind}
+use Rattle.calls.specs.Laws.Ready.{on-kind, on-usable}
+use Rattle.holding.specs.Holding.{FileIn}
+use Rattle.holding.specs.Laws.Chain.{slot-fits}
+use Rattle.filing.specs.Create.{made, madeBy, createRows, createEffect, createOutcome}
+use Rattle.filing.specs.Delete.{erasedIn, deleteRows, deleteEffect, deleteOutcome}
+use Rattle.filing.specs.Freed.{chainFreed}
+use Rattle.filing.specs.Laws.Create.{open-below}
+use Rattle.writing.specs.Write.{writeCount, writtenIn, writeRows, writeEffect, writeOutcome, writeAt}
+use Rattle.history.specs.Came.{Came, stays}
+use Rattle.history.specs.Changed.{SlotChanged}
+use Rattle.history.specs.Files.{file, Holds}
+use Rattle.history.specs.History as history
+use Rattle.history.specs.Promises.{Begins}
+use Rattle.history.specs.World.{World, outcomeOf, step, create, delete, write}
+use Rattle.history.specs.Laws.Count.{taken-fits, bytes-take}
+use Rattle.history.specs.Laws.Ended.{delete-changed, delete-ends, delete-bytes}
+use Rattle.history.specs.Laws.Looks.{came-refused, after-well}
+use Rattle.history.specs.Laws.Made.{empty-changed, empty-holds, empty-bytes, new-changed, new-holds, new-bytes}
+use Rattle.history.specs.Laws.Rows.{decided-cases, passed}
+use Rattle.history.specs.Laws.Well.{good-name, file-found, file-there, no-file-found, live-there, came-put, came-at}
+use Rattle.history.specs.Laws.Wrote.{wrote-changed, wrote-holds, wrote-bytes}
+
+module _ (k : Kind) (w : World) (b : Begins k w) where
+  abbrev l : List ℕ
+  l = w .image
+
+  abbrev t : List ℕ
+  t = w .table
+
+  -- ---- delete
+
+  pub came-delete : (s : List ℕ) → Came k w (delete s)
+  unfolding deleteOutcome
+  came-delete s = elim (decided-cases (deleteRows l t s) (deleteEffect l t s) l t []) [
+    | inl x ↦ came-refused k w (delete s) (λ z. x .0 (sym (ap (λ (o : Outcome). o .number) (x .1)) ∙ z)) (ap (λ (o : Outcome). o .image) (x .1))
+    | inr x ↦ well (x .0) (x .1)
+  ]
+    where
+      well : refusal (deleteRows l t s) ≡ 0 → outcomeOf (delete s) w ≡ deleteEffect l t s → Came k w (delete s)
+      well rows e =
+          let r1 = passed _ 40 _ (omega arith) rows in
+          let r2 = passed _ 41 _ (omega arith) (r1 .1) in
+          let r3 = passed _ 42 _ (omega arith) (r2 .1) in
+          let r4 = passed _ 2 _ (omega arith) (r3 .1) in
+          let i = file-there k l (b .on) s (r4 .0) in
+          let m : step w (delete s) .image ≡ erasedIn k l (fileSlot l s) = ap (λ (o : Outcome). o .image) e ∙ rw (on-kind l k (b .on)) in
+          came-put k w (delete s) (fileSlot l s) _ _ (ap (λ (o : Outcome). o .number) e) m refl
+          (delete-changed k l (b .on) (b .bytes) (fileSlot l s) i)
+          (delete-bytes k l (b .on) (b .bytes) (fileSlot l s) i)
+          (λ fs. none) (λ fs. refl)
+          (λ fs y. delete-ends k l (b .on) (b .bytes) (fileSlot l s) i)
+
+  -- ---- write
+
+  pub came-write : (h : ℕ) (bs : List ℕ) → Bytes bs → Came k w (write h bs)
+  unfolding writeOutcome writeAt
+  came-write h bs given = elim (decided-cases (writeRows l t h) (writeEffect l t h bs) l t []) [
+    | inl x ↦ came-refused k w (write h bs) (λ z. x .0 (sym (ap (λ (o : Outcome). o .number) (x .1)) ∙ z)) (ap (λ (o : Outcome). o .image) (x .1))
+    | inr x ↦ by (x .0) (x .1)
+  ]
+    where
+      by : refusal (writeRows l t h) ≡ 0 → outcomeOf (write h bs) w ≡ writeEffect l t h bs → Came k w (write h bs)
+      by rows e =
+          let r1 = passed _ 40 _ (omega arith) rows in
+          let r2 = passed _ 41 _ (omega arith) (r1 .1) in
+          let r3 = passed _ 6 _ (omega arith) (r2 .1) in
+          let i = live-there k l (b .on) t h (r3 .0) in
+          let s = slotOf t h in
+          let pointer = pointerOf t h in
+          let n = writeCount k l s pointer (length bs) in
+          let kind = on-kind l k (b .on) in
+          elim (ℕ-discrete n 0) [
+            | yes z ↦
+                let q = eq-eqb n 0 z in
+                let number : outcomeOf (write h bs) w .number ≡ 0 = ap (λ (o : Outcome). o .number) e ∙ rw (kind, q) in
+                let value : outcomeOf (write h bs) w .value ≡ 0 = ap (λ (o : Outcome). o .value) e ∙ rw (kind, q) in
+                stays (ap (λ (o : Outcome). o .image) e ∙ rw (kind, q)) (λ fs. after-well k w (write h bs) number fs ∙ rw (eq-eqb (outcomeOf (write h bs) w .value) 0 value))
+            | no d ↦
+                let q = ne-eqb n 0 d in
+                let number : outcomeOf (write h bs) w .number ≡ 0 = ap (λ (o : Outcome). o .number) e ∙ rw (kind, q) in
+                let value : outcomeOf (write h bs) w .value ≡ n = ap (λ (o : Outcome). o .value) e ∙ rw (kind, q) in
+                let m : step w (write h bs) .image ≡ writtenIn k l s pointer (take n bs) = ap (λ (o : Outcome). o .image) e ∙ rw (kind, q) in
+                let p = taken-fits k l s pointer bs (b .on) i (b .bytes) d in
+                came-at k w (write h bs) s _ _ number m refl
+                (wrote-changed k l s pointer (take n bs) p)
+                (wrote-bytes k l s pointer (take n bs) p (bytes-take n bs given))
+                i (history.withBytes pointer (take n bs)) (λ fs. rw (value, q))
+                (wrote-holds k l s pointer (take n bs) p)
+          ]
+
+  -- ---- create
+
+  found-at : (f : Found) → isNothing f ≡ false → f ≡ At (placeFound f)
+  found-at (At i) e = refl
+  found-at Nothing e = absurd (let z : _≡_ {A = ℕ} 0 1 = cc in omega arith)
+
+  -- the place that is taken, and that it names the slot then
+  place-counted : noPlace t ≡ false → freePlace t < placeCount t
+  place-counted e = subst (Answers (λ (p : ℕ). usedOf t p ≡ false) (placeCount t)) (found-at (lowestUnused t) e) (unused-answers t) .below
+
+  place-names : noPlace t ≡ false → (slot : ℕ) → slot < rootEntries k → slotOf (withRecord t (freePlace t) 2 slot 0 false) (freePlace t) ≡ slot
+  place-names e slot h =
+      let r : k .root ≤ 4096 = on-usable l k (b .on) .few-slots in
+      record-holds t (freePlace t) (place-counted e) 2 slot 0 false (omega arith) (omega arith) .slot
+
+  module _ (s : List ℕ) (attr : ℕ) (stamp : Stamp) where
+    abbrev name : List ℕ
+    name = nameOf s .name
+
+    -- a file was made in the slot of n, which is the image, with the clusters of the old file freed if there was one
+    made-in : (n : List ℕ) (slot time date : ℕ) → slot < rootEntries k → noPlace t ≡ false → outcomeOf (create s attr stamp) w ≡ made n t k slot name attr time date
+        → SlotChanged k l (withEntry n (slotAt k slot) name attr time date 0 0) slot [] → Bytes (withEntry n (slotAt k slot) name attr time date 0 0)
+        → Holds k (withEntry n (slotAt k slot) name attr time date 0 0) slot (file name attr []) → Came k w (create s attr stamp)
+    made-in n slot time date h place e changed bytes holds =
+        let names : slot ≡ slotOf (outcomeOf (create s attr stamp) w .table) (outcomeOf (create s attr stamp) w .value)
+        = sym (ap (λ (o : Outcome). slotOf (o .table) (o .value)) e ∙ place-names place slot h) in
+        came-put k w (create s attr stamp) slot [] _ (ap (λ (o : Outcome). o .number) e) (ap (λ (o : Outcome). o .image) e) names changed bytes
+        (λ fs. some (file name attr [])) (λ fs. ap (λ (i : ℕ). put fs i (some (file name attr []))) (sym names)) (λ fs y. holds)
+
+    well : (missing : Bool) → noFile l s ≡ missing → (p : Packed) → packed stamp ≡ p → refusal (createRows l t s attr stamp) ≡ 0 → outcomeOf (create s attr stamp) w ≡ createEffect l t s attr stamp
+        → Came k w (create s attr stamp)
+    unfolding slotForNew
+    well missing q OutOfRange pe rows e =
+        let r1 = passed _ 40 _ (omega arith) rows in
+        let r2 = passed _ 41 _ (omega arith) (r1 .1) in
+        let r3 = passed _ 42 _ (omega arith) (r2 .1) in
+        let r4 = passed _ 43 _ (omega arith) (r3 .1) in
+        absurd (let y : isOut OutOfRange ≡ false = rw pe at (r4 .0) in let z : _≡_ {A = ℕ} 0 1 = cc in omega arith)
+    well true q (Words time date) pe rows e =
+        let r1 = passed _ 40 _ (omega arith) rows in
+        let r2 = passed _ 41 _ (omega arith) (r1 .1) in
+        let r3 = passed _ 42 _ (omega arith) (r2 .1) in
+        let r4 = passed _ 43 _ (omega arith) (r3 .1) in
+        let r5 = passed _ 5 _ (omega arith) (r4 .1) in
+        let r6 = passed _ 5 _ (omega arith) (r5 .1) in
+        let r7 = passed _ 5 _ (omega arith) (r6 .1) in
+        let r8 = passed _ 5 _ (omega arith) (r7 .1) in
+        let r9 = passed _ 4 _ (omega arith) (r8 .1) in
+        let fits = good-name s (r3 .0) in
+        let kind = on-kind l k (b .on) in
+        let slot = placeFound (lowestOpenSlot l (rootAt k) (rootEntries k)) in
+        let lowest : lowestOpenSlot l (rootAt k) (rootEntries k) ≡ At slot = found-at (lowestOpenSlot l (rootAt k) (rootEntries k)) (rw (q, kind) at (r8 .0)) in
+        let none-named = no-file-found k l (b .on) s q in
+        let made-there : outcomeOf (create s attr stamp) w ≡ made l t k slot name attr time date = e ∙ rw (q, pe, kind) in
+        made-in l slot time date (open-below l k (lowestOpenSlot l (rootAt k) (rootEntries k)) refl slot lowest) (r9 .0) made-there
+        (new-changed k l (b .on) (b .bytes) s fits attr (r5 .0) time date slot none-named lowest)
+        (new-bytes k l (b .on) (b .bytes) s fits attr (r5 .0) time date slot none-named lowest)
+        (new-holds k l (b .on) (b .bytes) s fits attr (r5 .0) time date slot none-named lowest)
+    well false q (Words time date) pe rows e =
+        let r1 = passed _ 40 _ (omega arith) rows in
+        let r2 = passed _ 41 _ (omega arith) (r1 .1) in
+        let r3 = passed _ 42 _ (omega arith) (r2 .1) in
+        let r4 = passed _ 43 _ (omega arith) (r3 .1) in
+        let r5 = passed _ 5 _ (omega arith) (r4 .1) in
+        let r6 = passed _ 5 _ (omega arith) (r5 .1) in
+        let r7 = passed _ 5 _ (omega arith) (r6 .1) in
+        let r8 = passed _ 5 _ (omega arith) (r7 .1) in
+        let r9 = passed _ 4 _ (omega arith) (r8 .1) in
+        let fits = good-name s (r3 .0) in
+        let kind = on-kind l k (b .on) in
+        let slot = fileSlot l s in
+        let found = file-found k l (b .on) s q in
+        let made-there : outcomeOf (create s attr stamp) w ≡ made (chainFreed k l slot) t k slot name attr time date = e ∙ rw (q, pe, kind) in
+        made-in (chainFreed k l slot) slot time date (file-there k l (b .on) s q .below) (r9 .0) made-there
+        (empty-changed k l (b .on) (b .bytes) s fits attr (r5 .0) time date slot found)
+        (empty-bytes k l (b .on) (b .bytes) s fits attr (r5 .0) time date slot found)
+        (empty-holds k l (b .on) (b .bytes) s fits attr (r5 .0) time date slot found)
+
+    pub came-create : Came k w (create s attr stamp)
+    unfolding createOutcome
+    came-create = elim (decided-cases (createRows l t s attr stamp) (createEffect l t s attr stamp) l t []) [
+      | inl x ↦ came-refused k w (create s attr stamp) (λ z. x .0 (sym (ap (λ (o : Outcome). o .number) (x .1)) ∙ z)) (ap (λ (o : Outcome). o .image) (x .1))
+      | inr x ↦ well (noFile l s) refl (packed stamp) refl (x .0) (x .1)
+    ]

@@ -1,0 +1,205 @@
+-- Write: one slot changes, and its file has the bytes put at the pointer, zeros before them where that was past the size.
+use Prim.Native.Nat.{ℕ, _+_, _*_, _≤_}
+use native.Mathlib.Omega.{arith}
+use mathlib.Core.List.{List}
+use mathlib.Core.Path.{_≡_, refl, sym, ap, ap₂, _∙_, subst}
+use lib.ListN.{length, getD}
+use Rattle.image.specs.Bytes.{Bytes}
+use Rattle.chains.specs.Content.{Touches, clusterAt, content}
+use Rattle.chains.specs.Growth.{longerChain, longerTable}
+use Rattle.chains.specs.Holders.{Holder, Owns, fileHolder}
+use Rattle.chains.specs.Lists as lists
+use Rattle.chains.specs.Replace.{Replaced}
+use Rattle.chains.specs.Values.{Link}
+use Rattle.chains.specs.Write.{roomFor, written, writtenImage}
+use Rattle.chains.specs.Laws.Clusters.{owns-file}
+use Rattle.chains.specs.Laws.Content.{cluster-high}
+use Rattle.chains.specs.Laws.Free.{free-length}
+use Rattle.chains.specs.Laws.Touched.{touched-twice}
+use Rattle.chains.specs.Laws.Write.{write-bytes, write-replaces, write-touches}
+use Rattle.contents.specs.Contents.{Area}
+use Rattle.diskette.specs.Kinds.{Usable}
+use Rattle.diskette.specs.Places.{firstData, clusterBytes, lastCluster, slotAt}
+use Rattle.diskette.specs.declared.Kind.{Kind}
+use Rattle.directory.specs.Entries.{SameFields}
+use Rattle.directory.specs.Fields.{nameOf, attrOf, startOf, sizeOf}
+use Rattle.directory.specs.Slots.{PlainAt}
+use Rattle.links.specs.Linked.{newClusters}
+use Rattle.sound.specs.Files.{valueOf, ChainOf}
+use Rattle.sound.specs.Holders.{rootHolders, rootChains}
+use Rattle.sound.specs.Judged.{holderAt}
+use Rattle.sound.specs.Laws.Geometry.{geometry}
+use Rattle.sound.specs.Laws.Holders.{plain-holder}
+use Rattle.sound.specs.Laws.Sound.{chain-only}
+use Rattle.calls.specs.Ready.{OnVolume}
+use Rattle.calls.specs.Laws.Ready.{on-usable}
+use Rattle.holding.specs.Holding.{fileChain, FileIn}
+use Rattle.holding.specs.Laws.Clusters.{on-clusters}
+use Rattle.holding.specs.Laws.Chain.{file-owned, file-within}
+use Rattle.writing.specs.Longer.{roomOf, chainAfter, lengthened, CanGrow}
+use Rattle.writing.specs.Put.{CanPut}
+use Rattle.writing.specs.Write.{sizeAfter, writtenIn}
+use Rattle.writing.specs.Laws.Longer.{longer-length, longer-table}
+use Rattle.writing.specs.Laws.Put.{can-grow}
+use Rattle.history.specs.Files.{File, file, Holds}
+use Rattle.history.specs.Changed.{Framed, SlotChanged}
+use Rattle.history.specs.Laws.Changed.{on-theory}
+use Rattle.history.specs.Laws.Frames.{frame-then}
+use Rattle.history.specs.Laws.Lengthened.{longer-attr, longer-bytes, longer-content, longer-first, longer-frame, longer-name, longer-size, longer-start, longer-touches}
+use Rattle.history.specs.Laws.Put.{put-before, put-bytes, put-entry, put-frame, put-table}
+use Rattle.history.specs.Laws.Root.{root-file, root-file-holder}
+use Rattle.history.specs.Laws.SameSlot.{same-good, same-plain}
+
+-- the bytes bs are put into the file in slot s
+module _ (k : Kind) (l : List ℕ) (s pointer : ℕ) (bs : List ℕ) (p : CanPut k l s pointer (length bs)) where
+  v : OnVolume l k
+  v = p .on
+
+  i : FileIn l k s
+  i = p .file
+
+  u : Usable k
+  u = on-usable l k v
+
+  abbrev base : ℕ
+  base = 512 * firstData k
+
+  abbrev cb : ℕ
+  cb = clusterBytes k
+
+  abbrev last : ℕ
+  last = lastCluster k
+
+  area : Area base cb last (length l)
+  area = on-clusters l k v
+
+  abbrev a : ℕ
+  a = slotAt k s
+
+  -- its size before and after, and its clusters
+  abbrev size : ℕ
+  size = sizeOf l a
+
+  abbrev more : ℕ
+  more = sizeAfter k l s pointer (length bs)
+
+  abbrev own : List ℕ
+  own = rootChains k l a
+
+  abbrev ds : List ℕ
+  ds = chainAfter k l s more
+
+  -- the image with the file made longer, and then with the bytes
+  abbrev long : List ℕ
+  long = lengthened k l s more
+
+  abbrev m : List ℕ
+  m = writtenIn k l s pointer bs
+
+  grow : CanGrow k l s more
+  grow = can-grow k l s pointer (length bs) p a size more refl refl refl
+
+  own-is : own ≡ fileChain k l s
+  own-is = root-file k l v s i
+
+  wrote-table : (c : ℕ) → valueOf k m c ≡ longerTable last cb (valueOf k l) own more c
+  unfolding writtenIn longerTable newClusters
+  wrote-table c = put-table k u long ds size pointer bs c ∙ longer-table k l s more grow c ∙ ap (λ (cs : List ℕ). longerTable last cb (valueOf k l) cs more c) (sym own-is)
+
+  wrote-frame : Framed k l m s
+  unfolding writtenIn
+  wrote-frame = frame-then k u s l long m (longer-frame k l s more grow) (put-frame k u long ds size pointer bs s)
+
+  pub wrote-bytes : Bytes bs → Bytes m
+  unfolding writtenIn
+  wrote-bytes b = put-bytes k u long ds size pointer bs (longer-bytes k l s more grow) b
+
+  -- ---- the entry
+
+  entry : SameFields m a long a
+  unfolding writtenIn
+  entry = put-entry k u long ds size pointer bs s (i .below) (rw (longer-length k l s more grow) (file-within l k v s i a refl))
+
+  wrote-first : getD m a 0 ≡ getD l a 0
+  unfolding writtenIn
+  wrote-first = put-before k u long ds size pointer bs a (omega (arith, i .below)) ∙ longer-first k l s more grow
+
+  wrote-name : nameOf m a ≡ nameOf l a
+  wrote-name = entry .name ∙ longer-name k l s more grow
+
+  wrote-attr : attrOf m a ≡ attrOf l a
+  wrote-attr = entry .attr ∙ longer-attr k l s more grow
+
+  wrote-start : startOf m a ≡ lists.startOf ds
+  wrote-start = entry .start ∙ longer-start k l s more grow
+
+  wrote-size : sizeOf m a ≡ more
+  wrote-size = entry .size ∙ longer-size k l s more grow
+
+  wrote-plain : PlainAt m a
+  wrote-plain = same-plain k l m s v i wrote-first wrote-name wrote-attr
+
+  wrote-holder : holderAt cb m a ≡ fileHolder cb (lists.startOf ds) more
+  wrote-holder = plain-holder cb m a wrote-plain ∙ ap₂ (fileHolder cb) wrote-start wrote-size
+
+  -- ---- by the theory of chains
+
+  fit : more ≤ roomFor last cb (valueOf k l) own
+  unfolding roomFor roomOf
+  fit = rw (own-is, free-length (geometry k u) (valueOf k l)) (grow .room)
+
+  chain-is : longerChain last cb (valueOf k l) own more ≡ ds
+  unfolding longerChain newClusters
+  chain-is = rw own-is
+
+  whole : (c : ℕ) → Link last c → clusterAt base cb c + cb ≤ length long
+  whole c h = omega (arith, longer-length k l s more grow, area .clusters, cluster-high base cb (area .wide) (geometry k u) c h)
+
+  wrote-chain : Replaced last (valueOf k l) (valueOf k m) (holderAt cb m a) own ds
+  wrote-chain =
+      subst (λ (h : Holder). Replaced last (valueOf k l) (valueOf k m) h own ds) (sym wrote-holder)
+      (subst (λ (g : ℕ → ℕ). Replaced last (valueOf k l) g (fileHolder cb (lists.startOf ds) more) own ds) (λ j c. sym (wrote-table c) j)
+      (subst (λ (cs : List ℕ). Replaced last (valueOf k l) (longerTable last cb (valueOf k l) own more) (fileHolder cb (lists.startOf cs) more) own cs) chain-is
+      (write-replaces (geometry k u) base (valueOf k l) (rootHolders k l) (rootChains k l) (on-theory k l v) long whole a (startOf l a) size (root-file-holder k l v s i) pointer bs fit)))
+
+  put-touches : Touches last base cb long m ds
+  unfolding writtenIn
+  put-touches =
+      subst (λ (cs : List ℕ). Touches last base cb long (writtenImage base cb long cs size pointer bs) cs) chain-is
+      (write-touches (geometry k u) base (valueOf k l) (rootHolders k l) (rootChains k l) (on-theory k l v) long whole a (startOf l a) size (root-file-holder k l v s i) pointer bs fit)
+
+  pub wrote-changed : SlotChanged k l m s ds
+  wrote-changed = record {
+    slot = i .below;
+    frame = wrote-frame;
+    chain = wrote-chain;
+    clusters = touched-twice last base cb l long m ds (longer-touches k l s more grow ds) put-touches;
+    good = same-good k l m s v i wrote-first wrote-name wrote-attr;
+  }
+
+  -- ---- what the file holds then
+
+  chain-after : ChainOf k m s ds
+  chain-after = owns-file last cb (area .wide) (valueOf k m) (startOf m a) (sizeOf m a) ds (subst (λ (h : Holder). Owns last (valueOf k m) h ds) (plain-holder cb m a wrote-plain) (wrote-chain .owns))
+
+  wrote-content : content base cb m ds more ≡ written (content base cb l (fileChain k l s) size) pointer bs
+  unfolding writtenIn
+  wrote-content =
+      ap (λ (cs : List ℕ). content base cb (writtenImage base cb long cs size pointer bs) cs more) (sym chain-is)
+      ∙ write-bytes (geometry k u) base (valueOf k l) (rootHolders k l) (rootChains k l) (on-theory k l v) long whole a (startOf l a) size (root-file-holder k l v s i) pointer bs fit
+      ∙ ap (λ (cs : List ℕ). written (content base cb long cs size) pointer bs) own-is
+      ∙ ap (λ (xs : List ℕ). written xs pointer bs) (longer-content k l s more grow)
+
+  module _ (f : File) (x : Holds k l s f) where
+    held : content base cb l (fileChain k l s) size ≡ f .bytes
+    held =
+        let chain : ChainOf k l s (fileChain k l s) = owns-file last cb (area .wide) (valueOf k l) (startOf l a) size (fileChain k l s) (file-owned l k v s i) in
+        ap (λ (cs : List ℕ). content base cb l cs size) (chain-only k u l s (fileChain k l s) (x .bytes .0) chain (x .bytes .1)) ∙ x .bytes .2
+
+    pub wrote-holds : Holds k m s (file (f .name) (f .attr) (written (f .bytes) pointer bs))
+    wrote-holds = record {
+      is-file = (i .below, wrote-plain);
+      name = wrote-name ∙ x .name;
+      attr = wrote-attr ∙ x .attr;
+      bytes = (ds, chain-after, ap (content base cb m ds) wrote-size ∙ wrote-content ∙ ap (λ (xs : List ℕ). written xs pointer bs) held);
+    }
