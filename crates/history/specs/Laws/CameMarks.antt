@@ -16,7 +16,7 @@ use Rattle.stamps.specs.declared.Packed.{Packed}
 use Rattle.stamps.specs.declared.Packed.the-variants.{Words, OutOfRange}
 use Rattle.opened.specs.Records.{slotOf, writtenOf}
 use Rattle.calls.specs.Outcome.{Outcome, refusal}
-use Rattle.calls.specs.Refusals.{noFile, fileSlot, entryAt, badAttr, isOut}
+use Rattle.calls.specs.Refusals.{noFile, fileSlot, badAttr, isOut}
 use Rattle.calls.specs.Laws.Ready.{on-kind}
 use Rattle.opening.specs.Close.{stamped, stampedBy, closeRows, closeEffect, closeOutcome}
 use Rattle.marking.specs.Mode.{modeRows, modeEffect, modeOutcome}
