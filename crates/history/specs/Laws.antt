@@ -14,3 +14,4 @@ pub mod Looks
 pub mod Runs
 pub mod Refused
 pub mod Shown
+pub mod TarePlaces

@@ -7,3 +7,4 @@ pub mod Promises
 pub mod Changed
 pub mod Came
 pub mod Laws
+pub mod Tare
