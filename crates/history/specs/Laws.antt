@@ -15,3 +15,6 @@ pub mod Runs
 pub mod Refused
 pub mod Shown
 pub mod TarePlaces
+pub mod Passed
+pub mod TareFound
+pub mod TareCalls
