@@ -94,25 +94,12 @@ module _ (k : Kind) (l : List ℕ) (v : OnVolume l k) (t : List ℕ) (s : ℕ) (
 
   -- ---- file mode: function 1 is on another file, and any other function leaves the image
 
-  pub mode-spares : (name : List ℕ) (function attr : ℕ) → ¬ ((function ≡ 1) × (s ≡ fileSlot l name) × (modeOutcome l t name function attr .number ≡ 0))
-      → Spares l s (λ o. s ≡ fileSlot l name) (modeOutcome l t name function attr)
+  pub mode-spares : (name : List ℕ) (function attr : ℕ) → ¬ ((function ≡ 1) × (s ≡ fileSlot l name)) → Spares l s (λ o. s ≡ fileSlot l name) (modeOutcome l t name function attr)
   unfolding modeOutcome
-  mode-spares name function attr unset = elim (ℕ-discrete (modeOutcome l t name function attr .number) 0) [
-    | yes e ↦ decided-spares (modeRows l t name function attr) (modeEffect l t name function attr) l t [] s _ x (λ p.
-        either-spares (eqb function 1) _ _ l s _
-        (λ q. record { image = inr (λ n. unset (eqb-true function 1 q, n, e)); places = x })
-        (λ q. record { image = inl refl; places = x }))
-    | no d ↦
-        let y = refused-leaves (modeRows l t name function attr) (modeEffect l t name function attr) l t [] ends-well d in
-        record { image = inl (y .0); places = subst (λ (m : List ℕ). Watched m s) (sym (y .1)) x }
-  ]
-    where
-      ends-well : modeEffect l t name function attr .number ≡ 0
-      ends-well = by (eqb function 1)
-        where
-          by : (b : Bool) → cond b (outcome 0 0 (withAttr l (entryAt l (fileSlot l name)) attr) t []) (outcome 0 (attrOf l (entryAt l (fileSlot l name))) l t []) .number ≡ 0
-          by true = refl
-          by false = refl
+  mode-spares name function attr unset = decided-spares (modeRows l t name function attr) (modeEffect l t name function attr) l t [] s _ x (λ p.
+      either-spares (eqb function 1) _ _ l s _
+      (λ e. record { image = inr (λ n. unset (eqb-true function 1 e, n)); places = x })
+      (λ e. record { image = inl refl; places = x }))
 
   -- ---- open: access 0, as the file is read-only
 
@@ -127,3 +114,74 @@ module _ (k : Kind) (l : List ℕ) (v : OnVolume l k) (t : List ℕ) (s : ℕ) (
     where
       reads : fileSlot l name ≡ s → (ltb 0 access && readOnly l (fileSlot l name)) ≡ false → access ≡ 0
       reads e row = not-above access (second-holds (ltb 0 access) (readOnly l (fileSlot l name)) row (subst (λ (n : ℕ). readOnly l n ≡ true) (sym e) marked))
+
+  -- ---- read and seek: the pointer of a live place
+
+  pub read-spares : (h : ℕ) (buffer : List ℕ) → Spares l s (λ o. s ≡ slotOf t h) (readOutcome l t h buffer)
+  unfolding readOutcome
+  read-spares h buffer = decided-spares (readRows l t h) (readEffect l t h buffer) l t buffer s _ x (λ p.
+      record { image = inl refl; places = pointer-watched t s x h (live-at k l v t h (passed-row (readRows l t h) refl p 2) .counted) _ })
+
+  pub seek-spares : (h method : ℕ) (offset : ℤ) → Spares l s (λ o. s ≡ slotOf t h) (seekOutcome l t h method offset)
+  unfolding seekOutcome
+  seek-spares h method offset = decided-spares (seekRows l t h method offset) (seekEffect l t h method offset) l t [] s _ x (λ p.
+      record { image = inl refl; places = pointer-watched t s x h (live-at k l v t h (passed-row (seekRows l t h method offset) refl p 3) .counted) _ })
+
+  -- ---- write and close: a place of this file has access 0, and is not marked as written
+
+  reads-only : (h : ℕ) → notLive l t h ≡ false → s ≡ slotOf t h → ReadsOnly t h
+  reads-only h e q = let live = live-at k l v t h e in x h (live .counted) (record { used = live .used; names = sym q })
+
+  pub write-spares : (h : ℕ) (bs : List ℕ) → Spares l s (λ o. s ≡ slotOf t h) (writeOutcome l t h bs)
+  unfolding writeOutcome writeAt
+  write-spares h bs = decided-spares (writeRows l t h) (writeEffect l t h bs) l t [] s _ x (λ p.
+      let row = passed-row (writeRows l t h) refl p in
+      let other : ¬ (s ≡ slotOf t h) = λ q. eqb-false (accessOf t h) 0 (row 3) (reads-only h (row 2) q .access) in
+      either-spares (eqb (writeCount (theKind l) l (slotOf t h) (pointerOf t h) (length bs)) 0) _ _ l s _
+      (λ e. record { image = inl refl; places = x })
+      (λ e. record { image = inr other; places = wrote-watched t s x h (live-at k l v t h (row 2) .counted) (λ q. other (sym q)) _ }))
+
+  pub close-spares : (h : ℕ) (stamp : Stamp) → Spares l s (λ o. s ≡ slotOf t h) (closeOutcome l t h stamp)
+  unfolding closeOutcome
+  close-spares h stamp = decided-spares (closeRows l t h stamp) (closeEffect l t h stamp) l t [] s _ x (λ p.
+      let live = passed-row (closeRows l t h stamp) refl p 3 in
+      record {
+        image = elim (ℕ-discrete s (slotOf t h)) [
+          | yes q ↦ inl (rw (reads-only h live q .written) refl)
+          | no d ↦ inr d
+        ];
+        places = cleared-watched t s x h (live-at k l v t h live .counted);
+      })
+
+  -- ---- create: a file of that name is not read-only, and a new one takes an open slot
+
+  -- a place is taken for another slot
+  module _ (slot : ℕ) (small : slot < 4294967296) (other : ¬ (s ≡ slot)) (room : noPlace t ≡ false) where
+    made-spares : (m : List ℕ) (j : Kind) (name : List ℕ) (attr time date : ℕ) → Spares l s (λ o. s ≡ slotOf (o .table) (o .value)) (made m t j slot name attr time date)
+    made-spares m j name attr time date = record {
+      image = inr (λ e. other (e ∙ record-holds t (freePlace t) (place-counts t room) 2 slot 0 false small (omega arith) .slot));
+      places = record-watched t s x (freePlace t) (place-counts t room) 2 slot small (λ e. absurd (other (sym e)));
+    }
+
+    made-by-spares : (m : List ℕ) (j : Kind) (name : List ℕ) (attr : ℕ) (words : Packed) → Spares l s (λ o. s ≡ slotOf (o .table) (o .value)) (madeBy m t j slot name attr words)
+    made-by-spares m j name attr (Words time date) = made-spares m j name attr time date
+    made-by-spares m j name attr OutOfRange = made-spares m j name attr 0 0
+
+  new-small : isNothing (slotForNew l) ≡ false → placeFound (slotForNew l) < 4294967296
+  new-small e = omega (arith, new-slot k l v e .below, on-usable l k v .few-slots)
+
+  new-other : isNothing (slotForNew l) ≡ false → ¬ (s ≡ placeFound (slotForNew l))
+  new-other e q = elim (subst (λ (n : ℕ). OpenAt l (slotAt k n)) (sym q) (new-slot k l v e .passes)) [
+    | inl z ↦ i .plain .0 .1 z
+    | inr z ↦ i .plain .0 .0 z
+  ]
+
+  pub create-spares : (name : List ℕ) (attr : ℕ) (stamp : Stamp) → Spares l s (λ o. s ≡ slotOf (o .table) (o .value)) (createOutcome l t name attr stamp)
+  unfolding createOutcome
+  create-spares name attr stamp = decided-spares (createRows l t name attr stamp) (createEffect l t name attr stamp) l t [] s _ x (λ p.
+      let row = passed-row (createRows l t name attr stamp) refl p in
+      either-spares (noFile l name) _ _ l s _
+      (λ e. let found = first-holds (noFile l name) (isNothing (slotForNew l)) (row 7) e in
+      made-by-spares (placeFound (slotForNew l)) (new-small found) (new-other found) (row 8) l (theKind l) (nameOf name .name) attr (packed stamp))
+      (λ e. let writable = first-holds (not (noFile l name)) (readOnly l (fileSlot l name)) (row 6) (ap not e) in
+      made-by-spares (fileSlot l name) (named-small k l v name e) (other-slot (fileSlot l name) writable) (row 8) (chainFreed (theKind l) l (fileSlot l name)) (theKind l) (nameOf name .name) attr (packed stamp)))
