@@ -18,3 +18,4 @@ pub mod TarePlaces
 pub mod Passed
 pub mod TareFound
 pub mod TareCalls
+pub mod Tare
