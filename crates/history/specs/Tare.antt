@@ -41,7 +41,9 @@ abbrev pub NoModeSet : World → List Call → ℕ → Type 0
 NoModeSet w [] s = Unit {0}
 NoModeSet w (c ∷ cs) s = (¬ SetsMode c w s) × NoModeSet (step w c) cs s
 
--- then all 32 bytes of its entry are as they were, and it holds the file that it held: name, attribute and bytes
+-- the file in slot s of image l is in image m as it was: all 32 bytes of its entry, and what it holds: name, attribute and bytes
+abbrev pub SameFile : Kind → ℕ → List ℕ → List ℕ → Type 0
+SameFile k s l m = SameBytes m (slotAt k s) l (slotAt k s) × ((f : File) → Holds k l s f → Holds k m s f)
+
 abbrev pub TareStays : Type 0
-TareStays = (k : Kind) (w : World) → Begins k w → (s : ℕ) → Tare k w s → (cs : List Call) → AllGiven cs → NoModeSet w cs s
-    → SameBytes (run w cs .image) (slotAt k s) (w .image) (slotAt k s) × ((f : File) → Holds k (w .image) s f → Holds k (run w cs .image) s f)
+TareStays = (k : Kind) (w : World) → Begins k w → (s : ℕ) → Tare k w s → (cs : List Call) → AllGiven cs → NoModeSet w cs s → SameFile k s (w .image) (run w cs .image)

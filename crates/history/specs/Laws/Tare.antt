@@ -3,43 +3,34 @@
 use Prim.Native.Nat.{ℕ, _+_}
 use native.Mathlib.Omega.{arith}
 use native.Mathlib.Decide.{ℕ-discrete}
-use mathlib.Core.Bool.{true, false}
+use mathlib.Core.Bool.{true}
 use mathlib.Core.List.{List, [], _∷_}
-use mathlib.Core.Logic.{_⊎_, _≢_, inl, inr}
+use mathlib.Core.Logic.{_≢_, inl, inr}
 use mathlib.Core.Option.{some}
 use mathlib.Core.Path.{_≡_, refl, sym, ap, _∙_, subst}
 use lib.ListN.{getD}
 use Rattle.diskette.specs.Places.{slotAt}
 use Rattle.diskette.specs.declared.Kind.{Kind}
 use Rattle.directory.specs.Entries.{SameBytes}
-use Rattle.directory.specs.Slots.{hasBit}
 use Rattle.sound.specs.Judged.{checkOf}
 use Rattle.sound.specs.declared.Verdict.{Verdict}
 use Rattle.sound.specs.declared.Verdict.the-variants.{Sound, Finding}
-use Rattle.calls.specs.Outcome.{Outcome}
 use Rattle.calls.specs.Ready.{OnVolume}
 use Rattle.calls.specs.Refusals.{readOnly}
 use Rattle.calls.specs.Laws.Ready.{on-kind}
-use Rattle.holding.specs.Holding.{FileIn}
 use Rattle.reading.specs.View.{viewOutcome}
 use Rattle.history.specs.Came.{Came}
 use Rattle.history.specs.Files.{File, Holds}
 use Rattle.history.specs.Promises.{Given, AllGiven, Begins}
-use Rattle.history.specs.Tare.{Tare, SetsMode, NoModeSet}
+use Rattle.history.specs.Tare.{Tare, SetsMode, NoModeSet, SameFile}
 use Rattle.history.specs.World.{World, Call, Names, verdictIn, outcomeOf, step, run, check, freeClusters, entryAt, openFile, create, read, write, seek, close, delete, rename, mode, view}
 use Rattle.history.specs.Laws.Came.{came-on, came-bytes, came-entries, came-others}
 use Rattle.history.specs.Laws.Refused.{refusals-leave-all}
 use Rattle.history.specs.Laws.Rows.{image-stays}
-use Rattle.history.specs.Laws.TareCalls.{Spares, delete-spares, rename-spares, mode-spares, open-spares, read-spares, seek-spares, write-spares, close-spares, create-spares}
+use Rattle.history.specs.Laws.TareCalls.{Guarded, Spares, delete-spares, rename-spares, mode-spares, open-spares, read-spares, seek-spares, write-spares, close-spares, create-spares}
 use Rattle.history.specs.Laws.TarePlaces.{Watched, closed-watched}
 
--- a read-only file whose places, where it has any, only read
-pub record Guarded (k : Kind) (w : World) (s : ℕ) : Type 0 where
-  pub is-file : FileIn (w .image) k s
-  pub marked : readOnly (w .image) s ≡ true
-  pub places : Watched (w .table) s
-
-pub tare-guarded : (k : Kind) (w : World) (s : ℕ) → Tare k w s → Guarded k w s
+tare-guarded : (k : Kind) (w : World) (s : ℕ) → Tare k w s → Guarded k w s
 tare-guarded k w s x = record { is-file = x .is-file; marked = x .marked; places = closed-watched (w .table) s (x .closed) }
 
 -- ---- one call
@@ -62,18 +53,18 @@ module _ (k : Kind) (w : World) (b : Begins k w) (s : ℕ) (g : Guarded k w s) w
       same (Finding number place) = g .places
   spared freeClusters u = record { image = inl refl; places = g .places }
   spared (entryAt slot) u = record { image = inl refl; places = g .places }
-  spared (openFile name access) u = open-spares k (w .image) (b .on) (w .table) s (g .is-file) (g .marked) (g .places) name access
+  spared (openFile name access) u = open-spares k w (b .on) s g name access
   spared (create name attr stamp) u =
-      let x = create-spares k (w .image) (b .on) (w .table) s (g .is-file) (g .marked) (g .places) name attr stamp in
+      let x = create-spares k w (b .on) s g name attr stamp in
       record { image = x .image; places = x .places }
-  spared (read h buffer) u = read-spares k (w .image) (b .on) (w .table) s (g .is-file) (g .marked) (g .places) h buffer
-  spared (write h bs) u = write-spares k (w .image) (b .on) (w .table) s (g .is-file) (g .marked) (g .places) h bs
-  spared (seek h method offset) u = seek-spares k (w .image) (b .on) (w .table) s (g .is-file) (g .marked) (g .places) h method offset
-  spared (close h stamp) u = close-spares k (w .image) (b .on) (w .table) s (g .is-file) (g .marked) (g .places) h stamp
-  spared (delete name) u = delete-spares k (w .image) (b .on) (w .table) s (g .is-file) (g .marked) (g .places) name
-  spared (rename name new) u = rename-spares k (w .image) (b .on) (w .table) s (g .is-file) (g .marked) (g .places) name new
+  spared (read h buffer) u = read-spares k w (b .on) s g h buffer
+  spared (write h bs) u = write-spares k w (b .on) s g h bs
+  spared (seek h method offset) u = seek-spares k w (b .on) s g h method offset
+  spared (close h stamp) u = close-spares k w (b .on) s g h stamp
+  spared (delete name) u = delete-spares k w (b .on) s g name
+  spared (rename name new) u = rename-spares k w (b .on) s g name new
   spared (mode name function attr) u = elim (ℕ-discrete (outcomeOf (mode name function attr) w .number) 0) [
-    | yes e ↦ mode-spares k (w .image) (b .on) (w .table) s (g .is-file) (g .marked) (g .places) name function attr (λ q. u (q .0, q .1, e))
+    | yes e ↦ mode-spares k w (b .on) s g name function attr (λ q. u (q .0, q .1, e))
     | no n ↦ refused-spares (mode name function attr) n
   ]
   spared (view name offset) u = record { image = inl (image-stays _ _ (w .image) [] [] refl); places = g .places }
@@ -123,15 +114,13 @@ module _ (k : Kind) (w : World) (b : Begins k w) (s : ℕ) (g : Guarded k w s) w
 
 -- ---- any run
 
-module _ (k : Kind) (came : (w : World) (c : Call) → Begins k w → Given c → Came k w c) (s : ℕ) where
-  guarded-stays : (cs : List Call) (w : World) → Begins k w → Guarded k w s → AllGiven cs → NoModeSet w cs s
-      → SameBytes (run w cs .image) (slotAt k s) (w .image) (slotAt k s) × ((f : File) → Holds k (w .image) s f → Holds k (run w cs .image) s f)
-  guarded-stays [] w b g given unset = (λ j h. refl, λ f h. h)
-  guarded-stays (c ∷ cs) w b g given unset =
+module _ (k : Kind) (came : (w : World) (c : Call) → Begins k w → Given c → Came k w c) where
+  guarded-stays : (s : ℕ) (cs : List Call) (w : World) → Begins k w → Guarded k w s → AllGiven cs → NoModeSet w cs s → SameFile k s (w .image) (run w cs .image)
+  guarded-stays s [] w b g given unset = (λ j h. refl, λ f h. h)
+  guarded-stays s (c ∷ cs) w b g given unset =
       let x = came w c b (given .0) in
-      let rest = guarded-stays cs (step w c) (begins-still k w b s g c x (unset .0)) (guarded-still k w b s g c x (unset .0)) (given .1) (unset .1) in
+      let rest = guarded-stays s cs (step w c) (begins-still k w b s g c x (unset .0)) (guarded-still k w b s g c x (unset .0)) (given .1) (unset .1) in
       (λ j h. rest .0 j h ∙ same-entry k w b s g c x (unset .0) j h, λ f h. rest .1 f (same-holds k w b s g c x (unset .0) f h))
 
-pub tare-stays : (k : Kind) → ((w : World) (c : Call) → Begins k w → Given c → Came k w c) → (w : World) → Begins k w → (s : ℕ) → Tare k w s → (cs : List Call) → AllGiven cs → NoModeSet w cs s
-    → SameBytes (run w cs .image) (slotAt k s) (w .image) (slotAt k s) × ((f : File) → Holds k (w .image) s f → Holds k (run w cs .image) s f)
-tare-stays k came w b s x cs given unset = guarded-stays k came s cs w b (tare-guarded k w s x) given unset
+  pub tare-stays : (w : World) → Begins k w → (s : ℕ) → Tare k w s → (cs : List Call) → AllGiven cs → NoModeSet w cs s → SameFile k s (w .image) (run w cs .image)
+  tare-stays w b s x cs = guarded-stays s cs w b (tare-guarded k w s x)
