@@ -1,5 +1,5 @@
--- The tare's key stays: a read-only file that no open place names has the same entry and the same contents after any run of calls,
--- unless one of them sets its mode.
+-- The tare stays: "a file that is read-only, and whose slot no used place names when the run begins, has the same 32 bytes of entry
+-- and the same contents after any run in which no call sets its mode".
 use Prim.Native.Nat.{ℕ}
 use mathlib.Core.Bool.{true, false}
 use mathlib.Core.List.{List, [], _∷_}
@@ -14,13 +14,13 @@ use Rattle.history.specs.Files.{File, Holds}
 use Rattle.history.specs.Promises.{AllGiven, Begins}
 use Rattle.history.specs.World.{World, Call, outcomeOf, step, run, check, freeClusters, entryAt, openFile, create, read, write, seek, close, delete, rename, mode, view}
 
--- what is asked of the file in slot s when the run begins: it is a plain file, read-only, and no used place names its slot
+-- when the run begins, a plain file stands in slot s, it is read-only, and no used place names its slot
 pub record Tare (k : Kind) (w : World) (s : ℕ) : Type 0 where
   pub is-file : FileIn (w .image) k s
   pub marked : readOnly (w .image) s ≡ true
   pub closed : isOpen (w .table) s ≡ false
 
--- a call sets the mode of the file in slot s: file mode, function 1, on its name, and it was not refused
+-- a call sets the mode of the file in slot s: file mode with function 1 on its name, and not refused
 abbrev pub SetsMode : Call → World → ℕ → Type 0
 SetsMode (mode name function attr) w s = (function ≡ 1) × (s ≡ fileSlot (w .image) name) × (outcomeOf (mode name function attr) w .number ≡ 0)
 SetsMode check w s = ⊥
@@ -41,7 +41,7 @@ abbrev pub NoModeSet : World → List Call → ℕ → Type 0
 NoModeSet w [] s = Unit {0}
 NoModeSet w (c ∷ cs) s = (¬ SetsMode c w s) × NoModeSet (step w c) cs s
 
--- the file in slot s of image l is in image m as it was: all 32 bytes of its entry, and what it holds: name, attribute and bytes
+-- slot s of image m has the 32 bytes of entry and the file (name, attribute, bytes) that it has in image l
 abbrev pub SameFile : Kind → ℕ → List ℕ → List ℕ → Type 0
 SameFile k s l m = SameBytes m (slotAt k s) l (slotAt k s) × ((f : File) → Holds k l s f → Holds k m s f)
 

@@ -49,7 +49,8 @@ pub record Guarded (k : Kind) (w : World) (s : ℕ) : Type 0 where
   pub marked : readOnly (w .image) s ≡ true
   pub places : Watched (w .table) s
 
--- an outcome spares slot s of l: the image stays, or N, that the call names the slot, is not so
+-- an outcome spares slot s of the image l: the image stays, or the call does not name the slot, which N says of the outcome; and
+-- the slot is watched still
 pub record Spares (l : List ℕ) (s : ℕ) (N : Outcome → Type 0) (o : Outcome) : Type 0 where
   pub image : (o .image ≡ l) ⊎ ¬ N o
   pub places : Watched (o .table) s

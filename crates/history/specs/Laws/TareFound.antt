@@ -22,7 +22,7 @@ use Rattle.calls.specs.Refusals.{isNothing, placeFound, theKind, fileFound, noF
 use Rattle.calls.specs.Laws.Files.{found-is, named-fits, unused-below}
 use Rattle.calls.specs.Laws.Ready.{on-kind}
 
-pub found-at : (f : Found) → isNothing f ≡ false → f ≡ At (placeFound f)
+found-at : (f : Found) → isNothing f ≡ false → f ≡ At (placeFound f)
 found-at (At i) e = refl
 found-at Nothing e = absurd (clash refl e)
 
