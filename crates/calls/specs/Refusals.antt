@@ -86,12 +86,12 @@ abbrev pub fileSlot : List ℕ → List ℕ → ℕ
 fileSlot img s = placeFound (fileFound img s)
 
 -- the address of the entry in a slot
-abbrev pub entryAt : List ℕ → ℕ → ℕ
-entryAt img s = slotAt (theKind img) s
+abbrev pub addressOf : List ℕ → ℕ → ℕ
+addressOf img s = slotAt (theKind img) s
 
 -- 5: read-only
 unfoldable pub readOnly : List ℕ → ℕ → Bool
-readOnly img slot = hasBit (attrOf img (entryAt img slot)) 0x01
+readOnly img slot = hasBit (attrOf img (addressOf img slot)) 0x01
 
 -- 6: handle not live
 unfoldable pub notLive : List ℕ → List ℕ → ℕ → Bool

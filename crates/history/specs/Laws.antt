@@ -14,6 +14,8 @@ pub mod Lengthened
 pub mod Put
 pub mod Wrote
 pub mod Rows
+pub mod Passed
+pub mod Found
 pub mod Came
 pub mod Looks
 pub mod Well
@@ -22,4 +24,7 @@ pub mod CameFiles
 pub mod Runs
 pub mod Refused
 pub mod Shown
+pub mod TarePlaces
+pub mod TareCalls
+pub mod Tare
 pub mod Promises

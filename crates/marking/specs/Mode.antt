@@ -7,7 +7,7 @@ use lib.Dec.{eqb, ltb}
 use Rattle.directory.specs.Fields.{attrOf, withAttr}
 use Rattle.opened.specs.Places.{isOpen}
 use Rattle.calls.specs.Outcome.{Row, Outcome, outcome, decided}
-use Rattle.calls.specs.Refusals.{notOfKind, notSound, badName, noFile, fileSlot, entryAt, badAttr}
+use Rattle.calls.specs.Refusals.{notOfKind, notSound, badName, noFile, fileSlot, addressOf, badAttr}
 use Rattle.calls.specs.declared.Answer.{Answer}
 
 abbrev pub modeRows : List ℕ → List ℕ → List ℕ → ℕ → ℕ → List Row
@@ -23,7 +23,7 @@ modeRows img t s function attr =
 
 abbrev pub modeEffect : List ℕ → List ℕ → List ℕ → ℕ → ℕ → Outcome
 modeEffect img t s function attr =
-    let a = entryAt img (fileSlot img s) in
+    let a = addressOf img (fileSlot img s) in
     cond (eqb function 1) (outcome 0 0 (withAttr img a attr) t []) (outcome 0 (attrOf img a) img t [])
 
 unfoldable pub modeOutcome : List ℕ → List ℕ → List ℕ → ℕ → ℕ → Outcome

@@ -10,7 +10,7 @@ use Rattle.directory.specs.Search.{slotNamed}
 use Rattle.names.specs.Reading.{nameOf}
 use Rattle.opened.specs.Places.{isOpen}
 use Rattle.calls.specs.Outcome.{Row, Outcome, outcome, decided}
-use Rattle.calls.specs.Refusals.{isNothing, notOfKind, notSound, badName, noFile, fileSlot, entryAt, readOnly}
+use Rattle.calls.specs.Refusals.{isNothing, notOfKind, notSound, badName, noFile, fileSlot, addressOf, readOnly}
 use Rattle.calls.specs.declared.Answer.{Answer}
 
 -- s is the file's name, n the new one
@@ -27,7 +27,7 @@ renameRows img t s n =
     ∷ []
 
 abbrev pub renameEffect : List ℕ → List ℕ → List ℕ → List ℕ → Outcome
-renameEffect img t s n = outcome 0 0 (withName img (entryAt img (fileSlot img s)) (nameOf n .name)) t []
+renameEffect img t s n = outcome 0 0 (withName img (addressOf img (fileSlot img s)) (nameOf n .name)) t []
 
 unfoldable pub renameOutcome : List ℕ → List ℕ → List ℕ → List ℕ → Outcome
 renameOutcome img t s n = decided (renameRows img t s n) (renameEffect img t s n) img t []

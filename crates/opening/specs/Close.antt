@@ -12,7 +12,7 @@ use Rattle.stamps.specs.declared.Packed.{Packed}
 use Rattle.stamps.specs.declared.Packed.the-variants.{Words, OutOfRange}
 use Rattle.opened.specs.Records.{slotOf, writtenOf, cleared}
 use Rattle.calls.specs.Outcome.{Row, Outcome, outcome, decided}
-use Rattle.calls.specs.Refusals.{notOfKind, notSound, badStamp, notLive, entryAt}
+use Rattle.calls.specs.Refusals.{notOfKind, notSound, badStamp, notLive, addressOf}
 use Rattle.calls.specs.declared.Answer.{Answer}
 
 -- an attribute with bit 20 set
@@ -37,7 +37,7 @@ closeRows img t h s =
     ∷ []
 
 abbrev pub closeEffect : List ℕ → List ℕ → ℕ → Stamp → Outcome
-closeEffect img t h s = outcome 0 0 (cond (writtenOf t h) (stampedBy img (entryAt img (slotOf t h)) (packed s)) img) (cleared t h) []
+closeEffect img t h s = outcome 0 0 (cond (writtenOf t h) (stampedBy img (addressOf img (slotOf t h)) (packed s)) img) (cleared t h) []
 
 unfoldable pub closeOutcome : List ℕ → List ℕ → ℕ → Stamp → Outcome
 closeOutcome img t h s = decided (closeRows img t h s) (closeEffect img t h s) img t []

@@ -12,12 +12,12 @@ use Rattle.offset.specs.declared.Moved.{Moved}
 use Rattle.offset.specs.declared.Moved.the-variants.{To, Beyond}
 use Rattle.opened.specs.Records.{slotOf, pointerOf, withPointer}
 use Rattle.calls.specs.Outcome.{Row, Outcome, outcome, decided}
-use Rattle.calls.specs.Refusals.{notOfKind, notSound, notLive, entryAt}
+use Rattle.calls.specs.Refusals.{notOfKind, notSound, notLive, addressOf}
 use Rattle.calls.specs.declared.Answer.{Answer}
 
 -- from where the offset counts
 unfoldable pub seekBase : List ℕ → List ℕ → ℕ → ℕ → ℕ
-seekBase img t h method = cond (eqb method 0) 0 (cond (eqb method 1) (pointerOf t h) (sizeOf img (entryAt img (slotOf t h))))
+seekBase img t h method = cond (eqb method 0) 0 (cond (eqb method 1) (pointerOf t h) (sizeOf img (addressOf img (slotOf t h))))
 
 -- where it leads
 abbrev pub seekMoved : List ℕ → List ℕ → ℕ → ℕ → ℤ → Moved

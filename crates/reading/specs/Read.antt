@@ -9,7 +9,7 @@ use Rattle.image.specs.Store.{stored, part}
 use Rattle.directory.specs.Fields.{sizeOf}
 use Rattle.opened.specs.Records.{slotOf, accessOf, pointerOf, withPointer}
 use Rattle.calls.specs.Outcome.{Row, Outcome, outcome, decided}
-use Rattle.calls.specs.Refusals.{theKind, notOfKind, notSound, notLive, entryAt}
+use Rattle.calls.specs.Refusals.{theKind, notOfKind, notSound, notLive, addressOf}
 use Rattle.holding.specs.Holding.{fileBytes}
 use Rattle.calls.specs.declared.Answer.{Answer}
 
@@ -29,7 +29,7 @@ abbrev pub readEffect : List ℕ → List ℕ → ℕ → List ℕ → Outcome
 readEffect img t h buf =
     let slot = slotOf t h in
     let pointer = pointerOf t h in
-    let n = readCount (length buf) (sizeOf img (entryAt img slot)) pointer in
+    let n = readCount (length buf) (sizeOf img (addressOf img slot)) pointer in
     outcome 0 n img (withPointer t h (pointer + n)) (stored buf 0 (part (fileBytes (theKind img) img slot) pointer n))
 
 unfoldable pub readOutcome : List ℕ → List ℕ → ℕ → List ℕ → Outcome

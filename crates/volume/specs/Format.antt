@@ -25,22 +25,22 @@ unfoldable pub blank : Kind → List ℕ
 blank k = stored (stored (zerosAndData k) copyOne (tableHead (k .byte))) (copyTwo k) (tableHead (k .byte))
 
 -- the refusal number or 0, and the image after the call
-pub record Outcome : Type 0 where
+pub record AfterFormat : Type 0 where
   pub number : ℕ
   pub image : List ℕ
 
-abbrev pub outcome : ℕ → List ℕ → Outcome
-outcome n img = record { number = n; image = img }
+abbrev pub afterFormat : ℕ → List ℕ → AfterFormat
+afterFormat n img = record { number = n; image = img }
 
 -- "40: unknown kind byte or wrong length". A refusal alters nothing.
-abbrev pub formattedAs : WhichKind → List ℕ → Outcome
-formattedAs (Known k) img = cond (eqb (length img) (512 * k .sectors)) (outcome 0 (blank k)) (outcome 40 img)
-formattedAs Unknown img = outcome 40 img
+abbrev pub formattedAs : WhichKind → List ℕ → AfterFormat
+formattedAs (Known k) img = cond (eqb (length img) (512 * k .sectors)) (afterFormat 0 (blank k)) (afterFormat 40 img)
+formattedAs Unknown img = afterFormat 40 img
 
 -- The kind is taken as a whole number.
-unfoldable pub formatted : ℕ → List ℕ → Outcome
+unfoldable pub formatted : ℕ → List ℕ → AfterFormat
 formatted kind img = formattedAs (named kind) img
 
 -- what the call promises: its answer, and the image after it
 pub record Formatted (img : List ℕ) (kind number : ℕ) (after : List ℕ) : Type 0 where
-  pub is : outcome number after ≡ formatted kind img
+  pub is : afterFormat number after ≡ formatted kind img

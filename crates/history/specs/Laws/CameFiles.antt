@@ -48,8 +48,10 @@ use Rattle.history.specs.Laws.Count.{taken-fits, bytes-take}
 use Rattle.history.specs.Laws.Ended.{delete-changed, delete-ends, delete-bytes}
 use Rattle.history.specs.Laws.Looks.{came-refused, after-well}
 use Rattle.history.specs.Laws.Made.{empty-changed, empty-holds, empty-bytes, new-changed, new-holds, new-bytes}
-use Rattle.history.specs.Laws.Rows.{decided-cases, passed}
-use Rattle.history.specs.Laws.Well.{good-name, file-found, file-there, no-file-found, live-there, came-put, came-at}
+use Rattle.history.specs.Laws.Found.{good-name, found-at, place-counts, file-found, file-there, no-file-found, live-there}
+use Rattle.history.specs.Laws.Passed.{passed-row}
+use Rattle.history.specs.Laws.Rows.{decided-cases}
+use Rattle.history.specs.Laws.Well.{came-put, came-at}
 use Rattle.history.specs.Laws.Wrote.{wrote-changed, wrote-holds, wrote-bytes}
 
 module _ (k : Kind) (w : World) (b : Begins k w) where
@@ -70,11 +72,8 @@ module _ (k : Kind) (w : World) (b : Begins k w) where
     where
       well : refusal (deleteRows l t s) ≡ 0 → outcomeOf (delete s) w ≡ deleteEffect l t s → Came k w (delete s)
       well rows e =
-          let r1 = passed _ 40 _ (omega arith) rows in
-          let r2 = passed _ 41 _ (omega arith) (r1 .1) in
-          let r3 = passed _ 42 _ (omega arith) (r2 .1) in
-          let r4 = passed _ 2 _ (omega arith) (r3 .1) in
-          let i = file-there k l (b .on) s (r4 .0) in
+          let row = passed-row (deleteRows l t s) refl rows in
+          let i = file-there k l (b .on) s (row 3) in
           let m : step w (delete s) .image ≡ erasedIn k l (fileSlot l s) = ap (λ (o : Outcome). o .image) e ∙ rw (on-kind l k (b .on)) in
           came-put k w (delete s) (fileSlot l s) _ _ (ap (λ (o : Outcome). o .number) e) m refl
           (delete-changed k l (b .on) (b .bytes) (fileSlot l s) i)
@@ -93,10 +92,8 @@ module _ (k : Kind) (w : World) (b : Begins k w) where
     where
       by : refusal (writeRows l t h) ≡ 0 → outcomeOf (write h bs) w ≡ writeEffect l t h bs → Came k w (write h bs)
       by rows e =
-          let r1 = passed _ 40 _ (omega arith) rows in
-          let r2 = passed _ 41 _ (omega arith) (r1 .1) in
-          let r3 = passed _ 6 _ (omega arith) (r2 .1) in
-          let i = live-there k l (b .on) t h (r3 .0) in
+          let row = passed-row (writeRows l t h) refl rows in
+          let i = live-there k l (b .on) t h (row 2) in
           let s = slotOf t h in
           let pointer = pointerOf t h in
           let n = writeCount k l s pointer (length bs) in
@@ -122,18 +119,11 @@ module _ (k : Kind) (w : World) (b : Begins k w) where
 
   -- ---- create
 
-  found-at : (f : Found) → isNothing f ≡ false → f ≡ At (placeFound f)
-  found-at (At i) e = refl
-  found-at Nothing e = absurd (let z : _≡_ {A = ℕ} 0 1 = cc in omega arith)
-
-  -- the place that is taken, and that it names the slot then
-  place-counted : noPlace t ≡ false → freePlace t < placeCount t
-  place-counted e = subst (Answers (λ (p : ℕ). usedOf t p ≡ false) (placeCount t)) (found-at (lowestUnused t) e) (unused-answers t) .below
-
+  -- the place that is taken names the slot then
   place-names : noPlace t ≡ false → (slot : ℕ) → slot < rootEntries k → slotOf (withRecord t (freePlace t) 2 slot 0 false) (freePlace t) ≡ slot
   place-names e slot h =
       let r : k .root ≤ 4096 = on-usable l k (b .on) .few-slots in
-      record-holds t (freePlace t) (place-counted e) 2 slot 0 false (omega arith) (omega arith) .slot
+      record-holds t (freePlace t) (place-counts t e) 2 slot 0 false (omega arith) (omega arith) .slot
 
   module _ (s : List ℕ) (attr : ℕ) (stamp : Stamp) where
     abbrev name : List ℕ
@@ -153,50 +143,31 @@ module _ (k : Kind) (w : World) (b : Begins k w) where
         → Came k w (create s attr stamp)
     unfolding slotForNew
     well missing q OutOfRange pe rows e =
-        let r1 = passed _ 40 _ (omega arith) rows in
-        let r2 = passed _ 41 _ (omega arith) (r1 .1) in
-        let r3 = passed _ 42 _ (omega arith) (r2 .1) in
-        let r4 = passed _ 43 _ (omega arith) (r3 .1) in
-        absurd (let y : isOut OutOfRange ≡ false = rw pe at (r4 .0) in let z : _≡_ {A = ℕ} 0 1 = cc in omega arith)
+        let row = passed-row (createRows l t s attr stamp) refl rows in
+        absurd (let y : isOut OutOfRange ≡ false = rw pe at (row 3) in let z : _≡_ {A = ℕ} 0 1 = cc in omega arith)
     well true q (Words time date) pe rows e =
-        let r1 = passed _ 40 _ (omega arith) rows in
-        let r2 = passed _ 41 _ (omega arith) (r1 .1) in
-        let r3 = passed _ 42 _ (omega arith) (r2 .1) in
-        let r4 = passed _ 43 _ (omega arith) (r3 .1) in
-        let r5 = passed _ 5 _ (omega arith) (r4 .1) in
-        let r6 = passed _ 5 _ (omega arith) (r5 .1) in
-        let r7 = passed _ 5 _ (omega arith) (r6 .1) in
-        let r8 = passed _ 5 _ (omega arith) (r7 .1) in
-        let r9 = passed _ 4 _ (omega arith) (r8 .1) in
-        let fits = good-name s (r3 .0) in
+        let row = passed-row (createRows l t s attr stamp) refl rows in
+        let fits = good-name s (row 2) in
         let kind = on-kind l k (b .on) in
         let slot = placeFound (lowestOpenSlot l (rootAt k) (rootEntries k)) in
-        let lowest : lowestOpenSlot l (rootAt k) (rootEntries k) ≡ At slot = found-at (lowestOpenSlot l (rootAt k) (rootEntries k)) (rw (q, kind) at (r8 .0)) in
+        let lowest : lowestOpenSlot l (rootAt k) (rootEntries k) ≡ At slot = found-at (lowestOpenSlot l (rootAt k) (rootEntries k)) (rw (q, kind) at (row 7)) in
         let none-named = no-file-found k l (b .on) s q in
         let made-there : outcomeOf (create s attr stamp) w ≡ made l t k slot name attr time date = e ∙ rw (q, pe, kind) in
-        made-in l slot time date (open-below l k (lowestOpenSlot l (rootAt k) (rootEntries k)) refl slot lowest) (r9 .0) made-there
-        (new-changed k l (b .on) (b .bytes) s fits attr (r5 .0) time date slot none-named lowest)
-        (new-bytes k l (b .on) (b .bytes) s fits attr (r5 .0) time date slot none-named lowest)
-        (new-holds k l (b .on) (b .bytes) s fits attr (r5 .0) time date slot none-named lowest)
+        made-in l slot time date (open-below l k (lowestOpenSlot l (rootAt k) (rootEntries k)) refl slot lowest) (row 8) made-there
+        (new-changed k l (b .on) (b .bytes) s fits attr (row 4) time date slot none-named lowest)
+        (new-bytes k l (b .on) (b .bytes) s fits attr (row 4) time date slot none-named lowest)
+        (new-holds k l (b .on) (b .bytes) s fits attr (row 4) time date slot none-named lowest)
     well false q (Words time date) pe rows e =
-        let r1 = passed _ 40 _ (omega arith) rows in
-        let r2 = passed _ 41 _ (omega arith) (r1 .1) in
-        let r3 = passed _ 42 _ (omega arith) (r2 .1) in
-        let r4 = passed _ 43 _ (omega arith) (r3 .1) in
-        let r5 = passed _ 5 _ (omega arith) (r4 .1) in
-        let r6 = passed _ 5 _ (omega arith) (r5 .1) in
-        let r7 = passed _ 5 _ (omega arith) (r6 .1) in
-        let r8 = passed _ 5 _ (omega arith) (r7 .1) in
-        let r9 = passed _ 4 _ (omega arith) (r8 .1) in
-        let fits = good-name s (r3 .0) in
+        let row = passed-row (createRows l t s attr stamp) refl rows in
+        let fits = good-name s (row 2) in
         let kind = on-kind l k (b .on) in
         let slot = fileSlot l s in
         let found = file-found k l (b .on) s q in
         let made-there : outcomeOf (create s attr stamp) w ≡ made (chainFreed k l slot) t k slot name attr time date = e ∙ rw (q, pe, kind) in
-        made-in (chainFreed k l slot) slot time date (file-there k l (b .on) s q .below) (r9 .0) made-there
-        (empty-changed k l (b .on) (b .bytes) s fits attr (r5 .0) time date slot found)
-        (empty-bytes k l (b .on) (b .bytes) s fits attr (r5 .0) time date slot found)
-        (empty-holds k l (b .on) (b .bytes) s fits attr (r5 .0) time date slot found)
+        made-in (chainFreed k l slot) slot time date (file-there k l (b .on) s q .below) (row 8) made-there
+        (empty-changed k l (b .on) (b .bytes) s fits attr (row 4) time date slot found)
+        (empty-bytes k l (b .on) (b .bytes) s fits attr (row 4) time date slot found)
+        (empty-holds k l (b .on) (b .bytes) s fits attr (row 4) time date slot found)
 
     pub came-create : Came k w (create s attr stamp)
     unfolding createOutcome

@@ -1,11 +1,12 @@
 -- What rename, file mode and close come to.
 use Prim.Native.Nat.{ℕ}
 use native.Mathlib.Omega.{arith}
-use mathlib.Core.Bool.{Bool, true, false, cond, not}
+use mathlib.Core.Bool.{Bool, true, false}
 use mathlib.Core.List.{List, []}
 use mathlib.Core.Logic.{inl, inr}
 use mathlib.Core.Path.{_≡_, refl, sym, ap, _∙_}
 use lib.Dec.{eqb}
+use borrow.Author.Tests.{not-false}
 use Rattle.diskette.specs.Places.{slotAt}
 use Rattle.diskette.specs.declared.Kind.{Kind}
 use Rattle.directory.specs.Fields.{withName, withAttr}
@@ -16,7 +17,7 @@ use Rattle.stamps.specs.declared.Packed.{Packed}
 use Rattle.stamps.specs.declared.Packed.the-variants.{Words, OutOfRange}
 use Rattle.opened.specs.Records.{slotOf, writtenOf}
 use Rattle.calls.specs.Outcome.{Outcome, refusal}
-use Rattle.calls.specs.Refusals.{noFile, fileSlot, entryAt, badAttr, isOut}
+use Rattle.calls.specs.Refusals.{noFile, fileSlot, badAttr, isOut}
 use Rattle.calls.specs.Laws.Ready.{on-kind}
 use Rattle.opening.specs.Close.{stamped, stampedBy, closeRows, closeEffect, closeOutcome}
 use Rattle.marking.specs.Mode.{modeRows, modeEffect, modeOutcome}
@@ -27,12 +28,10 @@ use Rattle.history.specs.Promises.{Begins}
 use Rattle.history.specs.World.{World, outcomeOf, step, rename, mode, close}
 use Rattle.history.specs.Laws.Looks.{came-refused, after-well}
 use Rattle.history.specs.Laws.Marks.{rename-changed, rename-holds, rename-bytes, mode-changed, mode-holds, mode-bytes, close-changed, close-holds, close-bytes}
-use Rattle.history.specs.Laws.Rows.{decided-cases, passed}
-use Rattle.history.specs.Laws.Well.{good-name, file-there, no-file-found, live-there, came-at}
-
-not-false : (b : Bool) → not b ≡ false → b ≡ true
-not-false true e = refl
-not-false false e = sym e
+use Rattle.history.specs.Laws.Found.{good-name, file-there, no-file-found, live-there}
+use Rattle.history.specs.Laws.Passed.{passed-row}
+use Rattle.history.specs.Laws.Rows.{decided-cases}
+use Rattle.history.specs.Laws.Well.{came-at}
 
 module _ (k : Kind) (w : World) (b : Begins k w) where
   abbrev l : List ℕ
@@ -52,17 +51,10 @@ module _ (k : Kind) (w : World) (b : Begins k w) where
     where
       well : refusal (renameRows l t s n) ≡ 0 → outcomeOf (rename s n) w ≡ renameEffect l t s n → Came k w (rename s n)
       well rows e =
-          let r1 = passed _ 40 _ (omega arith) rows in
-          let r2 = passed _ 41 _ (omega arith) (r1 .1) in
-          let r3 = passed _ 42 _ (omega arith) (r2 .1) in
-          let r4 = passed _ 42 _ (omega arith) (r3 .1) in
-          let r5 = passed _ 2 _ (omega arith) (r4 .1) in
-          let r6 = passed _ 5 _ (omega arith) (r5 .1) in
-          let r7 = passed _ 5 _ (omega arith) (r6 .1) in
-          let r8 = passed _ 5 _ (omega arith) (r7 .1) in
-          let i = file-there k l (b .on) s (r5 .0) in
-          let fits = good-name n (r4 .0) in
-          let free = no-file-found k l (b .on) n (not-false (noFile l n) (r8 .0)) in
+          let row = passed-row (renameRows l t s n) refl rows in
+          let i = file-there k l (b .on) s (row 4) in
+          let fits = good-name n (row 3) in
+          let free = no-file-found k l (b .on) n (not-false (noFile l n) (row 7)) in
           let m : step w (rename s n) .image ≡ withName l (slotAt k (fileSlot l s)) (nameOf n .name) = ap (λ (o : Outcome). o .image) e ∙ rw (on-kind l k (b .on)) in
           came-at k w (rename s n) (fileSlot l s) _ _ (ap (λ (o : Outcome). o .number) e) m refl
           (rename-changed k l (b .on) (fileSlot l s) i n fits free)
@@ -84,14 +76,9 @@ module _ (k : Kind) (w : World) (b : Begins k w) where
           let number : outcomeOf (mode s function attr) w .number ≡ 0 = ap (λ (o : Outcome). o .number) e ∙ rw q in
           stays (ap (λ (o : Outcome). o .image) e ∙ rw q) (λ fs. after-well k w (mode s function attr) number fs ∙ rw q)
       by true q rows e =
-          let r1 = passed _ 40 _ (omega arith) rows in
-          let r2 = passed _ 41 _ (omega arith) (r1 .1) in
-          let r3 = passed _ 1 _ (omega arith) (r2 .1) in
-          let r4 = passed _ 42 _ (omega arith) (r3 .1) in
-          let r5 = passed _ 2 _ (omega arith) (r4 .1) in
-          let r6 = passed _ 5 _ (omega arith) (r5 .1) in
-          let i = file-there k l (b .on) s (r5 .0) in
-          let may : badAttr attr ≡ false = rw q at (r6 .0) in
+          let row = passed-row (modeRows l t s function attr) refl rows in
+          let i = file-there k l (b .on) s (row 4) in
+          let may : badAttr attr ≡ false = rw q at (row 5) in
           let m : step w (mode s function attr) .image ≡ withAttr l (slotAt k (fileSlot l s)) attr = ap (λ (o : Outcome). o .image) e ∙ rw (q, on-kind l k (b .on)) in
           came-at k w (mode s function attr) (fileSlot l s) _ _ (ap (λ (o : Outcome). o .number) e ∙ rw q) m refl
           (mode-changed k l (b .on) (fileSlot l s) i attr may)
@@ -112,16 +99,11 @@ module _ (k : Kind) (w : World) (b : Begins k w) where
       by false q p pe rows e =
           stays (ap (λ (o : Outcome). o .image) e ∙ rw q) (λ fs. after-well k w (close h stamp) (ap (λ (o : Outcome). o .number) e) fs ∙ rw q)
       by true q OutOfRange pe rows e =
-          let r1 = passed _ 40 _ (omega arith) rows in
-          let r2 = passed _ 41 _ (omega arith) (r1 .1) in
-          let r3 = passed _ 43 _ (omega arith) (r2 .1) in
-          absurd (let y : isOut OutOfRange ≡ false = rw pe at (r3 .0) in let z : _≡_ {A = ℕ} 0 1 = cc in omega arith)
+          let row = passed-row (closeRows l t h stamp) refl rows in
+          absurd (let y : isOut OutOfRange ≡ false = rw pe at (row 2) in let z : _≡_ {A = ℕ} 0 1 = cc in omega arith)
       by true q (Words time date) pe rows e =
-          let r1 = passed _ 40 _ (omega arith) rows in
-          let r2 = passed _ 41 _ (omega arith) (r1 .1) in
-          let r3 = passed _ 43 _ (omega arith) (r2 .1) in
-          let r4 = passed _ 6 _ (omega arith) (r3 .1) in
-          let i = live-there k l (b .on) t h (r4 .0) in
+          let row = passed-row (closeRows l t h stamp) refl rows in
+          let i = live-there k l (b .on) t h (row 3) in
           let m : step w (close h stamp) .image ≡ stamped l (slotAt k (slotOf t h)) time date = ap (λ (o : Outcome). o .image) e ∙ rw (q, pe, on-kind l k (b .on)) in
           came-at k w (close h stamp) (slotOf t h) _ _ (ap (λ (o : Outcome). o .number) e) m refl
           (close-changed k l (b .on) (slotOf t h) i time date)

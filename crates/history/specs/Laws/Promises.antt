@@ -14,6 +14,7 @@ use Rattle.writing.specs.Longer.{roomOf}
 use Rattle.writing.specs.Write.{writeCount, writeRows, writeEffect, writeOutcome, writeAt}
 use Rattle.history.specs.Came.{Came}
 use Rattle.history.specs.Promises.{Given, Begins, SoundAfterEach, FilesOfHistory, AltersNoOther, TotalAfterEach, ShortOnlyWhereFull}
+use Rattle.history.specs.Tare.{TareStays}
 use Rattle.history.specs.World.{World, Call, outcomeOf, run, check, freeClusters, entryAt, openFile, create, read, write, seek, close, delete, rename, mode, view}
 use Rattle.history.specs.Laws.Came.{came-entries, came-others}
 use Rattle.history.specs.Laws.CameFiles.{came-delete, came-create, came-write}
@@ -21,6 +22,7 @@ use Rattle.history.specs.Laws.CameMarks.{came-rename, came-mode, came-cl
 use Rattle.history.specs.Laws.Count.{write-short}
 use Rattle.history.specs.Laws.Looks.{came-check, came-free, came-entry, came-open, came-read, came-seek, came-view}
 use Rattle.history.specs.Laws.Rows.{decided-cases}
+use Rattle.history.specs.Laws.Tare as Tare
 use Rattle.history.specs.Laws.Runs.{begins-each, shows-run, total-of}
 
 -- every call
@@ -67,3 +69,6 @@ short-only-where-full k w b h bs well less =
           ] in
           subst (λ (v : ℕ). v < length bs → (room < pointerOf t h + length bs) × (0 < v → pointerOf t h + v ≡ room)) (sym value) (write-short k l (slotOf t h) (pointerOf t h) (length bs)) less
     ]
+
+pub tare-stays : TareStays
+tare-stays k = Tare.tare-stays k (came k)
