@@ -62,7 +62,7 @@ seek-hands img t handle method offset a r m fits x p = hands _ a r img m [] (see
 
 pub format-leaves : (l : List ℕ) (kind n r : ℕ) (m : List ℕ) → Formatted l kind n m → Packs n 0 r → Leaves (formatCall l kind) r m [] []
 unfolding formatCall
-format-leaves l kind n r m f p = record { is = rw (p .number-is, p .value-is) (ap (λ (o : blank.Outcome). outcome (o .number) 0 (o .image) [] []) (f .is)) }
+format-leaves l kind n r m f p = record { is = rw (p .number-is, p .value-is) (ap (λ (o : blank.AfterFormat). outcome (o .number) 0 (o .image) [] []) (f .is)) }
 
 -- ---- what is told of an image that is only read
 
