@@ -23,3 +23,4 @@ pub mod Runs
 pub mod Refused
 pub mod Shown
 pub mod Promises
+pub mod Blank
