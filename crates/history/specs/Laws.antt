@@ -24,3 +24,4 @@ pub mod Refused
 pub mod Shown
 pub mod Promises
 pub mod Blank
+pub mod Room
