@@ -25,3 +25,4 @@ pub mod Shown
 pub mod Promises
 pub mod Blank
 pub mod Room
+pub mod EndsWell
