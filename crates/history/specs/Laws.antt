@@ -26,3 +26,4 @@ pub mod Promises
 pub mod Blank
 pub mod Room
 pub mod EndsWell
+pub mod MadeFile

@@ -4,6 +4,7 @@ pub mod World
 pub mod Files
 pub mod History
 pub mod Promises
+pub mod ListingCase
 pub mod Changed
 pub mod Came
 pub mod Laws

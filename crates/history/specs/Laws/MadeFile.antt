@@ -1,0 +1,53 @@
+-- A file that is made by create, write and close in the lowest open slot of a volume, and the volume after it.
+use Prim.Native.Nat.{ℕ, suc, _+_, _-_, _*_, _≤_, _<_}
+use native.Mathlib.Omega.{arith}
+use native.Mathlib.Decide.{ℕ-discrete}
+use mathlib.Core.Bool.{Bool, true, false, cond}
+use mathlib.Core.List.{List, [], _∷_, map, _++_}
+use mathlib.Core.Logic.{_≢_, inl, inr}
+use mathlib.Core.Option.{Option, none, some}
+use mathlib.Core.Path.{_≡_, refl, sym, ap, ap₂, _∙_, subst}
+use lib.Dec.{eqb}
+use lib.ListN.{length, getD, replicate, take, drop}
+use borrow.Author.Tests.{eq-eqb, ne-eqb}
+use Rattle.image.specs.Bytes.{Bytes}
+use Rattle.chains.specs.Put.{put}
+use Rattle.chains.specs.Sizes.{clustersFor}
+use Rattle.chains.specs.Laws.Put.{put-same, put-other}
+use Rattle.diskette.specs.Places.{clusterBytes, rootAt, rootEntries, slotAt}
+use Rattle.diskette.specs.declared.Kind.{Kind}
+use Rattle.directory.specs.Slots.{NeverUsedAt}
+use Rattle.sound.specs.Counts.{freeOf}
+use Rattle.calls.specs.Laws.Ready.{on-kind}
+use Rattle.history.specs.Came.{Came}
+use Rattle.history.specs.Files.{File, file, Files, Shows, ShowsAt}
+use Rattle.history.specs.History.{after}
+use Rattle.history.specs.Promises.{Given, Begins}
+use Rattle.history.specs.World.{World, Call, Names, outcomeOf, step, run, create, write, close}
+use Rattle.history.specs.Laws.Came.{came-on, came-bytes, came-shows, came-entries}
+use Rattle.history.specs.Laws.Promises.{came}
+use Rattle.history.specs.Laws.Room.{needed, free-after}
+
+-- ---- one call, of which it is known which slot it names
+
+-- the volume has these files, and the slots above n were never used
+pub record Stands (k : Kind) (w : World) (fs : Files) (n : ℕ) : Type 0 where
+  pub begins : Begins k w
+  pub shows : Shows k (w .image) fs
+  pub above : (t : ℕ) → n < t → t < rootEntries k → NeverUsedAt (w .image) (slotAt k t)
+
+module _ (k : Kind) (w : World) (fs : Files) (n : ℕ) (below : n < rootEntries k) (x : Stands k w fs n) (c : Call) (g : Given c) (only : (t : ℕ) → Names c w t → t ≡ n) (gs : Files) (same : (t : ℕ) → after c w fs t ≡ gs t) where
+  abbrev comes : Came k w c
+  comes = came k w c (x .begins) g
+
+  pub stands-step : Stands k (step w c) gs n
+  stands-step = record {
+    begins = record { on = came-on k w c (x .begins .on) comes; bytes = came-bytes k w c (x .begins .on) (x .begins .bytes) comes };
+    shows = λ t. subst (ShowsAt k (step w c .image) t) (same t) (came-shows k w c (x .begins .on) comes fs (x .shows) t);
+    above = λ t h i.
+        let z : slotAt k t + 0 ≡ slotAt k t = omega arith in
+        (rw z at (came-entries k w c (x .begins .on) comes t i (λ q. let e = only t q in omega arith) 0 (omega arith))) ∙ x .above t h i;
+  }
+
+  pub free-step : freeOf k (step w c .image) + needed k (gs n) ≡ freeOf k (w .image) + needed k (fs n)
+  free-step = free-after k w c (x .begins .on) (stands-step .begins .on) n below only comes (fs n) (gs n) (x .shows n) (stands-step .shows n)
