@@ -27,3 +27,6 @@ pub mod Blank
 pub mod Room
 pub mod EndsWell
 pub mod MadeFile
+pub mod NewSlot
+pub mod FileMade
+pub mod ListingCase
