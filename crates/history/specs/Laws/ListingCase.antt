@@ -8,6 +8,7 @@ use mathlib.Core.Logic.{_≢_}
 use mathlib.Core.Option.{Option, none, some}
 use mathlib.Core.Path.{_≡_, refl, sym, ap, ap₂, _∙_, subst}
 use lib.ListN.{length, getD, replicate}
+use Rattle.image.specs.Bytes.{Bytes}
 use Rattle.chains.specs.Put.{put}
 use Rattle.chains.specs.Sizes.{clustersFor}
 use Rattle.chains.specs.Laws.Put.{put-same, put-other}
@@ -15,7 +16,10 @@ use Rattle.diskette.specs.Kinds.{named, kindFE, Usable}
 use Rattle.diskette.specs.Places.{clusters}
 use Rattle.diskette.specs.Laws.Kinds.{named-usable}
 use Rattle.diskette.specs.declared.WhichKind.the-variants.{Known}
-use Rattle.names.specs.Reading.{nameOf}
+use Rattle.names.specs.Alphabet.{plain, allowed, capital}
+use Rattle.names.specs.Reading.{nameOf, fitting, before, after}
+use Rattle.names.specs.Spelling.{every, eleven}
+use Rattle.names.specs.declared.Spelled.{Spelled}
 use Rattle.stamps.specs.Stamps.{packed, timeFits, dateFits}
 use Rattle.stamps.specs.declared.Packed.the-variants.{Words}
 use Rattle.volume.specs.Format.{blank, formatted}
@@ -35,5 +39,88 @@ unfolding named
 usable = named-usable 0xFE (named 0xFE) kindFE refl refl
 
 tare-read : nameOf tareGiven ≡ record { fits = true; name = tareName }
-unfolding nameOf
+unfolding nameOf fitting before after every allowed plain eleven capital
 tare-read = refl
+
+day-read : nameOf dayGiven ≡ record { fits = true; name = dayName }
+unfolding nameOf fitting before after every allowed plain eleven capital
+day-read = refl
+
+tare-stamped : packed (timeThen 6 40 0) ≡ Words 0x3500 0x0721
+unfolding packed timeFits dateFits
+tare-stamped = refl
+
+day-stamped : packed (timeThen 18 5 29) ≡ Words 0x90BD 0x0721
+unfolding packed timeFits dateFits
+day-stamped = refl
+
+tare-attr : (badAttr 0x01 ≡ false) × (archived 0x01 ≡ 0x21)
+unfolding badAttr archived
+tare-attr = (refl, refl)
+
+day-attr : (badAttr 0x00 ≡ false) × (archived 0x00 ≡ 0x20)
+unfolding badAttr archived
+day-attr = (refl, refl)
+
+all-free : clusters kindFE ≡ 313
+unfolding clusters
+all-free = refl
+
+needs : (clustersFor 512 40 ≡ 1) × (clustersFor 512 1025 ≡ 3)
+unfolding clustersFor
+needs = (refl, refl)
+
+-- ---- the volume at first
+
+abbrev no-files : Files
+no-files = λ s. none
+
+begins : HasFiles kindFE (world (blank kindFE) (replicate 16 0)) no-files 0 313
+unfolding named
+begins = record {
+  stands = record {
+    begins = blank-begins kindFE usable refl (replicate 16 0);
+    shows = blank-shows kindFE usable refl;
+    above = λ t h i. blank-slot kindFE usable t i;
+  };
+  never = blank-slot kindFE usable 0 (omega arith);
+  below = λ t h. absurd (omega arith);
+  free-are = blank-free kindFE usable refl ∙ all-free;
+  table = refl;
+}
+
+-- ---- the files that are made
+
+none-is-none : (f : File) → none ≡ some f → ⊥
+none-is-none f e = let z : _≡_ {A = ℕ} 0 1 = cc in omega arith
+
+module _ (tare : List ℕ) (bytes : Bytes tare) (long : length tare ≡ 40) where
+  good-tare : GoodFile kindFE no-files 313 tareGiven 0x01 tare (timeThen 6 40 0)
+  good-tare = record {
+    fits = ap (λ (x : Spelled). x .fits) tare-read;
+    long = ap (λ (x : Spelled). length (x .name)) tare-read;
+    new-name = λ t f e. absurd (none-is-none f e);
+    may = tare-attr .0;
+    time = 0x3500;
+    date = 0x0721;
+    stamped = tare-stamped;
+    bytes = bytes;
+    some-bytes = omega (arith, long);
+    few-bytes = omega (arith, long);
+    room = omega (arith, long);
+  }
+
+  -- the files after the first
+  abbrev first-files : Files
+  first-files = put no-files 0 (some (file (nameOf tareGiven .name) (archived 0x01) tare))
+
+  other-name : (t : ℕ) (f : File) → first-files t ≡ some f → f .name ≢ nameOf dayGiven .name
+  other-name t f e same = elim (ℕ-discrete t 0) [
+    | yes z ↦
+        let q : some (file (nameOf tareGiven .name) (archived 0x01) tare) ≡ some f = sym (put-same no-files 0 (some (file (nameOf tareGiven .name) (archived 0x01) tare)) t z) ∙ e in
+        let r : file (nameOf tareGiven .name) (archived 0x01) tare ≡ f = cc in
+        let n : tareName ≡ dayName = sym (ap (λ (x : Spelled). x .name) tare-read) ∙ ap (λ (x : File). x .name) r ∙ same ∙ ap (λ (x : Spelled). x .name) day-read in
+        let d : _≡_ {A = ℕ} 0x54 0x44 = ap (λ (x : List ℕ). getD x 0 0) n in
+        omega arith
+    | no d ↦ none-is-none f (sym (put-other no-files 0 (some (file (nameOf tareGiven .name) (archived 0x01) tare)) t d) ∙ e)
+  ]
