@@ -8,6 +8,7 @@ use mathlib.Core.Logic.{_≢_}
 use mathlib.Core.Option.{Option, none, some}
 use mathlib.Core.Path.{_≡_, refl, sym, ap, ap₂, _∙_, subst}
 use lib.ListN.{length, getD, replicate}
+use borrow.Author.Tests.{eq-eqb}
 use Rattle.image.specs.Bytes.{Bytes}
 use Rattle.chains.specs.Put.{put}
 use Rattle.chains.specs.Sizes.{clustersFor}
@@ -124,3 +125,65 @@ module _ (tare : List ℕ) (bytes : Bytes tare) (long : length tare ≡ 40) wher
         omega arith
     | no d ↦ none-is-none f (sym (put-other no-files 0 (some (file (nameOf tareGiven .name) (archived 0x01) tare)) t d) ∙ e)
   ]
+
+  abbrev one-file : World
+  one-file = run (world (blank kindFE) (replicate 16 0)) (fileCalls tareGiven 0x01 tare (timeThen 6 40 0))
+
+  first-made : HasFiles kindFE one-file first-files 1 312
+  first-made =
+      let e : 313 - clustersFor 512 (length tare) ≡ 312 = rw (long, needs .0) in
+      subst (HasFiles kindFE one-file first-files 1) e (file-made kindFE (world (blank kindFE) (replicate 16 0)) no-files 0 313 begins (omega arith) tareGiven 0x01 tare (timeThen 6 40 0) good-tare (omega arith))
+
+  module _ (day : List ℕ) (day-bytes : Bytes day) (day-long : length day ≡ 1025) where
+    good-day : GoodFile kindFE first-files 312 dayGiven 0x00 day (timeThen 18 5 29)
+    good-day = record {
+      fits = ap (λ (x : Spelled). x .fits) day-read;
+      long = ap (λ (x : Spelled). length (x .name)) day-read;
+      new-name = other-name;
+      may = day-attr .0;
+      time = 0x90BD;
+      date = 0x0721;
+      stamped = day-stamped;
+      bytes = day-bytes;
+      some-bytes = omega (arith, day-long);
+      few-bytes = omega (arith, day-long);
+      room = omega (arith, day-long);
+    }
+
+    abbrev both-files : Files
+    both-files = put first-files 1 (some (file (nameOf dayGiven .name) (archived 0x00) day))
+
+    abbrev two-files : World
+    two-files = run one-file (fileCalls dayGiven 0x00 day (timeThen 18 5 29))
+
+    second-made : HasFiles kindFE two-files both-files 2 309
+    second-made =
+        let e : 312 - clustersFor 512 (length day) ≡ 309 = rw (day-long, needs .1) in
+        subst (HasFiles kindFE two-files both-files 2) e (file-made kindFE one-file first-files 1 312 first-made (omega arith) dayGiven 0x00 day (timeThen 18 5 29) good-day (omega arith))
+
+    -- ---- what was promised
+
+    as-listed : (t : ℕ) → both-files t ≡ listingFiles tare day t
+    as-listed zero =
+        put-other first-files 1 _ 0 (λ e. omega arith) ∙ put-same no-files 0 _ 0 refl
+        ∙ ap₂ (λ name attr. some (file name attr tare)) (ap (λ (x : Spelled). x .name) tare-read) (tare-attr .1)
+    as-listed (suc zero) =
+        put-same first-files 1 _ 1 refl ∙ ap₂ (λ name attr. some (file name attr day)) (ap (λ (x : Spelled). x .name) day-read) (day-attr .1)
+    as-listed (suc (suc s)) = put-other first-files 1 _ (suc (suc s)) (λ e. omega arith) ∙ put-other no-files 0 _ (suc (suc s)) (λ e. omega arith)
+
+    ends : ListingEnds (world (blank kindFE) (replicate 16 0)) tare day
+    ends = record {
+      sound = second-made .stands .begins .on .sound;
+      files = λ t. subst (ShowsAt kindFE (two-files .image) t) (as-listed t) (second-made .stands .shows t);
+      free = second-made .free-are;
+      table = second-made .table;
+      answered-so =
+          ap₂ _++_ (file-answers kindFE (world (blank kindFE) (replicate 16 0)) no-files 0 313 begins (omega arith) tareGiven 0x01 tare (timeThen 6 40 0) good-tare)
+          (file-answers kindFE one-file first-files 1 312 first-made (omega arith) dayGiven 0x00 day (timeThen 18 5 29) good-day)
+          ∙ rw (long, day-long);
+    }
+
+pub listing-case : ListingCase
+unfolding named formatted
+listing-case img tare day e bytes long day-bytes day-long =
+    (rw (eq-eqb (length img) 163840 e), subst (λ (l : List ℕ). ListingEnds (world l (replicate 16 0)) tare day) (sym (formatted-blank kindFE usable refl img e)) (ends tare bytes long day day-bytes day-long))
