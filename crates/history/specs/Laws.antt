@@ -26,7 +26,7 @@ pub mod Promises
 pub mod Blank
 pub mod Room
 pub mod EndsWell
-pub mod MadeFile
+pub mod OneSlot
 pub mod NewSlot
 pub mod FileMade
 pub mod ListingCase

@@ -1,16 +1,15 @@
 -- The formatted volume: sound, without files, and all its clusters are free.
 use Prim.Native.Nat.{ℕ, _+_, _-_, _*_}
 use native.Mathlib.Omega.{arith}
-use mathlib.Core.Bool.{true}
 use mathlib.Core.List.{List, []}
 use mathlib.Core.Logic.{inl, inr}
 use mathlib.Core.Option.{none}
-use mathlib.Core.Path.{_≡_, refl, sym, _∙_}
+use mathlib.Core.Path.{_≡_}
 use lib.ListN.{length}
 use borrow.Author.Tests.{eq-eqb}
 use Rattle.chains.specs.Tests.{bit}
 use Rattle.chains.specs.Sums.{sum}
-use Rattle.chains.specs.Values.{Used, Valid, free, freeb}
+use Rattle.chains.specs.Values.{free, freeb}
 use Rattle.chains.specs.Laws.Sums.{sum-cong, sum-one}
 use Rattle.chains.specs.Laws.Tests.{true-says}
 use Rattle.chains.specs.Laws.Values.{free-no-use, free-one, free-sum}
@@ -34,23 +33,26 @@ module _ (k : Kind) (u : Usable k) (named-so : named (k .byte) ≡ Known k) wher
   no-file s i = i .1 .0 .0 (blank-slot k u s (i .0))
 
   blank-sound : Sound k (blank k)
-  blank-sound = (λ s. [], record {
-    tables = no-difference-from k (blank k) (blank-agrees k u) (blank-head k u 1 (omega arith)) (blank-head k u 2 (omega arith));
-    values = λ c x. x .1 (free (blank-table k u c));
-    slots = λ s x. elim (x .1) [
-      | inl y ↦ y .0 (blank-slot k u s (x .0))
-      | inr y ↦ elim y [
-        | inl z ↦ z .0 .0 (blank-slot k u s (x .0))
-        | inr z ↦ elim z [
-          | inl v ↦ v .0 .0 .0 (blank-slot k u s (x .0))
-          | inr v ↦ v .0 .0 .0 (blank-slot k u s (x .0))
+  blank-sound = (
+    λ s. [],
+    record {
+      tables = no-difference-from k (blank k) (blank-agrees k u) (blank-head k u 1 (omega arith)) (blank-head k u 2 (omega arith));
+      values = λ c x. x .1 (free (blank-table k u c));
+      slots = λ s x. elim (x .1) [
+        | inl y ↦ y .0 (blank-slot k u s (x .0))
+        | inr y ↦ elim y [
+          | inl z ↦ z .0 .0 (blank-slot k u s (x .0))
+          | inr z ↦ elim z [
+            | inl v ↦ v .0 .0 .0 (blank-slot k u s (x .0))
+            | inr v ↦ v .0 .0 .0 (blank-slot k u s (x .0))
+          ]
         ]
-      ]
-    ];
-    chains = λ s i. absurd (no-file s i);
-    apart = λ s t c i j x y. absurd (no-file s i);
-    covered = λ c h x. absurd (free-no-use (lastCluster k) (valueOf k (blank k) c) (blank-table k u c) x);
-  })
+      ];
+      chains = λ s i. absurd (no-file s i);
+      apart = λ s t c i j x y. absurd (no-file s i);
+      covered = λ c h x. absurd (free-no-use (lastCluster k) (valueOf k (blank k) c) (blank-table k u c) x);
+    },
+  )
 
   pub blank-begins : (t : List ℕ) → Begins k (world (blank k) t)
   blank-begins t = record {

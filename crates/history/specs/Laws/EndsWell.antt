@@ -4,12 +4,11 @@ use Prim.Native.Nat.{ℕ, _+_, _*_, _≤_, _<_}
 use native.Mathlib.Omega.{arith}
 use mathlib.Core.Bool.{Bool, true, false, not}
 use mathlib.Core.List.{List, []}
-use mathlib.Core.Path.{_≡_, refl, sym, ap, _∙_, subst}
-use lib.Dec.{eqb}
+use mathlib.Core.Path.{_≡_, refl, ap, _∙_}
 use lib.ListN.{length, replicate, take}
 use borrow.Author.Tests.{ne-eqb}
 use Rattle.chains.specs.Write.{accepted}
-use Rattle.diskette.specs.Places.{clusterBytes, rootAt, rootEntries, slotAt}
+use Rattle.diskette.specs.Places.{clusterBytes, rootAt, rootEntries}
 use Rattle.diskette.specs.declared.Kind.{Kind}
 use Rattle.search.specs.Search.{lowest}
 use Rattle.search.specs.declared.Found.the-variants.{At, Nothing}
@@ -19,12 +18,12 @@ use Rattle.stamps.specs.declared.Stamp.{Stamp}
 use Rattle.stamps.specs.declared.Packed.the-variants.{Words}
 use Rattle.opened.specs.Changes.{Holds}
 use Rattle.opened.specs.Places.{lowestUnused}
-use Rattle.opened.specs.Records.{placeCount, usedOf, slotOf, withRecord, withPointer, withWritten, cleared}
+use Rattle.opened.specs.Records.{placeCount, usedOf, withRecord, withPointer, withWritten}
 use Rattle.opened.specs.Laws.Places.{live-is}
 use Rattle.opened.specs.Laws.Stores.{record-only, record-holds, pointer-only, pointer-holds, written-only, written-holds}
 use Rattle.sound.specs.Counts.{freeOf}
 use Rattle.sound.specs.Files.{IsFile}
-use Rattle.calls.specs.Outcome.{Outcome, outcome, refusal, decided}
+use Rattle.calls.specs.Outcome.{outcome, refusal, decided}
 use Rattle.calls.specs.Ready.{OnVolume}
 use Rattle.calls.specs.Refusals.{badAttr, fileFound, slotForNew, notLive}
 use Rattle.calls.specs.Laws.Ready.{on-kind}

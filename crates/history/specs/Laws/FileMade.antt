@@ -1,18 +1,18 @@
 -- Create, write and close of a new file, one after the other: each ends well, and the volume has that file then.
-use Prim.Native.Nat.{ℕ, suc, _+_, _-_, _*_, _≤_, _<_}
+use Prim.Native.Nat.{ℕ, _+_, _-_, _*_, _≤_, _<_}
 use native.Mathlib.Omega.{arith}
 use native.Mathlib.Decide.{ℕ-discrete}
-use mathlib.Core.Bool.{Bool, true, false, cond}
-use mathlib.Core.List.{List, [], _∷_, map, _++_}
+use mathlib.Core.Bool.{true, false}
+use mathlib.Core.List.{List, [], _∷_, map}
 use mathlib.Core.Logic.{_≢_}
 use mathlib.Core.Option.{Option, none, some}
-use mathlib.Core.Path.{_≡_, refl, sym, ap, ap₂, _∙_, subst}
+use mathlib.Core.Path.{_≡_, refl, sym, ap, _∙_, subst}
 use lib.ListN.{length, replicate, take}
 use borrow.Author.Tests.{ne-eqb}
 use Rattle.image.specs.Bytes.{Bytes}
 use Rattle.image.specs.Laws.Store.{stored-whole}
 use Rattle.chains.specs.Put.{put}
-use Rattle.chains.specs.Write.{splice, written}
+use Rattle.chains.specs.Write.{written}
 use Rattle.chains.specs.Laws.Put.{put-same, put-other}
 use Rattle.chains.specs.Laws.Splice.{splice-end}
 use Rattle.diskette.specs.Places.{clusterBytes, rootEntries, slotAt}
@@ -23,7 +23,7 @@ use Rattle.stamps.specs.Stamps.{packed}
 use Rattle.stamps.specs.declared.Stamp.{Stamp}
 use Rattle.stamps.specs.declared.Packed.the-variants.{Words}
 use Rattle.opened.specs.Places.{lowestUnused}
-use Rattle.opened.specs.Records.{slotOf, pointerOf, writtenOf, withRecord, withPointer, withWritten, cleared}
+use Rattle.opened.specs.Records.{slotOf, withRecord, withPointer, withWritten, cleared}
 use Rattle.sound.specs.Counts.{freeOf}
 use Rattle.calls.specs.Outcome.{Outcome, outcome}
 use Rattle.calls.specs.Laws.Ready.{on-usable}
@@ -41,7 +41,7 @@ use Rattle.history.specs.ListingCase.{fileCalls, answered}
 use Rattle.history.specs.World.{World, outcomeOf, step, run, answers, create, write, close}
 use Rattle.history.specs.Laws.EndsWell.{TakenFor, place-free, taken-made, taken-written, create-well, write-well, close-well}
 use Rattle.history.specs.Laws.Looks.{after-well}
-use Rattle.history.specs.Laws.MadeFile.{Stands, stands-step, free-step}
+use Rattle.history.specs.Laws.OneSlot.{Stands, stands-step, free-step}
 use Rattle.history.specs.Laws.NewSlot.{none-of-name, lowest-open}
 use Rattle.history.specs.Laws.Room.{needed}
 

@@ -1,9 +1,8 @@
 -- How many clusters are free after a call: what the named file needs more is taken from them.
 use Prim.Native.Nat.{ℕ, _+_, _*_, _<_}
-use native.Mathlib.Omega.{arith}
 use mathlib.Core.List.{List}
 use mathlib.Core.Option.{Option, none, some}
-use mathlib.Core.Path.{_≡_, refl, sym, ap, _∙_, subst}
+use mathlib.Core.Path.{_≡_, sym, ap, _∙_, subst}
 use lib.ListN.{length}
 use Rattle.chains.specs.Holders.{Holder, Owns}
 use Rattle.chains.specs.Sizes.{clustersFor}
@@ -15,7 +14,7 @@ use Rattle.diskette.specs.Places.{firstData, clusterBytes, lastCluster, rootEnt
 use Rattle.diskette.specs.declared.Kind.{Kind}
 use Rattle.directory.specs.Fields.{startOf, sizeOf}
 use Rattle.sound.specs.Counts.{freeOf}
-use Rattle.sound.specs.Files.{valueOf, IsFile}
+use Rattle.sound.specs.Files.{valueOf}
 use Rattle.sound.specs.Holders.{rootHolders, rootChains}
 use Rattle.sound.specs.Judged.{holderAt}
 use Rattle.sound.specs.Laws.Geometry.{geometry}
@@ -25,9 +24,9 @@ use Rattle.calls.specs.Laws.Ready.{on-usable}
 use Rattle.holding.specs.Holding.{fileChain, fileBytes, FileIn}
 use Rattle.holding.specs.Laws.Chain.{chain-long, file-holds}
 use Rattle.holding.specs.Laws.Clusters.{on-clusters}
-use Rattle.history.specs.Came.{Came, Changes, stays, changes}
+use Rattle.history.specs.Came.{Came, stays, changes}
 use Rattle.history.specs.Changed.{SlotChanged}
-use Rattle.history.specs.Files.{File, Holds, ShowsAt}
+use Rattle.history.specs.Files.{File, ShowsAt}
 use Rattle.history.specs.World.{World, Call, Names, step}
 use Rattle.history.specs.Laws.Changed.{on-theory, changed-on}
 use Rattle.history.specs.Laws.Root.{root-file, root-none}

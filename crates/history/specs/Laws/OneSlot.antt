@@ -1,29 +1,16 @@
 -- A file that is made by create, write and close in the lowest open slot of a volume, and the volume after it.
-use Prim.Native.Nat.{ℕ, suc, _+_, _-_, _*_, _≤_, _<_}
+use Prim.Native.Nat.{ℕ, _+_, _-_, _<_}
 use native.Mathlib.Omega.{arith}
-use native.Mathlib.Decide.{ℕ-discrete}
-use mathlib.Core.Bool.{Bool, true, false, cond}
-use mathlib.Core.List.{List, [], _∷_, map, _++_}
-use mathlib.Core.Logic.{_≢_, inl, inr}
-use mathlib.Core.Option.{Option, none, some}
-use mathlib.Core.Path.{_≡_, refl, sym, ap, ap₂, _∙_, subst}
-use lib.Dec.{eqb}
-use lib.ListN.{length, getD, replicate, take, drop}
-use borrow.Author.Tests.{eq-eqb, ne-eqb}
-use Rattle.image.specs.Bytes.{Bytes}
-use Rattle.chains.specs.Put.{put}
-use Rattle.chains.specs.Sizes.{clustersFor}
-use Rattle.chains.specs.Laws.Put.{put-same, put-other}
-use Rattle.diskette.specs.Places.{clusterBytes, rootAt, rootEntries, slotAt}
+use mathlib.Core.Path.{_≡_, _∙_, subst}
+use Rattle.diskette.specs.Places.{rootEntries, slotAt}
 use Rattle.diskette.specs.declared.Kind.{Kind}
 use Rattle.directory.specs.Slots.{NeverUsedAt}
 use Rattle.sound.specs.Counts.{freeOf}
-use Rattle.calls.specs.Laws.Ready.{on-kind}
 use Rattle.history.specs.Came.{Came}
-use Rattle.history.specs.Files.{File, file, Files, Shows, ShowsAt}
+use Rattle.history.specs.Files.{Files, Shows, ShowsAt}
 use Rattle.history.specs.History.{after}
 use Rattle.history.specs.Promises.{Given, Begins}
-use Rattle.history.specs.World.{World, Call, Names, outcomeOf, step, run, create, write, close}
+use Rattle.history.specs.World.{World, Call, Names, step}
 use Rattle.history.specs.Laws.Came.{came-on, came-bytes, came-shows, came-entries}
 use Rattle.history.specs.Laws.Promises.{came}
 use Rattle.history.specs.Laws.Room.{needed, free-after}
