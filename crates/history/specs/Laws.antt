@@ -25,6 +25,7 @@ pub mod Shown
 pub mod Promises
 pub mod Blank
 pub mod Room
+pub mod Verdict
 pub mod EndsWell
 pub mod OneSlot
 pub mod NewSlot

@@ -2,7 +2,6 @@
 -- close; create DAY001.LOG attribute 00, write 1,025, close; stamps, for create and close alike, 1983-09-01 06:40:00 for the
 -- first file and 18:05:58 for the second." The bytes written may be any.
 use Prim.Native.Nat.{ℕ, zero, suc}
-use mathlib.Core.Bool.{true}
 use mathlib.Core.List.{List, [], _∷_, _++_, map}
 use mathlib.Core.Option.{none, some}
 use mathlib.Core.Path.{_≡_}
@@ -10,8 +9,8 @@ use lib.ListN.{length, replicate}
 use Rattle.image.specs.Bytes.{Bytes}
 use Rattle.diskette.specs.Kinds.{kindFE}
 use Rattle.stamps.specs.declared.Stamp.{Stamp}
-use Rattle.sound.specs.Counts.{freeOf}
-use Rattle.sound.specs.Judged.{isSound}
+use Rattle.sound.specs.Judged.{checkOf}
+use Rattle.sound.specs.declared.Verdict.the-variants.{Sound}
 use Rattle.volume.specs.Format.{formatted}
 use Rattle.calls.specs.Outcome.{Outcome}
 use Rattle.history.specs.Files.{file, Files, Shows}
@@ -64,9 +63,9 @@ answered o = (o .number, o .value)
 
 -- w is the world at first
 pub record ListingEnds (w : World) (tare day : List ℕ) : Type 0 where
-  pub sound : isSound (run w (listingCalls tare day) .image) ≡ true
+  -- sound, with 2 files, 309 clusters free, 4 held and none set aside
+  pub verdict : checkOf (run w (listingCalls tare day) .image) ≡ Sound 2 309 4 0
   pub files : Shows kindFE (run w (listingCalls tare day) .image) (listingFiles tare day)
-  pub free : freeOf kindFE (run w (listingCalls tare day) .image) ≡ 309
   pub table : run w (listingCalls tare day) .table ≡ replicate 16 0
   -- each call ends well: the handles are 0, the counts 40 and 1,025
   pub answered-so : map answered (answers w (listingCalls tare day)) ≡ (0, 0) ∷ (0, 40) ∷ (0, 0) ∷ (0, 0) ∷ (0, 1025) ∷ (0, 0) ∷ []

@@ -1,4 +1,4 @@
--- The formatted volume: sound, without files, and all its clusters are free.
+-- The formatted volume: sound, without files, all its clusters are free and none is set aside.
 use Prim.Native.Nat.{ℕ, _+_, _-_, _*_}
 use native.Mathlib.Omega.{arith}
 use mathlib.Core.List.{List, []}
@@ -9,15 +9,15 @@ use lib.ListN.{length}
 use borrow.Author.Tests.{eq-eqb}
 use Rattle.chains.specs.Tests.{bit}
 use Rattle.chains.specs.Sums.{sum}
-use Rattle.chains.specs.Values.{free, freeb}
-use Rattle.chains.specs.Laws.Sums.{sum-cong, sum-one}
+use Rattle.chains.specs.Values.{free, freeb, asideb}
+use Rattle.chains.specs.Laws.Sums.{sum-cong, sum-one, sum-zero}
 use Rattle.chains.specs.Laws.Tests.{true-says}
-use Rattle.chains.specs.Laws.Values.{free-no-use, free-one, free-sum}
+use Rattle.chains.specs.Laws.Values.{free-no-use, free-one, free-no-aside, free-sum, aside-sum}
 use Rattle.diskette.specs.Kinds.{named, Usable}
 use Rattle.diskette.specs.Places.{clusters, lastCluster}
 use Rattle.diskette.specs.declared.Kind.{Kind}
 use Rattle.diskette.specs.declared.WhichKind.the-variants.{Known}
-use Rattle.sound.specs.Counts.{freeOf}
+use Rattle.sound.specs.Counts.{freeOf, asideOf}
 use Rattle.sound.specs.Files.{valueOf, IsFile}
 use Rattle.sound.specs.Sound.{Sound}
 use Rattle.sound.specs.Laws.Copies.{no-difference-from}
@@ -68,6 +68,12 @@ module _ (k : Kind) (u : Usable k) (named-so : named (k .byte) ≡ Known k) wher
       let n : ℕ = lastCluster k - 1 in
       let e : sum n (λ i. bit (freeb (valueOf k (blank k) (i + 2)))) ≡ sum n (λ i. 1) = sum-cong n _ _ (λ i h. free-one (valueOf k (blank k) (i + 2)) (blank-table k u (i + 2))) in
       omega (arith, free-sum (lastCluster k) (valueOf k (blank k)), e, sum-one n)
+
+  pub blank-aside : asideOf k (blank k) ≡ 0
+  blank-aside =
+      let n : ℕ = lastCluster k - 1 in
+      let e : sum n (λ i. bit (asideb (valueOf k (blank k) (i + 2)))) ≡ sum n (λ i. 0) = sum-cong n _ _ (λ i h. free-no-aside (valueOf k (blank k) (i + 2)) (blank-table k u (i + 2))) in
+      omega (arith, aside-sum (lastCluster k) (valueOf k (blank k)), e, sum-zero n)
 
   -- what format makes of any image of that length
   pub formatted-blank : (img : List ℕ) → length img ≡ 512 * k .sectors → formatted (k .byte) img .image ≡ blank k

@@ -15,7 +15,7 @@ use Rattle.chains.specs.Put.{put}
 use Rattle.chains.specs.Write.{written}
 use Rattle.chains.specs.Laws.Put.{put-same, put-other}
 use Rattle.chains.specs.Laws.Splice.{splice-end}
-use Rattle.diskette.specs.Places.{clusterBytes, rootEntries, slotAt}
+use Rattle.diskette.specs.Places.{clusterBytes, clusters, rootEntries, slotAt}
 use Rattle.diskette.specs.declared.Kind.{Kind}
 use Rattle.directory.specs.Slots.{NeverUsedAt}
 use Rattle.names.specs.Reading.{nameOf}
@@ -24,13 +24,15 @@ use Rattle.stamps.specs.declared.Stamp.{Stamp}
 use Rattle.stamps.specs.declared.Packed.the-variants.{Words}
 use Rattle.opened.specs.Places.{lowestUnused}
 use Rattle.opened.specs.Records.{slotOf, withRecord, withPointer, withWritten, cleared}
-use Rattle.sound.specs.Counts.{freeOf}
+use Rattle.sound.specs.Counts.{fileCount, freeOf, heldOf, asideOf}
 use Rattle.calls.specs.Outcome.{Outcome, outcome}
 use Rattle.calls.specs.Laws.Ready.{on-usable}
 use Rattle.filing.specs.Create.{made}
 use Rattle.writing.specs.Write.{writtenIn}
 use Rattle.holding.specs.Laws.Clusters.{on-clusters}
 use Rattle.sound.specs.Files.{IsFile}
+use Rattle.sound.specs.Judged.{checkOf}
+use Rattle.sound.specs.declared.Verdict.the-variants.{Sound}
 use Rattle.chains.specs.Sizes.{clustersFor}
 use Rattle.chains.specs.Laws.Sizes.{clusters-zero}
 use Rattle.calls.specs.Refusals.{badAttr}
@@ -41,9 +43,11 @@ use Rattle.history.specs.ListingCase.{fileCalls, answered}
 use Rattle.history.specs.World.{World, outcomeOf, step, run, answers, create, write, close}
 use Rattle.history.specs.Laws.EndsWell.{TakenFor, place-free, taken-made, taken-written, create-well, write-well, close-well}
 use Rattle.history.specs.Laws.Looks.{after-well}
-use Rattle.history.specs.Laws.OneSlot.{Stands, stands-step, free-step}
+use Rattle.history.specs.Laws.OneSlot.{Stands, stands-step, free-step, aside-step}
 use Rattle.history.specs.Laws.NewSlot.{none-of-name, lowest-open}
 use Rattle.history.specs.Laws.Room.{needed}
+use Rattle.history.specs.Laws.Runs.{total-of}
+use Rattle.history.specs.Laws.Verdict.{sound-verdict, first-count}
 
 -- ---- what is put is there
 
@@ -72,13 +76,27 @@ three e f g = rw (e, f, g)
 
 -- ---- the volume before and after
 
--- files in the slots below n, the others never used; so many clusters are free, and the one place of the table is not taken
+-- files in the slots below n, the others never used; so many clusters are free, none is set aside, and the one place of the
+-- table is not taken
 pub record HasFiles (k : Kind) (w : World) (fs : Files) (n free : ℕ) : Type 0 where
   pub stands : Stands k w fs n
   pub never : NeverUsedAt (w .image) (slotAt k n)
   pub below : (t : ℕ) → t < n → (f : File) × (fs t ≡ some f)
   pub free-are : freeOf k (w .image) ≡ free
+  pub aside-none : asideOf k (w .image) ≡ 0
   pub table : w .table ≡ replicate 16 0
+
+-- what check answers of it
+pub verdict-of : (k : Kind) (w : World) (fs : Files) (n free : ℕ) → HasFiles k w fs n free → n < rootEntries k → checkOf (w .image) ≡ Sound n free (clusters k - free) 0
+verdict-of k w fs n free x h =
+    let files : fileCount k (w .image) ≡ n = first-count k (w .image) n (omega arith)
+    (λ t i. subst (ShowsAt k (w .image) t) (x .below t i .1) (x .stands .shows t) .is-file)
+    (λ t i f. f .1 .0 .0 (elim (ℕ-discrete t n) as (λ _. NeverUsedAt (w .image) (slotAt k t)) [
+      | yes e ↦ rw e (x .never)
+      | no d ↦ x .stands .above t (omega arith) (f .0)
+    ])) in
+    let held : heldOf k (w .image) ≡ clusters k - free = omega (arith, total-of k w (x .stands .begins), x .free-are, x .aside-none) in
+    sound-verdict k (w .image) (x .stands .begins .on) ∙ rw (files, x .free-are, held, x .aside-none)
 
 -- what is given for a new file: the calls have no reason to refuse it
 pub record GoodFile (k : Kind) (fs : Files) (free : ℕ) (s : List ℕ) (attr : ℕ) (bs : List ℕ) (stamp : Stamp) : Type 0 where
@@ -209,6 +227,13 @@ module _ (k : Kind) (w : World) (fs : Files) (n free : ℕ) (x : HasFiles k w fs
       let b : needed k (put-file (archived attr) bs n) ≡ clustersFor (clusterBytes k) (length bs) = ap (needed k) (there (archived attr) bs) in
       omega (arith, e, a, b, free2)
 
+  aside3 : asideOf k (w3 .image) ≡ 0
+  aside3 =
+      aside-step k w2 (put-file attr bs) n slot stands2 (close 0 stamp) tt only3 (put-file (archived attr) bs) after3
+      ∙ aside-step k w1 (put-file attr []) n slot stands1 (write 0 bs) (g .bytes) only2 (put-file attr bs) after2
+      ∙ aside-step k w fs n slot (x .stands) (create s attr stamp) tt (λ t e. e ∙ slot-created) (put-file attr []) after1
+      ∙ x .aside-none
+
   -- ---- all three
 
   pub file-answers : map answered (answers w (fileCalls s attr bs stamp)) ≡ (0, 0) ∷ (0, length bs) ∷ (0, 0) ∷ []
@@ -223,5 +248,6 @@ module _ (k : Kind) (w : World) (fs : Files) (n free : ℕ) (x : HasFiles k w fs
       | no d ↦ let y = x .below t (omega arith) in (y .0, put-other fs n (some (file name (archived attr) bs)) t d ∙ y .1)
     ];
     free-are = omega (arith, free3);
+    aside-none = aside3;
     table = table3;
   }

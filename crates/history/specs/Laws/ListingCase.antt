@@ -29,8 +29,8 @@ use Rattle.opening.specs.Close.{archived}
 use Rattle.history.specs.Files.{File, file, Files, ShowsAt}
 use Rattle.history.specs.ListingCase.{tareGiven, tareName, dayGiven, dayName, timeThen, fileCalls, listingFiles, ListingEnds, ListingCase}
 use Rattle.history.specs.World.{World, world, run}
-use Rattle.history.specs.Laws.Blank.{blank-begins, blank-shows, blank-free, formatted-blank}
-use Rattle.history.specs.Laws.FileMade.{HasFiles, GoodFile, file-answers, file-made}
+use Rattle.history.specs.Laws.Blank.{blank-begins, blank-shows, blank-free, blank-aside, formatted-blank}
+use Rattle.history.specs.Laws.FileMade.{HasFiles, verdict-of, GoodFile, file-answers, file-made}
 
 -- ---- what the checker computes
 
@@ -86,6 +86,7 @@ begins = record {
   never = blank-slot kindFE usable 0 (omega arith);
   below = λ t h. absurd (omega arith);
   free-are = blank-free kindFE usable refl ∙ all-free;
+  aside-none = blank-aside kindFE usable refl;
   table = refl;
 }
 
@@ -172,9 +173,8 @@ module _ (tare : List ℕ) (bytes : Bytes tare) (long : length tare ≡ 40) wher
 
     ends : ListingEnds (world (blank kindFE) (replicate 16 0)) tare day
     ends = record {
-      sound = second-made .stands .begins .on .sound;
+      verdict = verdict-of kindFE two-files both-files 2 309 second-made (omega arith) ∙ rw all-free;
       files = λ t. subst (ShowsAt kindFE (two-files .image) t) (as-listed t) (second-made .stands .shows t);
-      free = second-made .free-are;
       table = second-made .table;
       answered-so =
           ap₂ _++_ (file-answers kindFE (world (blank kindFE) (replicate 16 0)) no-files 0 313 begins (omega arith) tareGiven 0x01 tare (timeThen 6 40 0) good-tare)

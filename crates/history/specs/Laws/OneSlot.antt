@@ -5,7 +5,7 @@ use mathlib.Core.Path.{_≡_, _∙_, subst}
 use Rattle.diskette.specs.Places.{rootEntries, slotAt}
 use Rattle.diskette.specs.declared.Kind.{Kind}
 use Rattle.directory.specs.Slots.{NeverUsedAt}
-use Rattle.sound.specs.Counts.{freeOf}
+use Rattle.sound.specs.Counts.{freeOf, asideOf}
 use Rattle.history.specs.Came.{Came}
 use Rattle.history.specs.Files.{Files, Shows, ShowsAt}
 use Rattle.history.specs.History.{after}
@@ -13,7 +13,7 @@ use Rattle.history.specs.Promises.{Given, Begins}
 use Rattle.history.specs.World.{World, Call, Names, step}
 use Rattle.history.specs.Laws.Came.{came-on, came-bytes, came-shows, came-entries}
 use Rattle.history.specs.Laws.Promises.{came}
-use Rattle.history.specs.Laws.Room.{needed, free-after}
+use Rattle.history.specs.Laws.Room.{needed, free-after, aside-after}
 
 -- ---- one call, of which it is known which slot it names
 
@@ -38,3 +38,6 @@ module _ (k : Kind) (w : World) (fs : Files) (n : ℕ) (below : n < rootEntries 
 
   pub free-step : freeOf k (step w c .image) + needed k (gs n) ≡ freeOf k (w .image) + needed k (fs n)
   free-step = free-after k w c (x .begins .on) (stands-step .begins .on) n below only comes (fs n) (gs n) (x .shows n) (stands-step .shows n)
+
+  pub aside-step : asideOf k (step w c .image) ≡ asideOf k (w .image)
+  aside-step = aside-after k w c (x .begins .on) comes

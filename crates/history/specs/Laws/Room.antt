@@ -1,4 +1,4 @@
--- How many clusters are free after a call: what the named file needs more is taken from them.
+-- How many clusters are free after a call: what the named file needs more is taken from them. No value is set aside by a call.
 use Prim.Native.Nat.{ℕ, _+_, _*_, _<_}
 use mathlib.Core.List.{List}
 use mathlib.Core.Option.{Option, none, some}
@@ -8,12 +8,12 @@ use Rattle.chains.specs.Holders.{Holder, Owns}
 use Rattle.chains.specs.Sizes.{clustersFor}
 use Rattle.chains.specs.Laws.Content.{content-length}
 use Rattle.chains.specs.Laws.Holders.{owns-same}
-use Rattle.chains.specs.Laws.ReplaceCounts.{replace-free}
+use Rattle.chains.specs.Laws.ReplaceCounts.{replace-free, replace-aside}
 use Rattle.contents.specs.Laws.Chain.{chain-room}
 use Rattle.diskette.specs.Places.{firstData, clusterBytes, lastCluster, rootEntries, slotAt}
 use Rattle.diskette.specs.declared.Kind.{Kind}
 use Rattle.directory.specs.Fields.{startOf, sizeOf}
-use Rattle.sound.specs.Counts.{freeOf}
+use Rattle.sound.specs.Counts.{freeOf, asideOf}
 use Rattle.sound.specs.Files.{valueOf}
 use Rattle.sound.specs.Holders.{rootHolders, rootChains}
 use Rattle.sound.specs.Judged.{holderAt}
@@ -74,3 +74,10 @@ module _ (k : Kind) (w : World) (c : Call) (v : OnVolume (w .image) k) (after : 
       ap (λ (n : ℕ). freeOf k (step w c .image) + n) (sym (chain-needed k (step w c .image) after s h p now))
       ∙ chain-free x
       ∙ ap (λ (n : ℕ). freeOf k (w .image) + n) (chain-needed k (w .image) v s h o before)
+
+-- values set aside stay as many
+pub aside-after : (k : Kind) (w : World) (c : Call) → OnVolume (w .image) k → Came k w c → asideOf k (step w c .image) ≡ asideOf k (w .image)
+aside-after k w c v (stays e x) = ap (asideOf k) e
+aside-after k w c v (changes s ds x) =
+    replace-aside (geometry k (on-usable (w .image) k v)) (valueOf k (w .image)) (valueOf k (step w c .image)) (rootHolders k (w .image)) (rootChains k (w .image)) (on-theory k (w .image) v) (slotAt k s)
+    (holderAt (clusterBytes k) (step w c .image) (slotAt k s)) ds (x .changed .chain)
