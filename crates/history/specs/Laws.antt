@@ -29,5 +29,7 @@ pub mod Verdict
 pub mod EndsWell
 pub mod OneSlot
 pub mod NewSlot
+pub mod OneFile
+pub mod HasFiles
 pub mod FileMade
 pub mod ListingCase

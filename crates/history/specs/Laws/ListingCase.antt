@@ -30,7 +30,8 @@ use Rattle.history.specs.Files.{File, file, Files, ShowsAt}
 use Rattle.history.specs.ListingCase.{tareGiven, tareName, dayGiven, dayName, timeThen, fileCalls, listingFiles, ListingEnds, ListingCase}
 use Rattle.history.specs.World.{World, world, run}
 use Rattle.history.specs.Laws.Blank.{blank-begins, blank-shows, blank-free, blank-aside, formatted-blank}
-use Rattle.history.specs.Laws.FileMade.{HasFiles, verdict-of, GoodFile, file-answers, file-made}
+use Rattle.history.specs.Laws.FileMade.{GoodFile, file-answers, file-made}
+use Rattle.history.specs.Laws.HasFiles.{HasFiles, verdict-of}
 
 -- ---- what the checker computes
 
