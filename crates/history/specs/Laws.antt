@@ -29,6 +29,7 @@ pub mod Verdict
 pub mod EndsWell
 pub mod OneSlot
 pub mod NewSlot
+pub mod Stamped
 pub mod OneFile
 pub mod HasFiles
 pub mod FileMade

@@ -8,7 +8,12 @@ use mathlib.Core.Path.{_≡_}
 use lib.ListN.{length, replicate}
 use Rattle.image.specs.Bytes.{Bytes}
 use Rattle.diskette.specs.Kinds.{kindFE}
+use Rattle.diskette.specs.Places.{slotAt}
+use Rattle.diskette.specs.declared.Kind.{Kind}
+use Rattle.directory.specs.Fields.{timeOf, dateOf}
+use Rattle.stamps.specs.Stamps.{packed}
 use Rattle.stamps.specs.declared.Stamp.{Stamp}
+use Rattle.stamps.specs.declared.Packed.the-variants.{Words}
 use Rattle.sound.specs.Judged.{checkOf}
 use Rattle.sound.specs.declared.Verdict.the-variants.{Sound}
 use Rattle.volume.specs.Format.{formatted}
@@ -57,6 +62,10 @@ listingFiles tare day zero = some (file tareName 0x21 tare)
 listingFiles tare day (suc zero) = some (file dayName 0x20 day)
 listingFiles tare day (suc (suc s)) = none
 
+-- the entry in slot s has the words of this stamp
+abbrev pub HasStamp : Kind → List ℕ → ℕ → Stamp → Type 0
+HasStamp k l s stamp = Words (timeOf l (slotAt k s)) (dateOf l (slotAt k s)) ≡ packed stamp
+
 -- number and value of an answer
 abbrev pub answered : Outcome → ℕ × ℕ
 answered o = (o .number, o .value)
@@ -66,6 +75,8 @@ pub record ListingEnds (w : World) (tare day : List ℕ) : Type 0 where
   -- sound, with 2 files, 309 clusters free, 4 held and none set aside
   pub verdict : checkOf (run w (listingCalls tare day) .image) ≡ Sound 2 309 4 0
   pub files : Shows kindFE (run w (listingCalls tare day) .image) (listingFiles tare day)
+  pub tare-stamp : HasStamp kindFE (run w (listingCalls tare day) .image) 0 (timeThen 6 40 0)
+  pub day-stamp : HasStamp kindFE (run w (listingCalls tare day) .image) 1 (timeThen 18 5 29)
   pub table : run w (listingCalls tare day) .table ≡ replicate 16 0
   -- each call ends well: the handles are 0, the counts 40 and 1,025
   pub answered-so : map answered (answers w (listingCalls tare day)) ≡ (0, 0) ∷ (0, 40) ∷ (0, 0) ∷ (0, 0) ∷ (0, 1025) ∷ (0, 0) ∷ []

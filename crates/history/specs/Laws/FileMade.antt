@@ -1,5 +1,5 @@
 -- Create, write and close of a new file, one after the other: each ends well, and the volume has that file then.
-use Prim.Native.Nat.{ℕ, _+_, _-_, _*_, _≤_, _<_}
+use Prim.Native.Nat.{ℕ, _+_, _-_, _≤_, _<_}
 use native.Mathlib.Omega.{arith}
 use native.Mathlib.Decide.{ℕ-discrete}
 use mathlib.Core.Bool.{true, false}
@@ -9,17 +9,16 @@ use mathlib.Core.Option.{Option, none, some}
 use mathlib.Core.Path.{_≡_, refl, sym, ap, _∙_, subst}
 use lib.ListN.{length, replicate, take}
 use borrow.Author.Tests.{ne-eqb}
-use Rattle.image.specs.Bytes.{Bytes}
 use Rattle.image.specs.Laws.Store.{stored-whole}
 use Rattle.chains.specs.Put.{put}
 use Rattle.chains.specs.Write.{written}
 use Rattle.chains.specs.Laws.Put.{put-same, put-other}
 use Rattle.chains.specs.Sizes.{clustersFor}
 use Rattle.chains.specs.Laws.Sizes.{clusters-zero}
-use Rattle.diskette.specs.Places.{clusterBytes, rootEntries}
+use Rattle.diskette.specs.Places.{clusterBytes, rootEntries, slotAt}
 use Rattle.diskette.specs.declared.Kind.{Kind}
+use Rattle.directory.specs.Fields.{timeOf, dateOf}
 use Rattle.names.specs.Reading.{nameOf}
-use Rattle.stamps.specs.Stamps.{packed}
 use Rattle.stamps.specs.declared.Stamp.{Stamp}
 use Rattle.stamps.specs.declared.Packed.the-variants.{Words}
 use Rattle.sound.specs.Counts.{freeOf, asideOf}
@@ -27,40 +26,27 @@ use Rattle.sound.specs.Files.{IsFile}
 use Rattle.opened.specs.Places.{lowestUnused}
 use Rattle.opened.specs.Records.{slotOf, withRecord, withPointer, withWritten, cleared}
 use Rattle.calls.specs.Outcome.{Outcome, outcome}
-use Rattle.calls.specs.Laws.Ready.{on-usable}
-use Rattle.calls.specs.Refusals.{badAttr}
-use Rattle.opening.specs.Close.{archived, closeEffect}
+use Rattle.calls.specs.Laws.Ready.{on-kind, on-usable}
+use Rattle.calls.specs.Laws.Files.{slot-within}
+use Rattle.opening.specs.Close.{archived, stamped, closeEffect}
 use Rattle.holding.specs.Laws.Clusters.{on-clusters}
 use Rattle.filing.specs.Create.{made}
 use Rattle.writing.specs.Write.{writtenIn}
 use Rattle.history.specs.Files.{File, file, Files, ShowsAt}
 use Rattle.history.specs.History as history
-use Rattle.history.specs.ListingCase.{fileCalls, answered}
+use Rattle.history.specs.ListingCase.{fileCalls, HasStamp, answered}
 use Rattle.history.specs.World.{World, outcomeOf, step, run, answers, create, write, close}
 use Rattle.history.specs.Laws.EndsWell.{TakenFor, place-free, taken-made, taken-written, create-well, write-well, close-well}
 use Rattle.history.specs.Laws.Looks.{after-well}
-use Rattle.history.specs.Laws.OneSlot.{Stands, stands-step, free-step, aside-step}
+use Rattle.history.specs.Laws.OneSlot.{Stands, stands-step, others-step, free-step, aside-step}
 use Rattle.history.specs.Laws.NewSlot.{none-of-name, lowest-open}
 use Rattle.history.specs.Laws.Room.{needed}
-use Rattle.history.specs.Laws.HasFiles.{HasFiles}
+use Rattle.history.specs.Laws.HasFiles.{HasFiles, GoodFile}
+use Rattle.history.specs.Laws.Stamped.{stamped-words, same-stamp}
 use Rattle.history.specs.Laws.OneFile.{at-again, take-all, written-first}
 
 three : {A : Type 0} {a b c x y z : A} → a ≡ x → b ≡ y → c ≡ z → a ∷ b ∷ c ∷ [] ≡ x ∷ y ∷ z ∷ []
 three e f g = rw (e, f, g)
-
--- what is given for a new file: the calls have no reason to refuse it
-pub record GoodFile (k : Kind) (fs : Files) (free : ℕ) (s : List ℕ) (attr : ℕ) (bs : List ℕ) (stamp : Stamp) : Type 0 where
-  pub fits : nameOf s .fits ≡ true
-  pub long : length (nameOf s .name) ≡ 11
-  pub new-name : (t : ℕ) (f : File) → fs t ≡ some f → f .name ≢ nameOf s .name
-  pub may : badAttr attr ≡ false
-  pub time : ℕ
-  pub date : ℕ
-  pub stamped : packed stamp ≡ Words time date
-  pub bytes : Bytes bs
-  pub some-bytes : 0 < length bs
-  pub few-bytes : length bs < 4294967296
-  pub room : length bs ≤ free * clusterBytes k
 
 module _ (k : Kind) (w : World) (fs : Files) (n free : ℕ) (x : HasFiles k w fs n free) (slot : n < rootEntries k) (s : List ℕ) (attr : ℕ) (bs : List ℕ) (stamp : Stamp) (g : GoodFile k fs free s attr bs stamp) where
   abbrev name : List ℕ
@@ -183,6 +169,21 @@ module _ (k : Kind) (w : World) (fs : Files) (n free : ℕ) (x : HasFiles k w fs
       ∙ aside-step k world-created (put-file attr []) n slot stands-created (write 0 bs) (g .bytes) only-wrote (put-file attr bs) after-wrote
       ∙ aside-step k w fs n slot (x .stands) (create s attr stamp) tt (λ t e. e ∙ slot-created) (put-file attr []) after-created
       ∙ x .aside-none
+
+  -- its stamp is there, and those of the others stay
+  pub file-stamp : HasStamp k (world-closed .image) n stamp
+  file-stamp =
+      let v = stands-wrote .begins .on in
+      let e : world-closed .image ≡ stamped (world-wrote .image) (slotAt k n) (g .time) (g .date) = ap (λ (o : Outcome). o .image) closed ∙ rw (taken-wrote .holds .written, taken-wrote .holds .slot, g .stamped, on-kind (world-wrote .image) k v) in
+      ap (λ (l : List ℕ). Words (timeOf l (slotAt k n)) (dateOf l (slotAt k n))) e
+      ∙ stamped-words (world-wrote .image) (slotAt k n) (g .time) (g .date) (slot-within (world-wrote .image) k v n (slotAt k n) slot refl) (g .small-time) (g .small-date)
+      ∙ sym (g .stamped)
+
+  pub other-stamp : (t : ℕ) → t < rootEntries k → t ≢ n → (old : Stamp) → HasStamp k (w .image) t old → HasStamp k (world-closed .image) t old
+  other-stamp t i d old h =
+      same-stamp k (world-wrote .image) (world-closed .image) t old (others-step k world-wrote (put-file attr bs) n slot stands-wrote (close 0 stamp) tt only-closed (put-file (archived attr) bs) after-closed t i d)
+      (same-stamp k (world-created .image) (world-wrote .image) t old (others-step k world-created (put-file attr []) n slot stands-created (write 0 bs) (g .bytes) only-wrote (put-file attr bs) after-wrote t i d)
+      (same-stamp k (w .image) (world-created .image) t old (others-step k w fs n slot (x .stands) (create s attr stamp) tt (λ j e. e ∙ slot-created) (put-file attr []) after-created t i d) h))
 
   -- ---- all three
 

@@ -30,8 +30,8 @@ use Rattle.history.specs.Files.{File, file, Files, ShowsAt}
 use Rattle.history.specs.ListingCase.{tareGiven, tareName, dayGiven, dayName, timeThen, fileCalls, listingFiles, ListingEnds, ListingCase}
 use Rattle.history.specs.World.{World, world, run}
 use Rattle.history.specs.Laws.Blank.{blank-begins, blank-shows, blank-free, blank-aside, formatted-blank}
-use Rattle.history.specs.Laws.FileMade.{GoodFile, file-answers, file-made}
-use Rattle.history.specs.Laws.HasFiles.{HasFiles, verdict-of}
+use Rattle.history.specs.Laws.FileMade.{file-stamp, other-stamp, file-answers, file-made}
+use Rattle.history.specs.Laws.HasFiles.{HasFiles, GoodFile, verdict-of}
 
 -- ---- what the checker computes
 
@@ -106,6 +106,8 @@ module _ (tare : List ℕ) (bytes : Bytes tare) (long : length tare ≡ 40) wher
     time = 0x3500;
     date = 0x0721;
     stamped = tare-stamped;
+    small-time = omega arith;
+    small-date = omega arith;
     bytes = bytes;
     some-bytes = omega (arith, long);
     few-bytes = omega (arith, long);
@@ -145,6 +147,8 @@ module _ (tare : List ℕ) (bytes : Bytes tare) (long : length tare ≡ 40) wher
       time = 0x90BD;
       date = 0x0721;
       stamped = day-stamped;
+      small-time = omega arith;
+      small-date = omega arith;
       bytes = day-bytes;
       some-bytes = omega (arith, day-long);
       few-bytes = omega (arith, day-long);
@@ -176,6 +180,10 @@ module _ (tare : List ℕ) (bytes : Bytes tare) (long : length tare ≡ 40) wher
     ends = record {
       verdict = verdict-of kindFE two-files both-files 2 309 second-made (omega arith) ∙ rw all-free;
       files = λ t. subst (ShowsAt kindFE (two-files .image) t) (as-listed t) (second-made .stands .shows t);
+      tare-stamp =
+          other-stamp kindFE one-file first-files 1 312 first-made (omega arith) dayGiven 0x00 day (timeThen 18 5 29) good-day 0 (omega arith) (λ e. omega arith) (timeThen 6 40 0)
+          (file-stamp kindFE (world (blank kindFE) (replicate 16 0)) no-files 0 313 begins (omega arith) tareGiven 0x01 tare (timeThen 6 40 0) good-tare);
+      day-stamp = file-stamp kindFE one-file first-files 1 312 first-made (omega arith) dayGiven 0x00 day (timeThen 18 5 29) good-day;
       table = second-made .table;
       answered-so =
           ap₂ _++_ (file-answers kindFE (world (blank kindFE) (replicate 16 0)) no-files 0 313 begins (omega arith) tareGiven 0x01 tare (timeThen 6 40 0) good-tare)

@@ -1,11 +1,15 @@
 -- A file that is made by create, write and close in the lowest open slot of a volume, and the volume after it.
 use Prim.Native.Nat.{ℕ, _+_, _-_, _<_}
 use native.Mathlib.Omega.{arith}
-use mathlib.Core.Path.{_≡_, _∙_, subst}
+use mathlib.Core.Logic.{_≢_}
+use mathlib.Core.Path.{_≡_, refl, _∙_, subst}
 use Rattle.diskette.specs.Places.{rootEntries, slotAt}
 use Rattle.diskette.specs.declared.Kind.{Kind}
+use Rattle.directory.specs.Entries.{SameFields}
 use Rattle.directory.specs.Slots.{NeverUsedAt}
+use Rattle.directory.specs.Laws.Entries.{same-fields}
 use Rattle.sound.specs.Counts.{freeOf, asideOf}
+use Rattle.calls.specs.Laws.Files.{slot-within}
 use Rattle.history.specs.Came.{Came}
 use Rattle.history.specs.Files.{Files, Shows, ShowsAt}
 use Rattle.history.specs.History.{after}
@@ -35,6 +39,12 @@ module _ (k : Kind) (w : World) (fs : Files) (n : ℕ) (below : n < rootEntries 
         let z : slotAt k t + 0 ≡ slotAt k t = omega arith in
         (rw z at (came-entries k w c (x .begins .on) comes t i (λ q. let e = only t q in omega arith) 0 (omega arith))) ∙ x .above t h i;
   }
+
+  -- every other entry
+  pub others-step : (t : ℕ) → t < rootEntries k → t ≢ n → SameFields (step w c .image) (slotAt k t) (w .image) (slotAt k t)
+  others-step t i d =
+      same-fields (step w c .image) (w .image) (slotAt k t) (slotAt k t) (slot-within (step w c .image) k (stands-step .begins .on) t (slotAt k t) i refl) (slot-within (w .image) k (x .begins .on) t (slotAt k t) i refl)
+      (came-entries k w c (x .begins .on) comes t i (λ q. d (only t q)))
 
   pub free-step : freeOf k (step w c .image) + needed k (gs n) ≡ freeOf k (w .image) + needed k (fs n)
   free-step = free-after k w c (x .begins .on) (stands-step .begins .on) n below only comes (fs n) (gs n) (x .shows n) (stands-step .shows n)
