@@ -28,3 +28,14 @@ pub mod TarePlaces
 pub mod TareCalls
 pub mod Tare
 pub mod Promises
+pub mod Blank
+pub mod Room
+pub mod Verdict
+pub mod EndsWell
+pub mod OneSlot
+pub mod NewSlot
+pub mod Stamped
+pub mod OneFile
+pub mod HasFiles
+pub mod FileMade
+pub mod ListingCase

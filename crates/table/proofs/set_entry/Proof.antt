@@ -1,5 +1,5 @@
 -- One store after the other.
-use Rattle.table.specs.Entries.{setBoth}
+use Rattle.table.specs.Laws.Copies.{both-stored}
 use borrow.Author.Needs.{needs}
 use Rattle.table.proofs.set_entry.Statement.{statement}
 use Rattle.table.proofs.set_entry.Tie as tie
@@ -14,8 +14,7 @@ same-length : tie.Need-same-length
 same-length c = search needs
 
 returns : tie.Need-returns
-unfolding setBoth
-returns c = cc
+returns c = search both-stored
 
 pub set-entry-spec : {M : Type 1} → statement M
 set-entry-spec = tie.close (tie.spec set-at-requires set-at-requires-2 same-length returns)

@@ -27,6 +27,11 @@ reaches-cluster k l n u h i = record { low = omega arith; high = omega arith }
 
 -- ---- what a write leaves
 
+-- the code's two stores, one after the other
+pub both-stored : (second : ℕ) (l : List ℕ) (n v : ℕ) (m : List ℕ) → m ≡ setAt 512 l n v → (r : List ℕ) → r ≡ setAt second m n v → r ≡ setBoth second l n v
+unfolding setBoth
+both-stored second l n v m e r q = q ∙ rw e
+
 module _ (second : ℕ) (l : List ℕ) (n v : ℕ) where
   pub length-setBoth : length (setBoth second l n v) ≡ length l
   unfolding setBoth

@@ -1,6 +1,6 @@
 -- Three numbers, or none where the word is out of range.
 use Rattle.text.specs.Stamps.{timeShown}
-use Rattle.text.specs.Laws.Puts.{puts-shown}
+use Rattle.text.specs.Laws.Puts.{puts-shown, time-put}
 use borrow.Author.Needs.{needs}
 use Rattle.text.proofs.put_time.Statement.{statement}
 use Rattle.text.proofs.put_time.Tie as tie
@@ -42,8 +42,7 @@ same-length : tie.Need-same-length
 same-length c = search needs
 
 returns : tie.Need-returns
-unfolding timeShown
-returns c = search (needs, puts-shown timeShown)
+returns c = search time-put
 
 same-length-2 : tie.Need-same-length-2
 same-length-2 c = search needs
