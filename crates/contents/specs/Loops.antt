@@ -1,4 +1,4 @@
--- How far a loop along a chain has come: it goes run by run, a run being what lies in one cluster.
+-- An aid to the proofs: how far a loop along a chain has come: it goes run by run, a run being what lies in one cluster.
 use Prim.Native.Nat.{ℕ, _+_, _-_, _/_, _%_, _≤_, _<_, min}
 use mathlib.Core.List.{List}
 use mathlib.Core.Path.{_≡_}
