@@ -1,0 +1,135 @@
+"""Volumes that DOSBox's own FAT code fills, deletes from and renames on. Debian's DOSBox has no command that formats, so
+mformat does."""
+
+import os
+import subprocess
+
+from counts import expect
+from exchange import content, contents, exchange, taken
+from volume import DISKETTES, ENVIRONMENT, Volume
+
+# Far more than a run takes; most are below a second.
+SECONDS = 20
+
+SETTINGS = """[sdl]
+output=surface
+[mixer]
+nosound=true
+[midi]
+mididevice=none
+[cpu]
+cycles=max
+[autoexec]
+@echo off
+"""
+
+
+def commanded(folder, *lines):
+    """Runs DOSBox without a screen on these commands; whether it came to their end."""
+    host = os.path.join(folder, "host")
+    os.makedirs(host, exist_ok=True)
+    settings = os.path.join(folder, "dosbox.conf")
+    with open(settings, "w") as file:
+        text = [f"mount c {host}", *lines, "echo end > c:\\END.TXT", "exit"]
+        file.write(SETTINGS + "".join(f"{line}\n" for line in text))
+    # Its own settings would go to the home folder.
+    environment = dict(ENVIRONMENT, HOME=folder, SDL_VIDEODRIVER="dummy", SDL_AUDIODRIVER="dummy")
+    command = ["dosbox", "-conf", settings]
+    try:
+        subprocess.run(command, env=environment, capture_output=True, stdin=subprocess.DEVNULL, timeout=SECONDS)
+    except subprocess.TimeoutExpired:
+        return False
+    finally:
+        os.remove(settings)
+    end = os.path.join(host, "END.TXT")
+    if not os.path.exists(end):
+        return False
+    os.remove(end)
+    return True
+
+
+def runs(folder):
+    return commanded(folder)
+
+
+class Host:
+    """The host's folder that DOSBox has as its drive C."""
+
+    def __init__(self, folder):
+        self.folder = os.path.join(folder, "host")
+
+    def put(self, files):
+        for name, data in files.items():
+            with open(os.path.join(self.folder, name), "wb") as file:
+                file.write(data)
+
+    def take(self, name):
+        return taken(os.path.join(self.folder, name))
+
+
+def changed(volume, *lines):
+    """Has DOSBox run these commands with the volume as drive A."""
+    mounted = f"imgmount a {volume.path} -t floppy"
+    expect(commanded(volume.folder, mounted, *lines), True, f"{volume.title}: DOSBox comes to its end")
+
+
+def filled(folder, kilobytes, files):
+    """A volume with these files, copied by DOSBox."""
+    volume = Volume(folder, kilobytes, "DOSBox")
+    volume.tool("mformat", "-C", "-f", str(kilobytes), "::")
+    host = Host(folder)
+    host.put(files)
+    changed(volume, *(f"copy c:\\{name} a:\\{name}" for name in files))
+    for name in files:
+        host.take(name)
+    return volume
+
+
+def try_exchange(folder, kilobytes):
+    files = contents()
+    volume = filled(folder, kilobytes, {**files, "FIRST.OUT": content("FIRST.OUT", 3001), "OLD.NAM": b"renamed"})
+    Host(folder).put({"LATER.BIN": content("LATER.BIN", 9001)})
+    # The current drive must be A: for a rename. LATER.BIN lies in pieces then.
+    changed(volume, "a:", "del a:\\FIRST.OUT", "del a:\\ONE.511", "ren OLD.NAM NEW2.NAM", "copy c:\\LATER.BIN a:\\LATER.BIN")
+    del files["ONE.511"]
+    files["NEW2.NAM"] = b"renamed"
+    files["LATER.BIN"] = Host(folder).take("LATER.BIN")
+    files = exchange(volume, files)
+    # DOSBox reads what our calls left.
+    before = volume.bytes()
+    changed(volume, *(f"copy a:\\{name} c:\\{name}" for name in files))
+    for name, wanted in files.items():
+        expect(Host(folder).take(name) == wanted, True, f"{volume.title}: {name} read by DOSBox")
+    expect(volume.bytes() == before, True, f"{volume.title}: DOSBox's reading alters nothing")
+
+
+def try_whole_clusters(folder, kilobytes):
+    # A file that fills its last cluster gets one cluster more from DOSBox: finding 5 at its slot.
+    size = 2 * DISKETTES[kilobytes][2]
+    volume = filled(folder, kilobytes, {"TARE.KEY": b"tare", "WHOLE.BIN": content("WHOLE.BIN", size)})
+    volume.expect_finding(5, volume.slot_of("WHOLE.BIN")[0], "a file of whole clusters")
+
+
+def try_overwritten(folder, kilobytes):
+    # A file copied over another gets new clusters, and the old ones are in no chain: finding 7, the lowest of them.
+    volume = filled(folder, kilobytes, {"TARE.KEY": b"tare", "DAY001.LOG": content("DAY001.LOG", 5000)})
+    _, start = volume.slot_of("DAY001.LOG")
+    Host(folder).put({"OTHER.LOG": content("OTHER.LOG", 600)})
+    changed(volume, "copy c:\\OTHER.LOG a:\\DAY001.LOG")
+    Host(folder).take("OTHER.LOG")
+    volume.expect_finding(7, start, "a file copied over another")
+
+
+def try_folder(folder, kilobytes):
+    # A folder's entry has attribute bit 10: finding 4 at its slot.
+    volume = filled(folder, kilobytes, {"TARE.KEY": b"tare"})
+    changed(volume, "md a:\\FOLDER")
+    volume.expect_finding(4, volume.slots_with(0x10)[0], "a folder")
+
+
+def try_all(folder):
+    for kilobytes in DISKETTES:
+        try_exchange(folder, kilobytes)
+        try_whole_clusters(folder, kilobytes)
+        try_overwritten(folder, kilobytes)
+        try_folder(folder, kilobytes)

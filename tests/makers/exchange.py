@@ -1,0 +1,121 @@
+"""Files go both ways: what the maker put on a volume is read by our calls, what our calls did there is read by mtools."""
+
+import os
+import random
+
+from counts import expect
+
+# The files that each maker puts on its volumes, in this order; sizes about the ends of clusters, but on no end of one
+# (DOSBox's volumes are not sound then).
+SIZES = {
+    "TARE.KEY": 40,
+    "DAY001.LOG": 1025,
+    "EMPTY": 0,
+    "ONE.511": 511,
+    "GONE.BIN": 5000,
+    "ONE.513": 513,
+    "LONG.BIN": 40001,
+}
+
+
+def content(name, size):
+    """Bytes that no other file has, the same each time."""
+    return random.Random(name).randbytes(size)
+
+
+def contents():
+    """The files' bytes by their names."""
+    return {name: content(name, size) for name, size in SIZES.items()}
+
+
+def taken(path):
+    """The bytes of a file, which is then removed; None where there is none."""
+    if not os.path.exists(path):
+        return None
+    with open(path, "rb") as file:
+        data = file.read()
+    os.remove(path)
+    return data
+
+
+def read_by_us(volume, files, what):
+    """Each file's bytes, by our open, read and close."""
+    paths = {name: os.path.join(volume.folder, f"read.{place}") for place, name in enumerate(files)}
+    before = volume.bytes()
+    answers = volume.call(*(f"get {name} {path}" for name, path in paths.items()))
+    expect(answers, [(0, len(files[name])) for name in files], f"{what}: our reads end well")
+    for name, path in paths.items():
+        expect(taken(path) == files[name], True, f"{what}: {name} read by our calls")
+    expect(volume.bytes() == before, True, f"{what}: reading alters nothing")
+
+
+def read_by_mtools(volume, files, what):
+    """Exactly these files stand there, with their bytes, by mtools."""
+    names = sorted(name for name, _, _, _ in volume.files_by_mdir()[0])
+    expect(names, sorted(files), f"{what}: the files by mdir")
+    for name, wanted in files.items():
+        expect(volume.copied_back(name) == wanted, True, f"{what}: {name} read by mcopy")
+
+
+def agreed(volume, files, what, fsck=True):
+    """Sound, and the files have these bytes, by mtools and by our calls; fsck.fat finds nothing."""
+    volume.expect_sound(what)
+    what = f"{volume.title}, {what}"
+    read_by_mtools(volume, files, what)
+    read_by_us(volume, files, what)
+    if fsck:
+        held = sum(-(-len(wanted) // volume.cluster_bytes) for wanted in files.values())
+        volume.expect_fsck_passes(len(files), held, what)
+
+
+def given(volume, call, name, data):
+    """Makes the call put or add with these bytes; its answer."""
+    path = os.path.join(volume.folder, "given")
+    with open(path, "wb") as file:
+        file.write(data)
+    answer = volume.call(f"{call} {name} {path}")[0]
+    os.remove(path)
+    return answer
+
+
+def change_by_us(volume, files):
+    """Creates, writes, deletes and renames by our calls, and keeps the files' bytes beside."""
+    what = f"{volume.title}: our"
+    expect(volume.call("delete GONE.BIN"), [(0, 0)], f"{what} delete")
+    del files["GONE.BIN"]
+    # The free clusters of the deleted file come first, then those after the last file: it lies in pieces.
+    for call, name, size in [
+        ("put", "PIECES.BIN", 9001),
+        ("put", "WHOLE.BIN", 2 * volume.cluster_bytes),
+        ("put", "NOTHING", 0),
+        ("put", "DAY001.LOG", 3000),
+        ("add", "TARE.KEY", 3000),
+    ]:
+        data = content(f"ours {name}", size)
+        expect(given(volume, call, name, data), (0, size), f"{what} {call} of {name}")
+        files[name] = files[name] + data if call == "add" else data
+    expect(volume.call("rename ONE.513 NEW.NAM"), [(0, 0)], f"{what} rename")
+    files["NEW.NAM"] = files.pop("ONE.513")
+
+
+def fill_by_us(volume, files):
+    """Writes until no cluster is free: as many bytes as the room has, and then none."""
+    held = sum(-(-len(wanted) // volume.cluster_bytes) for wanted in files.values())
+    room = (volume.clusters - held - volume.aside) * volume.cluster_bytes
+    data = content("ours REST.BIN", room + 1)
+    expect(given(volume, "put", "REST.BIN", data), (0, room), f"{volume.title}: our write fills it")
+    files["REST.BIN"] = data[:room]
+    expect(given(volume, "put", "MORE.BIN", b"M"), (0, 0), f"{volume.title}: our write finds no room")
+    files["MORE.BIN"] = b""
+
+
+def exchange(volume, files, fsck=True, full=True):
+    """Both ways, on a volume that holds these files by its maker; answers the files at the end."""
+    files = dict(files)
+    agreed(volume, files, "the maker's files", fsck)
+    change_by_us(volume, files)
+    agreed(volume, files, "changed by our calls", fsck)
+    if full:
+        fill_by_us(volume, files)
+        agreed(volume, files, "filled by our calls", fsck)
+    return files
