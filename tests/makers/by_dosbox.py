@@ -5,7 +5,7 @@ import os
 import subprocess
 
 from counts import expect
-from exchange import content, contents, exchange, taken
+from exchange import content, contents, differing, exchange, taken
 from volume import DISKETTES, ENVIRONMENT, Volume
 
 # Far more than a run takes; most are below a second.
@@ -24,9 +24,14 @@ cycles=max
 """
 
 
+def host_folder(folder):
+    """The folder that DOSBox has as its drive C."""
+    return os.path.join(folder, "host")
+
+
 def commanded(folder, *lines):
     """Runs DOSBox without a screen on these commands; whether it came to their end."""
-    host = os.path.join(folder, "host")
+    host = host_folder(folder)
     os.makedirs(host, exist_ok=True)
     settings = os.path.join(folder, "dosbox.conf")
     with open(settings, "w") as file:
@@ -41,30 +46,18 @@ def commanded(folder, *lines):
         return False
     finally:
         os.remove(settings)
-    end = os.path.join(host, "END.TXT")
-    if not os.path.exists(end):
-        return False
-    os.remove(end)
-    return True
+    return taken(os.path.join(host, "END.TXT")) is not None
 
 
 def runs(folder):
     return commanded(folder)
 
 
-class Host:
-    """The host's folder that DOSBox has as its drive C."""
-
-    def __init__(self, folder):
-        self.folder = os.path.join(folder, "host")
-
-    def put(self, files):
-        for name, data in files.items():
-            with open(os.path.join(self.folder, name), "wb") as file:
-                file.write(data)
-
-    def take(self, name):
-        return taken(os.path.join(self.folder, name))
+def give(folder, files):
+    """Puts files into the host's folder."""
+    for name, data in files.items():
+        with open(os.path.join(host_folder(folder), name), "wb") as file:
+            file.write(data)
 
 
 def changed(volume, *lines):
@@ -73,33 +66,36 @@ def changed(volume, *lines):
     expect(commanded(volume.folder, mounted, *lines), True, f"{volume.title}: DOSBox comes to its end")
 
 
+def copy_there(volume, files):
+    """Has DOSBox copy files to the volume."""
+    give(volume.folder, files)
+    changed(volume, *(f"copy c:\\{name} a:\\{name}" for name in files))
+    expect(differing(files, host_folder(volume.folder)), [], f"{volume.title}: DOSBox leaves its sources")
+
+
 def filled(folder, kilobytes, files):
     """A volume with these files, copied by DOSBox."""
     volume = Volume(folder, kilobytes, "DOSBox")
     volume.tool("mformat", "-C", "-f", str(kilobytes), "::")
-    host = Host(folder)
-    host.put(files)
-    changed(volume, *(f"copy c:\\{name} a:\\{name}" for name in files))
-    for name in files:
-        host.take(name)
+    copy_there(volume, files)
     return volume
 
 
 def try_exchange(folder, kilobytes):
     files = contents()
     volume = filled(folder, kilobytes, {**files, "FIRST.OUT": content("FIRST.OUT", 3001), "OLD.NAM": b"renamed"})
-    Host(folder).put({"LATER.BIN": content("LATER.BIN", 9001)})
-    # The current drive must be A: for a rename. LATER.BIN lies in pieces then.
-    changed(volume, "a:", "del a:\\FIRST.OUT", "del a:\\ONE.511", "ren OLD.NAM NEW2.NAM", "copy c:\\LATER.BIN a:\\LATER.BIN")
+    # For a rename the current drive must be A.
+    changed(volume, "a:", "del FIRST.OUT", "del ONE.511", "ren OLD.NAM NEW2.NAM")
     del files["ONE.511"]
     files["NEW2.NAM"] = b"renamed"
-    files["LATER.BIN"] = Host(folder).take("LATER.BIN")
-    files = exchange(volume, files)
+    # Copied where files were deleted, it lies in pieces.
+    later = {"LATER.BIN": content("LATER.BIN", 9001)}
+    copy_there(volume, later)
+    files = exchange(volume, {**files, **later})
     # DOSBox reads what our calls left.
     before = volume.bytes()
     changed(volume, *(f"copy a:\\{name} c:\\{name}" for name in files))
-    for name, wanted in files.items():
-        expect(Host(folder).take(name) == wanted, True, f"{volume.title}: {name} read by DOSBox")
+    expect(differing(files, host_folder(folder)), [], f"{volume.title}: the bytes of all files by DOSBox")
     expect(volume.bytes() == before, True, f"{volume.title}: DOSBox's reading alters nothing")
 
 
@@ -114,9 +110,7 @@ def try_overwritten(folder, kilobytes):
     # A file copied over another gets new clusters, and the old ones are in no chain: finding 7, the lowest of them.
     volume = filled(folder, kilobytes, {"TARE.KEY": b"tare", "DAY001.LOG": content("DAY001.LOG", 5000)})
     _, start = volume.slot_of("DAY001.LOG")
-    Host(folder).put({"OTHER.LOG": content("OTHER.LOG", 600)})
-    changed(volume, "copy c:\\OTHER.LOG a:\\DAY001.LOG")
-    Host(folder).take("OTHER.LOG")
+    copy_there(volume, {"DAY001.LOG": content("another day", 600)})
     volume.expect_finding(7, start, "a file copied over another")
 
 

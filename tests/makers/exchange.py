@@ -2,6 +2,7 @@
 
 import os
 import random
+import tempfile
 
 from counts import expect
 
@@ -38,14 +39,18 @@ def taken(path):
     return data
 
 
+def differing(files, folder):
+    """The names whose bytes, in files of this folder that are then removed, are not these."""
+    return [name for name, wanted in files.items() if taken(os.path.join(folder, name)) != wanted]
+
+
 def read_by_us(volume, files, what):
     """Each file's bytes, by our open, read and close."""
-    paths = {name: os.path.join(volume.folder, f"read.{place}") for place, name in enumerate(files)}
     before = volume.bytes()
-    answers = volume.call(*(f"get {name} {path}" for name, path in paths.items()))
-    expect(answers, [(0, len(files[name])) for name in files], f"{what}: our reads end well")
-    for name, path in paths.items():
-        expect(taken(path) == files[name], True, f"{what}: {name} read by our calls")
+    with tempfile.TemporaryDirectory(dir=volume.folder) as folder:
+        answers = volume.call(*(f"get {name} {os.path.join(folder, name)}" for name in files))
+        expect(answers, [(0, len(wanted)) for wanted in files.values()], f"{what}: our reads end well")
+        expect(differing(files, folder), [], f"{what}: the bytes of all files by our calls")
     expect(volume.bytes() == before, True, f"{what}: reading alters nothing")
 
 
@@ -53,8 +58,9 @@ def read_by_mtools(volume, files, what):
     """Exactly these files stand there, with their bytes, by mtools."""
     names = sorted(name for name, _, _, _ in volume.files_by_mdir()[0])
     expect(names, sorted(files), f"{what}: the files by mdir")
-    for name, wanted in files.items():
-        expect(volume.copied_back(name) == wanted, True, f"{what}: {name} read by mcopy")
+    with tempfile.TemporaryDirectory(dir=volume.folder) as folder:
+        volume.tool("mcopy", *(f"::{name}" for name in files), folder)
+        expect(differing(files, folder), [], f"{what}: the bytes of all files by mcopy")
 
 
 def agreed(volume, files, what, fsck=True):

@@ -92,10 +92,6 @@ class Volume:
         self.tool("mcopy", "-m", source, "::")
         os.remove(source)
 
-    def copied_back(self, name):
-        """The bytes of a file, by mtools."""
-        return ran(["mcopy", "-i", self.path, f"::{name}", "-"], stdin=subprocess.DEVNULL)
-
     def files_by_mdir(self):
         """(name, size, date, hour and minute) of each file, and the free bytes."""
         text = self.tool("mdir", "-a", "::")
