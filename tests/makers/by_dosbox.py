@@ -66,32 +66,38 @@ def changed(volume, *lines):
     expect(commanded(volume.folder, mounted, *lines), True, f"{volume.title}: DOSBox comes to its end")
 
 
-def copy_there(volume, files):
-    """Has DOSBox copy files to the volume."""
+def copying(files):
+    """The commands that copy files to the volume."""
+    return [f"copy c:\\{name} a:\\{name}" for name in files]
+
+
+def copy_there(volume, files, *then):
+    """Has DOSBox copy files to the volume, and run what follows."""
     give(volume.folder, files)
-    changed(volume, *(f"copy c:\\{name} a:\\{name}" for name in files))
+    changed(volume, *copying(files), *then)
     expect(differing(files, host_folder(volume.folder)), [], f"{volume.title}: DOSBox leaves its sources")
 
 
-def filled(folder, kilobytes, files):
-    """A volume with these files, copied by DOSBox."""
+def filled(folder, kilobytes, files, *then):
+    """A volume on which DOSBox copies these files and runs what follows."""
     volume = Volume(folder, kilobytes, "DOSBox")
     volume.tool("mformat", "-C", "-f", str(kilobytes), "::")
-    copy_there(volume, files)
+    copy_there(volume, files, *then)
     return volume
 
 
 def try_exchange(folder, kilobytes):
     files = contents()
-    volume = filled(folder, kilobytes, {**files, "FIRST.OUT": content("FIRST.OUT", 3001), "OLD.NAM": b"renamed"})
-    # For a rename the current drive must be A.
-    changed(volume, "a:", "del FIRST.OUT", "del ONE.511", "ren OLD.NAM NEW2.NAM")
-    del files["ONE.511"]
-    files["NEW2.NAM"] = b"renamed"
-    # Copied where files were deleted, it lies in pieces.
+    first = {**files, "FIRST.OUT": content("FIRST.OUT", 3001), "OLD.NAM": b"renamed"}
+    # Copied when others are deleted, it lies in pieces.
     later = {"LATER.BIN": content("LATER.BIN", 9001)}
-    copy_there(volume, later)
-    files = exchange(volume, {**files, **later})
+    give(folder, later)
+    # For a rename the current drive must be A.
+    then = ["a:", "del FIRST.OUT", "del ONE.511", "ren OLD.NAM NEW2.NAM", *copying(later)]
+    volume = filled(folder, kilobytes, first, *then)
+    expect(differing(later, host_folder(folder)), [], f"{volume.title}: DOSBox leaves its later source")
+    del files["ONE.511"]
+    files = exchange(volume, {**files, **later, "NEW2.NAM": b"renamed"})
     # DOSBox reads what our calls left.
     before = volume.bytes()
     changed(volume, *(f"copy a:\\{name} c:\\{name}" for name in files))
@@ -116,8 +122,7 @@ def try_overwritten(folder, kilobytes):
 
 def try_folder(folder, kilobytes):
     # A folder's entry has attribute bit 10: finding 4 at its slot.
-    volume = filled(folder, kilobytes, {"TARE.KEY": b"tare"})
-    changed(volume, "md a:\\FOLDER")
+    volume = filled(folder, kilobytes, {"TARE.KEY": b"tare"}, "md a:\\FOLDER")
     volume.expect_finding(4, volume.slots_with(0x10)[0], "a folder")
 
 
