@@ -5,7 +5,6 @@ import re
 import shutil
 import struct
 import subprocess
-import sys
 
 from counts import expect, skip
 
@@ -31,11 +30,15 @@ ENVIRONMENT = dict(
 )
 
 
+class EndedBadly(Exception):
+    """A program without which the maker's other volumes can't be tried."""
+
+
 def ran(command, **words):
-    """What a program printed; one that ends badly ends the test."""
+    """What a program printed."""
     done = subprocess.run(command, env=ENVIRONMENT, capture_output=True, **words)
     if done.returncode != 0:
-        sys.exit(f"{' '.join(command)}: exit status {done.returncode}: {done.stderr}")
+        raise EndedBadly(f"{' '.join(command)}: exit status {done.returncode}: {done.stderr}")
     return done.stdout
 
 

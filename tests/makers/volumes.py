@@ -14,22 +14,36 @@ import by_mkfs
 import by_mtools
 import by_us
 import counts
+from volume import EndedBadly
+
+
+def try_maker(maker):
+    """All volumes of a maker, in a folder of their own; a program that ends badly is one failure."""
+    with tempfile.TemporaryDirectory() as folder:
+        try:
+            maker(folder)
+        except EndedBadly as what:
+            counts.expect(str(what), "", "all programs end well")
+
+
+def dosbox(folder):
+    if by_dosbox.runs(folder):
+        by_dosbox.try_all(folder)
+    else:
+        counts.skip("volumes of DOSBox: it does not run here without a screen")
 
 
 def main():
-    with tempfile.TemporaryDirectory() as folder:
-        by_mtools.try_all(folder)
-        by_us.try_all(folder)
-        if shutil.which("mkfs.fat"):
-            by_mkfs.try_all(folder)
-        else:
-            counts.skip("volumes of mkfs.fat: dosfstools is not here and can't be installed")
-        if not shutil.which("dosbox"):
-            counts.skip("volumes of DOSBox: it is not here and can't be installed")
-        elif not by_dosbox.runs(folder):
-            counts.skip("volumes of DOSBox: it does not run here without a screen")
-        else:
-            by_dosbox.try_all(folder)
+    try_maker(by_mtools.try_all)
+    try_maker(by_us.try_all)
+    if shutil.which("mkfs.fat"):
+        try_maker(by_mkfs.try_all)
+    else:
+        counts.skip("volumes of mkfs.fat: dosfstools is not here and can't be installed")
+    if shutil.which("dosbox"):
+        try_maker(dosbox)
+    else:
+        counts.skip("volumes of DOSBox: it is not here and can't be installed")
     return counts.end()
 
 
