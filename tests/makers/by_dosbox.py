@@ -1,4 +1,4 @@
-"""Volumes that DOSBox's own FAT code fills, deletes from and renames on. Debian's DOSBox has no command that formats, so
+"""Volumes that DOSBox's own FAT code fills, deletes from and renames on. Debian's DOSBox has no command that formats:
 mformat does."""
 
 import os
@@ -26,13 +26,14 @@ cycles=max
 
 def host_folder(folder):
     """The folder that DOSBox has as its drive C."""
-    return os.path.join(folder, "host")
+    path = os.path.join(folder, "host")
+    os.makedirs(path, exist_ok=True)
+    return path
 
 
 def commanded(folder, *lines):
     """Runs DOSBox without a screen on these commands; whether it came to their end."""
     host = host_folder(folder)
-    os.makedirs(host, exist_ok=True)
     settings = os.path.join(folder, "dosbox.conf")
     with open(settings, "w") as file:
         text = [f"mount c {host}", *lines, "echo end > c:\\END.TXT", "exit"]
@@ -110,6 +111,7 @@ def try_whole_clusters(folder, kilobytes):
     size = 2 * DISKETTES[kilobytes][2]
     volume = filled(folder, kilobytes, {"TARE.KEY": b"tare", "WHOLE.BIN": content("WHOLE.BIN", size)})
     volume.expect_finding(5, volume.slot_of("WHOLE.BIN")[0], "a file of whole clusters")
+    volume.expect_fsck_complains("a file of whole clusters")
 
 
 def try_overwritten(folder, kilobytes):
@@ -118,6 +120,7 @@ def try_overwritten(folder, kilobytes):
     _, start = volume.slot_of("DAY001.LOG")
     copy_there(volume, {"DAY001.LOG": content("another day", 600)})
     volume.expect_finding(7, start, "a file copied over another")
+    volume.expect_fsck_complains("a file copied over another")
 
 
 def try_folder(folder, kilobytes):

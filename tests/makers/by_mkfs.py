@@ -86,8 +86,8 @@ def try_more_than_the_maker(folder):
 
 
 def try_longer_root(folder):
-    # A root of 7 sectors on FE, where the specification has 4. No rule of soundness sees it, since the root begins at the
-    # same place; the data begin 3 sectors later than the kind's, so that a read gives other bytes than the maker's.
+    # A root of 7 sectors on FE, where the specification has 4. No rule of soundness sees it, since the root begins at
+    # the same place; the data begin 3 sectors later than the kind's, so that a read gives other bytes than the maker's.
     volume = formatted(folder, 160, KINDS[160].replace("-r 64", "-r 112"))
     volume.copy("TARE.KEY", content("TARE.KEY", 40))
     volume.expect_verdict("sound 1 312 1 0", f"{volume.title}, a longer root")

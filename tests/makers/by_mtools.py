@@ -62,8 +62,8 @@ def try_full(folder, kilobytes):
 
 
 def try_long_names(folder, kilobytes):
-    # A long name stands in entries of attribute 0F before the file's own, 13 characters each: bit 08 makes each a label.
-    # One is allowed.
+    # A long name stands in entries of attribute 0F before the file's own, 13 characters each: bit 08 makes each a
+    # label. One is allowed.
     volume = formatted(folder, kilobytes)
     volume.copy("longer.name", plain(5))
     expect(len(volume.slots_with(0x08)), 1, f"{volume.title}: one entry for a long name")

@@ -1,5 +1,5 @@
-"""Volumes made by our format, and read by mtools. They have no boot sector's fields; mtools goes by the byte at 512 then,
-as DOS 2.10 did. fsck.fat and DOSBox want these fields and take no such volume."""
+"""Volumes made by our format, and read by mtools. They have no boot sector's fields; mtools goes by the byte at 512
+then, as DOS 2.10 did. fsck.fat and DOSBox want these fields and take no such volume."""
 
 from counts import expect
 from exchange import contents, exchange, given

@@ -109,17 +109,29 @@ class Volume:
         free = re.search(r"([\d ]+) bytes free", text).group(1).replace(" ", "")
         return files, int(free)
 
-    def expect_fsck_passes(self, files, held, what):
-        """fsck.fat finds nothing, and counts the files and clusters as the specification does."""
+    def fsck(self, what):
+        """The exit status of fsck.fat and its lines after the version; None where it is skipped."""
         if not shutil.which("fsck.fat"):
             skip(f"{what}: fsck.fat")
-            return
+            return None
         done = subprocess.run(["fsck.fat", "-n", self.path], env=ENVIRONMENT, capture_output=True, text=True)
-        # After the version its only line is the sum; any finding is a line more. It counts the label as a file, and the
-        # clusters set aside with those held.
+        return done.returncode, done.stdout.splitlines()[1:]
+
+    def expect_fsck_passes(self, files, held, what):
+        """fsck.fat finds nothing, and counts the files and clusters as the specification does."""
+        # Its only line is the sum; any finding is a line more. It counts the label as a file, and the clusters set
+        # aside with those held.
         files += len(self.slots_with(0x08))
         lines = [f"{self.path}: {files} files, {held + self.aside}/{self.clusters} clusters"]
-        expect((done.returncode, done.stdout.splitlines()[1:]), (0, lines), f"{what}: fsck.fat finds nothing")
+        said = self.fsck(what)
+        if said is not None:
+            expect(said, (0, lines), f"{what}: fsck.fat finds nothing")
+
+    def expect_fsck_complains(self, what):
+        """fsck.fat finds something too."""
+        said = self.fsck(f"{self.title}, {what}")
+        if said is not None:
+            expect(said[0], 1, f"{self.title}, {what}: fsck.fat finds something")
 
     # ---- Our programs.
 

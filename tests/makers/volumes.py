@@ -1,8 +1,8 @@
 """Volumes of other makers: judged and listed, and files read and written both ways.
 
-What must come out is taken from the files as they were given to the makers' tools, from mdir's and fsck.fat's text, from
-the independent implementation's verdict and from the makers' boot sectors (our code never reads these). None of it comes
-from the archive.
+What must come out is taken from the files as they were given to the makers' tools, from mdir's and fsck.fat's text,
+from the independent implementation's verdict and from the makers' boot sectors (our code never reads these). None of it
+comes from the archive.
 """
 
 import shutil
