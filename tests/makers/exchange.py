@@ -1,4 +1,4 @@
-"""Files go both ways: what the maker put on a volume is read by our calls, and mtools reads what our calls did there."""
+"""Files go both ways: our calls read what the maker put on a volume, and mtools reads what our calls did there."""
 
 import os
 import random

@@ -170,6 +170,11 @@ class Volume:
         self.expect_verdict(f"finding {finding} {place}", what)
         lines = ["sound=no", f"finding={finding}", f"place={place}"]
         expect(self.listed(), lines, f"{what}: the listing says so")
+        before = self.bytes()
+        answers = self.call("get TARE.KEY -", "put NEW.KEY -", "add TARE.KEY -", "delete TARE.KEY", "rename TARE.KEY A")
+        number = 40 if finding == 1 else 41
+        refused = (answers, self.bytes() == before)
+        expect(refused, ([(number, 0)] * 5, True), f"{what}: our calls refuse by {number} and alter nothing")
 
 
 def fields(lines, key):
