@@ -2,7 +2,7 @@
 then, as DOS 2.10 did. fsck.fat and DOSBox want these fields and take no such volume."""
 
 from counts import expect
-from exchange import contents, exchange, given
+from exchange import contents, exchange, put_by_us
 from volume import DISKETTES, Volume
 
 
@@ -17,8 +17,7 @@ def formatted(folder, kilobytes):
 def try_exchange(folder, kilobytes):
     volume = formatted(folder, kilobytes)
     volume.expect_sound("blank")
-    for name, data in contents().items():
-        expect(given(volume, "put", name, data), (0, len(data)), f"{volume.title}: our put of {name}")
+    put_by_us(volume, contents())
     exchange(volume, contents(), fsck=False)
 
 

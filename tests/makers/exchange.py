@@ -74,33 +74,39 @@ def agreed(volume, files, what, fsck=True):
         volume.expect_fsck_passes(len(files), held, what)
 
 
-def given(volume, call, name, data):
-    """Makes the call put or add with these bytes; its answer."""
-    path = os.path.join(volume.folder, "given")
-    with open(path, "wb") as file:
-        file.write(data)
-    answer = volume.call(f"{call} {name} {path}")[0]
-    os.remove(path)
-    return answer
+def made(volume, *steps):
+    """Makes our calls, each the words of a line; where the last word is bytes they stand in a file. The answers."""
+    lines = []
+    with tempfile.TemporaryDirectory(dir=volume.folder) as folder:
+        for place, (*words, last) in enumerate(steps):
+            if isinstance(last, bytes):
+                path = os.path.join(folder, str(place))
+                with open(path, "wb") as file:
+                    file.write(last)
+                last = path
+            lines.append(" ".join([*words, last]))
+        return volume.call(*lines)
+
+
+def put_by_us(volume, files):
+    """Creates and writes these files by our calls."""
+    answers = made(volume, *(("put", name, data) for name, data in files.items()))
+    expect(answers, [(0, len(data)) for data in files.values()], f"{volume.title}: our calls put files there")
 
 
 def change_by_us(volume, files):
     """Creates, writes, deletes and renames by our calls, and keeps the files' bytes beside."""
-    what = f"{volume.title}: our"
-    expect(volume.call("delete GONE.BIN"), [(0, 0)], f"{what} delete")
+    sizes = {"PIECES.BIN": 9001, "WHOLE.BIN": 2 * volume.cluster_bytes, "NOTHING": 0, "DAY001.LOG": 3000}
+    put = {name: content(f"ours {name}", size) for name, size in sizes.items()}
+    more = content("ours TARE.KEY", 3000)
+    # The free clusters of the deleted file come first, then those after the last file: PIECES.BIN lies in pieces.
+    expect(made(volume, ("delete", "GONE.BIN")), [(0, 0)], f"{volume.title}: our delete")
+    put_by_us(volume, put)
+    answers = made(volume, ("add", "TARE.KEY", more), ("rename", "ONE.513", "NEW.NAM"))
+    expect(answers, [(0, len(more)), (0, 0)], f"{volume.title}: our write at a file's end, and our rename")
     del files["GONE.BIN"]
-    # The free clusters of the deleted file come first, then those after the last file: it lies in pieces.
-    for call, name, size in [
-        ("put", "PIECES.BIN", 9001),
-        ("put", "WHOLE.BIN", 2 * volume.cluster_bytes),
-        ("put", "NOTHING", 0),
-        ("put", "DAY001.LOG", 3000),
-        ("add", "TARE.KEY", 3000),
-    ]:
-        data = content(f"ours {name}", size)
-        expect(given(volume, call, name, data), (0, size), f"{what} {call} of {name}")
-        files[name] = files[name] + data if call == "add" else data
-    expect(volume.call("rename ONE.513 NEW.NAM"), [(0, 0)], f"{what} rename")
+    files.update(put)
+    files["TARE.KEY"] += more
     files["NEW.NAM"] = files.pop("ONE.513")
 
 
@@ -109,10 +115,9 @@ def fill_by_us(volume, files):
     held = sum(-(-len(wanted) // volume.cluster_bytes) for wanted in files.values())
     room = (volume.clusters - held - volume.aside) * volume.cluster_bytes
     data = content("ours REST.BIN", room + 1)
-    expect(given(volume, "put", "REST.BIN", data), (0, room), f"{volume.title}: our write fills it")
-    files["REST.BIN"] = data[:room]
-    expect(given(volume, "put", "MORE.BIN", b"M"), (0, 0), f"{volume.title}: our write finds no room")
-    files["MORE.BIN"] = b""
+    answers = made(volume, ("put", "REST.BIN", data), ("put", "MORE.BIN", b"M"))
+    expect(answers, [(0, room), (0, 0)], f"{volume.title}: our write fills it, and the next finds no room")
+    files.update({"REST.BIN": data[:room], "MORE.BIN": b""})
 
 
 def exchange(volume, files, fsck=True, full=True):
