@@ -1,5 +1,5 @@
-"""Volumes made by our format, and read by mtools. They have no boot sector's fields; mtools goes by the byte at 512
-then, as DOS 2.10 did. fsck.fat and DOSBox want these fields and take no such volume."""
+"""Volumes made by our format, and read by mtools. The fields of their boot sector are zero; mtools goes by the byte at
+512 then. fsck.fat and DOSBox want these fields and take no such volume."""
 
 from counts import expect
 from exchange import contents, exchange, put_by_us
@@ -22,7 +22,7 @@ def try_exchange(folder, kilobytes):
 
 
 def try_changed_by_mtools(folder, kilobytes):
-    # Without the boot sector's fields mtools stores copy 1 of the table alone: the copies differ from then on.
+    # Where the boot sector's fields are zero mtools stores copy 1 of the table alone: the copies differ from then on.
     volume = formatted(folder, kilobytes)
     volume.copy("TARE.KEY", b"tare")
     table_bytes = {160: 512, 320: 512, 180: 1024, 360: 1024}[kilobytes]

@@ -120,13 +120,14 @@ def fill_by_us(volume, files):
     files.update({"REST.BIN": data[:room], "MORE.BIN": b""})
 
 
-def exchange(volume, files, fsck=True, full=True):
+def exchange(volume, files, fsck=True):
     """Both ways, on a volume that holds these files by its maker; answers the files at the end."""
     files = dict(files)
+    boot_sector = volume.bytes()[:512]
     agreed(volume, files, "the maker's files", fsck)
     change_by_us(volume, files)
     agreed(volume, files, "changed by our calls", fsck)
-    if full:
-        fill_by_us(volume, files)
-        agreed(volume, files, "filled by our calls", fsck)
+    fill_by_us(volume, files)
+    agreed(volume, files, "filled by our calls", fsck)
+    expect(volume.bytes()[:512] == boot_sector, True, f"{volume.title}: the boot sector keeps its bytes")
     return files
