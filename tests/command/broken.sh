@@ -1,5 +1,5 @@
 # Sourced by run: disks that are broken, and files that are none.
-# shellcheck shell=bash
+# shellcheck shell=bash disable=SC2154
 
 # broken PLACE WORDS: broken.img has this finding, and no command reads or changes a file on it.
 broken() {

@@ -1,5 +1,5 @@
 # Sourced by run: the README's C example, built with the header and archive that were installed.
-# shellcheck shell=bash
+# shellcheck shell=bash disable=SC2154
 
 echo "-- the README's example"
 awk '/^```c$/ { on = 1; next } /^```$/ { on = 0 } on' "$root/README.md" >example.c

@@ -1,5 +1,5 @@
 # Sourced by run: the image file is replaced whole or not at all.
-# shellcheck shell=bash
+# shellcheck shell=bash disable=SC2154
 
 # whole: disk.img is as it was.
 whole() {

@@ -1,5 +1,5 @@
 # Sourced by run: a disk formatted, filled and read.
-# shellcheck shell=bash
+# shellcheck shell=bash disable=SC2154
 
 echo "-- help and usage"
 ends 0 "--help" balladmoor --help
