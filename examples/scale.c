@@ -194,7 +194,7 @@ int main(int count, char **words)
         say("Usage: scale IMAGE YYYY-MM-DD HH:MM:SS [GRAMS..], with 1 to %d weighings.", WEIGHINGS_MOST);
         return WRONG_USAGE;
     }
-    if (!read_whole(words[1], &image))
+    if (!read_to_replace(words[1], &image))
         return NOT_STORED;
     stored = weigh(words[1], &image, &day, &weighings);
     free(image.at);

@@ -184,7 +184,7 @@ static int put(char **words)
 {
     struct bytes image, contents;
     int status;
-    if (!read_whole(words[0], &image))
+    if (!read_to_replace(words[0], &image))
         return REFUSED;
     if (!read_whole(words[2], &contents)) {
         free(image.at);
@@ -199,7 +199,7 @@ static int delete_file(char **words)
 {
     struct bytes image;
     uint64_t answer;
-    if (!read_whole(words[0], &image))
+    if (!read_to_replace(words[0], &image))
         return REFUSED;
     answer = bm_delete(IMAGE, NO_TABLE, NAME(words[1]));
     return keep(DELETING, words, BM_NUMBER(answer), &image);
@@ -209,7 +209,7 @@ static int rename_file(char **words)
 {
     struct bytes image;
     uint64_t answer;
-    if (!read_whole(words[0], &image))
+    if (!read_to_replace(words[0], &image))
         return REFUSED;
     answer = bm_rename(IMAGE, NO_TABLE, NAME(words[1]), NAME(words[2]));
     return keep(RENAMING, words, BM_NUMBER(answer), &image);
@@ -238,7 +238,7 @@ static int mode(char **words)
         say("%s: An attribute is one or two hex digits, such as 01 for read-only.", digits);
         return WRONG_USAGE;
     }
-    if (!read_whole(words[0], &image))
+    if (!read_to_replace(words[0], &image))
         return REFUSED;
     answer = bm_mode(IMAGE, NO_TABLE, NAME(words[1]), BM_MODE_SET, (uint32_t)strtoul(digits, NULL, 16));
     return keep(SETTING_MODE, words, BM_NUMBER(answer), &image);

@@ -1,4 +1,5 @@
 #define _XOPEN_SOURCE 700
+#define _DEFAULT_SOURCE /* flock */
 
 #include "imagefile.h"
 
@@ -9,6 +10,7 @@
 #include <stdio.h>
 #include <stdlib.h>
 #include <string.h>
+#include <sys/file.h>
 #include <sys/stat.h>
 #include <unistd.h>
 
@@ -71,6 +73,38 @@ bool read_whole(const char *path, struct bytes *bytes)
     if (!all)
         free(bytes->at);
     return all;
+}
+
+static void say_taken(const char *path)
+{
+    say("%s: Another program is changing this file, so nothing was changed. Try again when it is done.", path);
+}
+
+/* Takes the file's lock, which lasts until the program ends: the file stays open. Whoever had the lock before may have
+ * put a new file in its place, and then it is the lock of a file that has gone. */
+static bool take_lock(const char *path)
+{
+    struct stat locked, named;
+    int file = open(path, O_RDONLY);
+    if (file < 0)
+        return fails(path, "The file can't be opened. See that its name is right");
+    if (flock(file, LOCK_EX | LOCK_NB) != 0) {
+        if (errno == EWOULDBLOCK)
+            say_taken(path);
+        else
+            fails(path, "The file can't be locked, so nothing was changed. Work on a copy on another disk");
+    } else if (fstat(file, &locked) != 0 || stat(path, &named) != 0 || locked.st_dev != named.st_dev ||
+               locked.st_ino != named.st_ino)
+        say_taken(path);
+    else
+        return true;
+    close(file);
+    return false;
+}
+
+bool read_to_replace(const char *path, struct bytes *bytes)
+{
+    return take_lock(path) && read_whole(path, bytes);
 }
 
 /* ---- Writing ---- */

@@ -61,6 +61,24 @@ if "$root/tests/x86.sh" --native; then
   done
 fi
 
+echo "-- two at once"
+if command -v flock >/dev/null; then
+  ends 1 "put while another program changes the image" flock disk.img \
+    "$root/tests/x86.sh" "$made/prefix/bin/balladmoor" put disk.img NEW day
+  says "Another program is changing this file"
+  whole
+fi
+# put_at_last NAME: puts a file, again where another one is at work.
+put_at_last() {
+  for _ in $(seq 500); do
+    balladmoor put disk.img "$1" day 2>/dev/null && return
+  done
+}
+for n in 1 2 3 4; do put_at_last "AT$n" & done
+wait
+check "four at once: no file is lost" [ "$(balladmoor list disk.img | grep -c '^AT[1-4] ')" -eq 4 ]
+alone
+
 echo "-- what a new image keeps"
 mkdir -p folder
 mv disk.img folder/real.img

@@ -150,7 +150,7 @@ ends 1 "a SOURCE_DATE_EPOCH that is no number" balladmoor put stamp.img A tare
 unset SOURCE_DATE_EPOCH
 says "SOURCE_DATE_EPOCH"
 cp 160.img stamp.img
-today=$(TZ=UTC-14 date +%F)
-TZ=UTC-14 balladmoor put stamp.img A tare
-later=$(TZ=UTC-14 date +%F)
-check "the clock's day, in local time" grep -q -e "^A .* $today " -e "^A .* $later " <(balladmoor list stamp.img)
+sooner=$(TZ=UTC-5 date +'%F  %k:%M')
+TZ=UTC-5 balladmoor put stamp.img A tare
+later=$(TZ=UTC-5 date +'%F  %k:%M')
+check "the clock's time, five hours east" grep -q -e "^A .* $sooner " -e "^A .* $later " <(balladmoor list stamp.img)
