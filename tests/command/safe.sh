@@ -45,20 +45,32 @@ ends_full() {
 ends 1 "list to where nothing can be written" ends_full
 says "could not be written"
 
+# with CALL WAY: the C library's call fails, dies or swaps, as fails.c says, in the command put.
+with() {
+  gcc -shared -fPIC -fno-builtin "-DCALL=$1" "-D$2" "$root/tests/command/fails.c" -o "$made/call.so" ||
+    return 3
+  LD_PRELOAD="$made/call.so" "$made/prefix/bin/balladmoor" put disk.img NEW day
+}
+
 if "$root/tests/x86.sh" --native; then
   echo "-- each call of the C library that replaces the file fails, or the power is cut there"
   for call in write fchmod fsync close rename; do
-    gcc -shared -fPIC -fno-builtin -DCALL=$call "$root/tests/command/fails.c" -o "$made/fails.so"
-    ends 1 "$call fails" env LD_PRELOAD="$made/fails.so" "$made/prefix/bin/balladmoor" put disk.img NEW day
+    ends 1 "$call fails" with $call FAILS
     says "nothing was changed"
     whole
     alone
-    gcc -shared -fPIC -fno-builtin -DCALL=$call -DDIES "$root/tests/command/fails.c" -o "$made/dies.so"
-    LD_PRELOAD="$made/dies.so" "$made/prefix/bin/balladmoor" put disk.img NEW day
+    with $call DIES
     check "the power is cut at $call" [ $? -eq 99 ]
     whole
     rm -f disk.img.*
   done
+  echo "-- the image is replaced by another program just before it is locked"
+  cp 160.img new.img
+  ends 1 "put" with flock SWAPS
+  says "Another program is changing this file"
+  check ".. the other program's image is whole" cmp disk.img 160.img
+  cp listed.img disk.img
+  chmod 640 disk.img
 fi
 
 echo "-- two at once"

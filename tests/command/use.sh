@@ -66,28 +66,29 @@ cp disk.img listed.img
 
 echo "-- what is refused"
 cp disk.img before.img
-# status 1 and the number, for the words of each line
-while read -r number words; do
+# the number, words of the sentence, and the command
+while IFS='|' read -r number sentence words; do
   # shellcheck disable=SC2086
   ends 1 "$words" balladmoor $words
+  says "$sentence"
   says "(refusal $number)"
 done <<'END'
-5 delete disk.img TARE.KEY
-5 rename disk.img TARE.KEY T.KEY
-5 put disk.img TARE.KEY day
-5 rename disk.img DAY001.LOG TARE.KEY
-5 rename disk.img DAY001.LOG day001.log
-5 mode disk.img DAY001.LOG 10
-5 mode disk.img DAY001.LOG 08
-2 delete disk.img DAY002.LOG
-2 get disk.img DAY002.LOG back
-2 show disk.img DAY002.LOG
-2 mode disk.img DAY002.LOG
-2 rename disk.img DAY002.LOG A
-42 put disk.img toolongname day
-42 put disk.img A.LONG day
-42 get disk.img A*B back
-42 rename disk.img DAY001.LOG A/B
+5|TARE.KEY: The file is read-only. If it may go,|delete disk.img TARE.KEY
+5|TARE.KEY: The file is read-only, or|rename disk.img TARE.KEY T.KEY
+5|TARE.KEY: A file of that name is read-only, or|put disk.img TARE.KEY day
+5|or a file has the new name already|rename disk.img DAY001.LOG TARE.KEY
+5|or a file has the new name already|rename disk.img DAY001.LOG day001.log
+5|Only these bits may be set|mode disk.img DAY001.LOG 10
+5|Only these bits may be set|mode disk.img DAY001.LOG 08
+2|DAY002.LOG: No file of that name|delete disk.img DAY002.LOG
+2|DAY002.LOG: No file of that name|get disk.img DAY002.LOG back
+2|DAY002.LOG: No file of that name|show disk.img DAY002.LOG
+2|DAY002.LOG: No file of that name|mode disk.img DAY002.LOG
+2|DAY002.LOG: No file of that name|rename disk.img DAY002.LOG A
+42|toolongname: A name has 1 to 8|put disk.img toolongname day
+42|A.LONG: A name has 1 to 8|put disk.img A.LONG day
+42|A*B: A name has 1 to 8|get disk.img A*B back
+42|A name has 1 to 8|rename disk.img DAY001.LOG A/B
 END
 check "nothing was changed" cmp disk.img before.img
 check "nothing was made" [ ! -e back ]
@@ -124,7 +125,7 @@ says "room for 0 of 40 bytes"
 cp 160.img slots.img
 for n in $(seq 64); do balladmoor put slots.img "F$n" /dev/null || break; done
 ends 1 "a 65th name on a disk of 64 slots" balladmoor put slots.img F65 tare
-says "(refusal 5)"
+says "or the directory has no room for another name"
 ends 0 "list" balladmoor list slots.img
 prints "       64 files                  0 bytes"
 
