@@ -83,10 +83,12 @@ static void print_label(const char *path, const struct bytes *image)
     for (slot = 0; slot < SLOTS_MOST; slot++)
         if (BM_VALUE(bm_entry(image->at, image->length, slot, entry, sizeof entry)) == 1 &&
             (entry[BM_ENTRY_ATTRIBUTE] & BM_LABEL)) {
-            unsigned n;
+            unsigned n, length = 11;
+            while (length > 0 && entry[BM_ENTRY_NAME + length - 1] == ' ')
+                length--;
             printf("is ");
-            for (n = 0; n < 11; n++)
-                putchar(shown(entry[n], '?'));
+            for (n = 0; n < length; n++)
+                putchar(shown(entry[BM_ENTRY_NAME + n], '?'));
             printf("\n\n");
             return;
         }

@@ -54,7 +54,7 @@ poke other.img $((root_at + 32)) 'D\x1BY 1'
 poke other.img $((root_at + 32 + 22)) '\x00\xC0\x00\x00'
 poke other.img $((root_at + 64)) 'SCALE      \x08'
 ends 0 "list" balladmoor list other.img
-prints " Volume in other.img is SCALE      "
+prints " Volume in other.img is SCALE"
 prints "D?Y 11   LOG      1025       none   none  ---A"
 
 echo "-- files that are no disks"
