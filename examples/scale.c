@@ -128,12 +128,14 @@ static long find_tare(const char *path, const struct bytes *image)
     return tare;
 }
 
-/* Opens the day's file with the pointer at its end; the first weighing of a day makes it. */
-static uint64_t open_day(struct bytes *image, uint8_t *table, size_t table_length, const struct day *day)
+/* Opens the day's file with the pointer at its end; the first weighing of a day makes it. *task is which of the two. */
+static uint64_t open_day(struct bytes *image, uint8_t *table, size_t table_length, const struct day *day,
+                         enum task *task)
 {
     uint64_t answer = bm_open(IMAGE, table, table_length, NAME(day->file), BM_READ_AND_WRITE);
     uint32_t handle = BM_VALUE(answer);
-    if (BM_NUMBER(answer) == BM_FILE_NOT_FOUND)
+    *task = BM_NUMBER(answer) == BM_FILE_NOT_FOUND ? MAKING : CHANGING;
+    if (*task == MAKING)
         return bm_create(IMAGE, table, table_length, NAME(day->file), 0, STAMP(&day->stamp));
     if (BM_NUMBER(answer) == 0)
         answer = bm_seek(IMAGE, table, table_length, handle, BM_FROM_END, 0);
@@ -144,7 +146,8 @@ static uint64_t open_day(struct bytes *image, uint8_t *table, size_t table_lengt
 static bool append(const char *path, struct bytes *image, const struct day *day, const struct bytes *lines)
 {
     uint8_t table[BM_TABLE_SIZE(1)] = {0};
-    uint64_t answer = open_day(image, TABLE, day);
+    enum task task;
+    uint64_t answer = open_day(image, TABLE, day, &task);
     uint32_t handle = BM_VALUE(answer), count = 0;
     if (BM_NUMBER(answer) == 0)
         answer = bm_write(IMAGE, TABLE, handle, lines->at, lines->length);
@@ -153,7 +156,7 @@ static bool append(const char *path, struct bytes *image, const struct day *day,
         answer = bm_close(IMAGE, TABLE, handle, STAMP(&day->stamp));
     }
     if (BM_NUMBER(answer) != 0)
-        say_refusal(CHANGING, path, day->file, BM_NUMBER(answer), image);
+        say_refusal(task, path, day->file, BM_NUMBER(answer), image);
     else if (count < lines->length)
         say("%s: The disk is full, and none of these weighings was stored. Delete old days, or take another disk.",
             day->file);

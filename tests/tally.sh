@@ -18,8 +18,8 @@ check() {
   fi
 }
 
-# ends STATUS WHAT COMMAND..: one check, that the command ends with this status, and has printed on standard error if and
-# only if that is not 0. What it printed stands in $made/out and $made/err.
+# ends STATUS WHAT COMMAND..: one check, that the command ends with this status, and has printed on standard error if
+# and only if that is not 0. What it printed stands in $made/out and $made/err.
 ends() {
   local status=$1 what=$2 ended
   shift 2

@@ -6,8 +6,9 @@ broken() {
   ends 1 "check: $1" balladmoor check broken.img
   says "($1: "
   cp broken.img before.img
-  for words in "get broken.img TARE.KEY back" "put broken.img NEW day" "delete broken.img DAY001.LOG" "free broken.img" \
-    "rename broken.img DAY001.LOG A" "mode broken.img DAY001.LOG 01" "show broken.img TARE.KEY" "list broken.img"; do
+  for words in "get broken.img TARE.KEY back" "put broken.img NEW day" "delete broken.img DAY001.LOG" \
+    "rename broken.img DAY001.LOG A" "mode broken.img DAY001.LOG 01" "show broken.img TARE.KEY" "free broken.img" \
+    "list broken.img"; do
     # shellcheck disable=SC2086
     ends 1 ".. $words" balladmoor $words
     says "$2"
