@@ -6,8 +6,8 @@ ends 0 "--help" balladmoor --help
 check ".. fits 24 lines" [ "$(wc -l <"$made/out")" -le 24 ]
 check ".. of 80" [ "$(wc -L <"$made/out")" -le 80 ]
 for words in "" "nothing" "format 160" "format 160 a b" "format 170 a.img" "format fe a.img" "check" "list a b" \
-  "free" "get a" "get a b c d" "put a b" "put a b c d" "show a" "delete a" "rename a b" "mode a" "mode a b 1 2" "mode a b 021" \
-  "mode a b 2x" "--help list"; do
+  "free" "get a" "get a b c d" "put a b" "put a b c d" "show a" "delete a" "rename a b" "mode a" "mode a b 1 2" \
+  "mode a b 021" "mode a b 2x" "--help list"; do
   # shellcheck disable=SC2086
   ends 2 "wrong usage: $words" balladmoor $words
 done
