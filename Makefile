@@ -1,9 +1,12 @@
-# make           proves every crate, builds the programs, shows the worked numbers and lists the sample volume
-# make test      the gate: everything from nothing, with the must-fail edits and all tests
-# make compare   the archive against the independent implementation; N=1000000 volumes and 3,000,000 calls, SEED=5 from
-#                this seed on
-# make bench     the archive's speed against the independent implementation's
-# make clean     removes what was made
+# make             proves every crate, builds the programs, shows the worked numbers and lists the sample volume
+# make test        the gate: everything from nothing, with the must-fail edits and all tests
+# make compare     the archive against the independent implementation; N=1000000 volumes and 3,000,000 calls, SEED=5
+#                  from this seed on
+# make bench       the archive's speed against the independent implementation's
+# make balladmoor  the command for members and the service bench: target/c/balladmoor, for x86-64
+# make example     the scale's program in small: target/c/scale
+# make install     puts command, header and archive in place, under PREFIX=/usr/local
+# make clean       removes what was made
 
 all:
 	rt check
@@ -23,7 +26,30 @@ compare:
 bench:
 	if tests/x86.sh --native; then tests/compare/program bench; else tests/compare/instructions; fi
 
+CFLAGS = -O2
+COMPILE = tests/x86.sh --cc $(CFLAGS) -Wall -Wextra -Werror -std=c11 -pedantic -Iinclude -Itools
+SHARED = tools/imagefile.c tools/refusal.c tools/say.c tools/stamp.c tools/wholefile.c
+ARCHIVE = target/staticlib/libscale.a
+OUT = target/c
+
+archive:
+	tests/product.sh archive
+	mkdir -p $(OUT)
+
+balladmoor: archive
+	$(COMPILE) tools/balladmoor.c tools/print.c $(SHARED) $(ARCHIVE) -o $(OUT)/balladmoor
+
+example: archive
+	$(COMPILE) examples/scale.c $(SHARED) $(ARCHIVE) -o $(OUT)/scale
+
+PREFIX = /usr/local
+
+install: balladmoor
+	install -D -m 755 $(OUT)/balladmoor $(DESTDIR)$(PREFIX)/bin/balladmoor
+	install -D -m 644 include/balladmoor.h $(DESTDIR)$(PREFIX)/include/balladmoor.h
+	install -D -m 644 $(ARCHIVE) $(DESTDIR)$(PREFIX)/lib/libscale.a
+
 clean:
 	rm -rf target tests/compare/target
 
-.PHONY: all test compare bench clean
+.PHONY: all test compare bench archive balladmoor example install clean

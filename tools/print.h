@@ -1,0 +1,23 @@
+/* What the command prints of a volume. */
+#ifndef PRINT_H
+#define PRINT_H
+
+#include "imagefile.h"
+
+/* The files as mdir shows them, with their marks. Answers 0, or the number of the refusal; the files of a volume that
+ * is not sound are printed too, without the free space. */
+uint32_t print_list(const char *path, const struct bytes *image);
+
+/* What check counts on a sound volume: four words. */
+void print_counts(const char *path, const uint8_t *counts);
+
+/* What free space counts: four words. */
+void print_space(const uint8_t *space);
+
+/* An attribute: two hex digits, and a word for each bit. */
+void print_attribute(uint32_t attribute);
+
+/* Bytes in hex and as text, 16 in a line. */
+void print_bytes(const struct bytes *bytes);
+
+#endif

@@ -1,0 +1,91 @@
+#include "refusal.h"
+
+#include "balladmoor.h"
+#include "say.h"
+
+#include <stdio.h>
+
+/* Number 5. Whoever asks here has no file open but the one in hand, so it is never for an open file. */
+static const char *const denied[TASKS] = {
+    [READING] = "The file was not opened for reading. That is a mistake in this program: please report it.",
+    [CHANGING] = "The file is read-only. If it may be changed, set its mode to 20 first.",
+    [MAKING] = "A file of that name is read-only, or the directory has no room for another name. Take another name, or "
+               "delete a file first.",
+    [DELETING] = "The file is read-only. If it may go, set its mode to 20 first.",
+    [RENAMING] = "The file is read-only, or a file has the new name already. Look at the list, and take another name.",
+    [SETTING_MODE] = "Only these bits may be set: 01 read-only, 02 hidden, 04 system, 20 archive. Add up the "
+                     "ones wanted.",
+};
+
+const char *refusal_sentence(enum task task, uint32_t number)
+{
+    switch (number) {
+    case BM_INVALID_FUNCTION:
+        return "There is no such function or place in a file. That is a mistake in this program: please report it.";
+    case BM_FILE_NOT_FOUND:
+        return "No file of that name is on the disk. Look at the list.";
+    case BM_TOO_MANY_OPEN:
+        return "Too many files are open. Close one first.";
+    case BM_ACCESS_DENIED:
+        return denied[task];
+    case BM_INVALID_HANDLE:
+        return "The file is not open. That is a mistake in this program: please report it.";
+    case BM_INVALID_ACCESS:
+        return "There is no such access. That is a mistake in this program: please report it.";
+    case BM_NOT_OF_A_KIND:
+        return "This is no whole image of a diskette of 160, 180, 320 or 360 KB. See that it is the right file.";
+    case BM_NOT_SOUND:
+        return "The disk is broken. Keep a copy of it as it is, and take it to the service bench.";
+    case BM_BAD_NAME:
+        return "A name has 1 to 8 letters, digits or $&#@!%'()-{}_, then perhaps a dot and up to 3 more. Take such a "
+               "name.";
+    case BM_BAD_STAMP:
+        return "The date or the time is out of range, or not in the years 1980 to 2099. Set the clock.";
+    default:
+        return "No such number is known. Header and archive are not of one version: build this program again.";
+    }
+}
+
+/* What each finding is, and what its place counts. */
+static const struct {
+    const char *what, *place;
+} findings[] = {
+    [1] = {"it is of no kind: no kind byte at 512, or not that kind's length", "place"},
+    [2] = {"the table's first bytes are wrong, or its two copies differ", "byte of the table"},
+    [3] = {"a table entry with a value that means nothing", "cluster"},
+    [4] = {"a directory entry that can't be, or a name or label twice", "slot"},
+    [5] = {"a file's chain of clusters does not fit its size", "slot"},
+    [6] = {"a cluster in two files", "cluster"},
+    [7] = {"a cluster in use that is in no file", "cluster"},
+};
+
+/* Room for a finding in words. */
+enum { WORDS = 128 };
+
+static const char *in_words(uint64_t checked, char *words)
+{
+    uint32_t finding = BM_NUMBER(checked);
+    if (finding >= 1 && finding < sizeof findings / sizeof findings[0])
+        snprintf(words, WORDS, "finding %u at %s %u: %s", (unsigned)finding, findings[finding].place,
+                 (unsigned)BM_VALUE(checked), findings[finding].what);
+    else
+        snprintf(words, WORDS, "finding %u, which this program does not know", (unsigned)finding);
+    return words;
+}
+
+int say_finding(const char *path, uint64_t checked)
+{
+    uint32_t number = BM_NUMBER(checked) == 1 ? BM_NOT_OF_A_KIND : BM_NOT_SOUND;
+    char words[WORDS];
+    return say("%s: %s (%s)", path, refusal_sentence(READING, number), in_words(checked, words));
+}
+
+int say_refusal(enum task task, const char *path, const char *name, uint32_t number, const struct bytes *image)
+{
+    const char *sentence = refusal_sentence(task, number);
+    char words[WORDS];
+    if (number == BM_NOT_SOUND)
+        return say("%s: %s (refusal 41; %s)", path, sentence,
+                   in_words(bm_check(image->at, image->length, NULL, 0), words));
+    return say("%s: %s (refusal %u)", number == BM_NOT_OF_A_KIND ? path : name, sentence, (unsigned)number);
+}

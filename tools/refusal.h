@@ -1,0 +1,20 @@
+/* Sentences for the numbers that the calls answer: what is wrong, and what to do. */
+#ifndef REFUSAL_H
+#define REFUSAL_H
+
+#include "imagefile.h"
+
+/* What the program was about to do. Number 5 means something else for each; the others don't. */
+enum task { READING, CHANGING, MAKING, DELETING, RENAMING, SETTING_MODE, TASKS };
+
+/* The sentence for a refusal number. */
+const char *refusal_sentence(enum task task, uint32_t number);
+
+/* Says on standard error what is wrong and what to do, and answers 1, the exit status: that a call on a file of this
+ * image was refused; on a volume that is not sound, with what check finds there. */
+int say_refusal(enum task task, const char *path, const char *name, uint32_t number, const struct bytes *image);
+
+/* The same for what check found. */
+int say_finding(const char *path, uint64_t checked);
+
+#endif

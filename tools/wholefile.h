@@ -1,0 +1,18 @@
+/* Files of a volume, read and stored whole. */
+#ifndef WHOLEFILE_H
+#define WHOLEFILE_H
+
+#include "imagefile.h"
+#include "stamp.h"
+
+/* Reads a file of the volume; a byte 0 stands after its contents. Answers 0, or the number of the refusal; contents are
+ * then empty. */
+uint32_t fetch_file(const struct bytes *image, const char *name, struct bytes *contents);
+
+/* Makes a file of that name, or empties the one that is there, and stores the contents. *stored is how many bytes the
+ * disk had room for: if fewer than there are, the caller must throw the image away. Answers 0, or the number of the
+ * refusal. */
+uint32_t store_file(const struct bytes *image, const char *name, const struct bytes *contents,
+                    const struct stamp *stamp, size_t *stored);
+
+#endif
