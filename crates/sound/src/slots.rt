@@ -9,7 +9,7 @@ ghost use Rattle.chains.specs.Verdict.{first};
 ghost use Rattle.directory.specs.Fields.{nameOf};
 ghost use Rattle.search.specs.Laws.Theory.{optional};
 ghost use Rattle.sound.specs.Judged.{isLabel, isLive, isFound, neverUsedSlot, labelSlot, strange, strangeSlot, badSlotAt};
-ghost use Rattle.sound.specs.Checksums.{withByte, checksum, Met, NameTold, SlotTold};
+ghost use Rattle.sound.specs.Checksums.{withByte, checksum, NamesMet, NameTold, SlotTold};
 
 fn either(a: bool, b: bool) -> bool
     ensures { λ r. ⌜ r ≡ (a || b) ⌝ }
@@ -121,7 +121,7 @@ fn checksum_at(img: &[u8], a: usize) -> u8
 // A plain file whose name one in a lower slot has; none has it where the mark of its checksum is not set. Sets that mark.
 fn is_name_twice(img: &[u8], met: &mut [u8], root: usize, s: usize) -> bool
     requires { ⌜ root + 32 * s + 32 ≤ length (now img) ⌝ }
-    requires { ⌜ Met (now img) root s (now met) ⌝ }
+    requires { ⌜ NamesMet (now img) root s (now met) ⌝ }
     ensures { λ r. ⌜ NameTold (now (img .entry)) root s r (now (met .exit)) ⌝ }
 {
     let a = root + 32 * s;
@@ -139,7 +139,7 @@ fn is_name_twice(img: &[u8], met: &mut [u8], root: usize, s: usize) -> bool
 // Whether slot s is bad; never and label say what was met in lower slots, and met has the marks of their names.
 fn is_bad(img: &[u8], met: &mut [u8], root: usize, s: usize, never: bool, label: bool) -> bool
     requires { ⌜ root + 32 * s + 32 ≤ length (now img) ⌝ }
-    requires { ⌜ Met (now img) root s (now met) ⌝ }
+    requires { ⌜ NamesMet (now img) root s (now met) ⌝ }
     ensures { λ r. ⌜ SlotTold (now (img .entry)) root s never label r (now (met .exit)) ⌝ }
 {
     if both(!is_never_used(img, root, s), never) {
@@ -157,7 +157,7 @@ fn is_bad(img: &[u8], met: &mut [u8], root: usize, s: usize, never: bool, label:
 // The lowest bad slot, with a buffer for the marks of names.
 fn first_bad_by(img: &[u8], met: &mut [u8], root: usize, count: usize) -> Found
     requires { ⌜ root + 32 * count ≤ length (now img) ⌝ }
-    requires { ⌜ Met (now img) root 0 (now met) ⌝ }
+    requires { ⌜ NamesMet (now img) root 0 (now met) ⌝ }
     ensures { λ r. ⌜ optional r ≡ first (badSlotAt (now (img .entry)) root) count 0 ⌝ }
 {
     let mut never = false;

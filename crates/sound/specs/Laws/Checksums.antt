@@ -18,7 +18,7 @@ use Rattle.directory.specs.Laws.Slots.{plain-is}
 use Rattle.directory.specs.Laws.Search.{slot-named-answers}
 use Rattle.search.specs.declared.Found.{Found}
 use Rattle.sound.specs.Judged.{isFound, nameTwiceSlot, badSlotBy}
-use Rattle.sound.specs.Checksums.{withByte, checksumFrom, checksum, Met, NameTold, SlotTold}
+use Rattle.sound.specs.Checksums.{withByte, checksumFrom, checksum, NamesMet, NameTold, SlotTold}
 use Rattle.sound.specs.Laws.BadSlot.{says-found}
 use Rattle.sound.specs.Laws.Slots.{twice-other, twice-plain}
 
@@ -41,7 +41,7 @@ module _ (l : List ℕ) (a i sum : ℕ) (inv : checksumFrom (nameOf l a) i (11 -
 
 -- ---- the marks
 
-pub none-met : (l : List ℕ) (root : ℕ) → Met l root 0 (replicate 256 0)
+pub none-met : (l : List ℕ) (root : ℕ) → NamesMet l root 0 (replicate 256 0)
 none-met l root = record {
   long = length-replicate {A = ℕ} 256 0;
   marked = λ t h p. absurd (omega arith);
@@ -53,9 +53,9 @@ set-marked m i h j else = elim (ℕ-discrete j i) [
   | no n ↦ λ z. else n (sym (getD-set-other m i j 1 0 n) ∙ z)
 ]
 
-module _ (l : List ℕ) (root s : ℕ) (m : List ℕ) (met : Met l root s m) where
+module _ (l : List ℕ) (root s : ℕ) (m : List ℕ) (met : NamesMet l root s m) where
   -- the marks after slot s, where its own file, if it is one, has its mark set
-  met-more : (PlainAt l (slotFrom root s) → getD m (checksum (nameOf l (slotFrom root s))) 0 ≢ 0) → Met l root (s + 1) m
+  met-more : (PlainAt l (slotFrom root s) → getD m (checksum (nameOf l (slotFrom root s))) 0 ≢ 0) → NamesMet l root (s + 1) m
   met-more here = record {
     long = met .long;
     marked = λ t h p. elim (ℕ-discrete t s) [

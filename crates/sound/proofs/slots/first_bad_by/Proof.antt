@@ -6,13 +6,13 @@ use lib.ListN.{length}
 use Rattle.chains.specs.Verdict.{first}
 use Rattle.chains.specs.Laws.SearchTurns.{slots-start, first-end}
 use Rattle.sound.specs.Judged.{anyBelow, neverUsedSlot, labelSlot, badSlotAt}
-use Rattle.sound.specs.Checksums.{Met}
+use Rattle.sound.specs.Checksums.{NamesMet}
 use Rattle.sound.specs.Laws.Slots.{any-more, bad-found, bad-not-here}
 use Rattle.sound.proofs.slots.first_bad_by.Statement.{statement}
 use Rattle.sound.proofs.slots.first_bad_by.Tie as tie
 
 abbrev Inv-loop : tie.InvT-loop
-Inv-loop img met₀ root count never₀ label₀ s₀ met never label s = (s ≤ count) × (never ≡ anyBelow (neverUsedSlot img root) s) × (label ≡ anyBelow (labelSlot img root) s) × (first (badSlotAt img root) (count - s) s ≡ first (badSlotAt img root) count 0) × (length met ≡ length met₀) × Met img root s met
+Inv-loop img met₀ root count never₀ label₀ s₀ met never label s = (s ≤ count) × (never ≡ anyBelow (neverUsedSlot img root) s) × (label ≡ anyBelow (labelSlot img root) s) × (first (badSlotAt img root) (count - s) s ≡ first (badSlotAt img root) count 0) × (length met ≡ length met₀) × NamesMet img root s met
 
 abbrev μ-loop : tie.MeasureT-loop
 μ-loop img met₀ root count never₀ label₀ s₀ met never label s = count - s
