@@ -1,5 +1,5 @@
 -- The checksums of names, byte by byte, and what their marks tell of a slot's name.
-use Prim.Native.Nat.{ℕ, zero, suc, _+_, _*_, _-_, _%_, _≤_, _<_}
+use Prim.Native.Nat.{ℕ, suc, _+_, _*_, _-_, _≤_, _<_}
 use native.Mathlib.Omega.{arith}
 use native.Mathlib.Decide.{ℕ-discrete}
 use mathlib.Core.Bool.{Bool, true, false, not}
@@ -9,7 +9,7 @@ use mathlib.Core.Path.{_≡_, refl, sym, _∙_, ap}
 use lib.ListN.{length, length-set, getD, set, replicate, length-replicate}
 use lib.Seq.{getD-set-same, getD-set-other}
 use Rattle.image.specs.Laws.Store.{length-part, part-at}
-use Rattle.chains.specs.Tests.{Says, aye, nay}
+use Rattle.chains.specs.Tests.{aye, nay}
 use Rattle.chains.specs.Laws.Tests.{clash, not-true, not-false}
 use Rattle.directory.specs.Fields.{nameOf}
 use Rattle.directory.specs.Slots.{PlainAt, standingOf, isPlain}
@@ -17,7 +17,7 @@ use Rattle.directory.specs.Search.{slotFrom, slotNamed}
 use Rattle.directory.specs.Laws.Slots.{plain-is}
 use Rattle.directory.specs.Laws.Search.{slot-named-answers}
 use Rattle.search.specs.declared.Found.{Found}
-use Rattle.sound.specs.Judged.{isFound, nameTwiceSlot, badSlotBy}
+use Rattle.sound.specs.Judged.{isFound, badSlotBy}
 use Rattle.sound.specs.Checksums.{withByte, checksumFrom, checksum, NamesMet, NameTold, SlotTold}
 use Rattle.sound.specs.Laws.BadSlot.{says-found}
 use Rattle.sound.specs.Laws.Slots.{twice-other, twice-plain}
