@@ -237,13 +237,14 @@ pub fn plain_at(img: &[u8], a: usize) -> bool
     standing_at(img, a).is_plain()
 }
 
-// Whether two names are the same on all 11 bytes.
-pub fn same_name(x: [u8; 11], y: [u8; 11]) -> bool
-    ensures { λ r. ⌜ r ≡ sameName x y ⌝ }
+// Whether the entry has that name, on all 11 bytes.
+fn same_name(img: &[u8], a: usize, name: [u8; 11]) -> bool
+    requires { ⌜ a + 32 ≤ length (now img) ⌝ }
+    ensures { λ r. ⌜ r ≡ sameName (nameOf (now (img .entry)) a) name ⌝ }
 {
     let mut i: usize = 0;
     while i < 11 {
-        if x[i] != y[i] {
+        if img[a + i] != name[i] {
             return false;
         }
         i += 1;
@@ -257,7 +258,7 @@ pub fn named_at(img: &[u8], a: usize, name: [u8; 11]) -> bool
     ensures { λ r. ⌜ r ≡ isNamed (now (img .entry)) a name ⌝ }
 {
     if plain_at(img, a) {
-        same_name(name_at(img, a), name)
+        same_name(img, a, name)
     } else {
         false
     }

@@ -2,6 +2,7 @@
 pub mod Tables
 pub mod Slots
 pub mod BadSlot
+pub mod Checksums
 pub mod Geometry
 pub mod SamePlaces
 pub mod Holders

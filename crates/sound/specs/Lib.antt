@@ -5,6 +5,7 @@ pub mod Sound
 pub mod Counts
 pub mod Answer
 pub mod Judged
+pub mod Checksums
 pub mod Walks
 pub mod Visits
 pub mod Holders

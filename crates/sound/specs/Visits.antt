@@ -19,7 +19,7 @@ use Rattle.directory.specs.Fields.{sizeOf}
 use Rattle.directory.specs.Slots.{standingOf, isPlain}
 use Rattle.directory.specs.Search.{slotFrom}
 use Rattle.sound.specs.Counts.{plainSlot, heldBy}
-use Rattle.sound.specs.Judged.{holderAt, badChainSlot, chainsOf}
+use Rattle.sound.specs.Judged.{differsAt, holderAt, badChainSlot, chainsOf}
 use Rattle.sound.specs.Walks.{Tails}
 use Rattle.sound.specs.declared.Census.{Census}
 use Rattle.sound.specs.declared.Census.the-variants.{BadValue, Values}
@@ -27,6 +27,17 @@ use Rattle.sound.specs.declared.Slot.{Slot}
 use Rattle.sound.specs.declared.Slot.the-variants.{NoFile, Bad, Clusters}
 use Rattle.sound.specs.declared.Chains.{Chains}
 use Rattle.sound.specs.declared.Chains.the-variants.{BadChain, Held}
+
+-- ---- the copies from offset j on: what the code promises of its steps
+
+-- none of n bytes is a difference
+pub record Alike (second : ℕ) (l : List ℕ) (size j n : ℕ) : Type 0 where
+  pub within : j + n ≤ size
+  pub clear : (i : ℕ) → i < n → differsAt second l (j + i) ≡ false
+  pub here : n ≡ 0 → differsAt second l j ≡ true
+
+pub record FourAlike (second : ℕ) (l : List ℕ) (size j : ℕ) (r : Bool) : Type 0 where
+  pub alike : r ≡ true → Alike second l size j 4
 
 -- ---- the table's values: the lowest bad one, or how many are free and set aside
 

@@ -9,7 +9,7 @@ ghost use Rattle.chains.specs.Verdict.{first};
 ghost use Rattle.search.specs.Laws.Theory.{optional};
 ghost use Rattle.table.specs.Entries.{wordAt};
 ghost use Rattle.sound.specs.Judged.{differsAt};
-ghost use Rattle.sound.specs.Visits.{censusOf};
+ghost use Rattle.sound.specs.Visits.{FourAlike, Alike, censusOf};
 
 // Whether the copies are not as they must be at offset j.
 fn differs(img: &[u8], second: usize, j: usize) -> bool
@@ -30,6 +30,33 @@ fn differs(img: &[u8], second: usize, j: usize) -> bool
     false
 }
 
+// Whether the four bytes from offset j on, none of them byte 1 or 2, are there and the same in both copies.
+fn four_alike(img: &[u8], second: usize, size: usize, j: usize) -> bool
+    requires { ⌜ (512 + size ≤ second) × (second + size ≤ length (now img)) ⌝ }
+    requires { ⌜ j < size ⌝ }
+    ensures { λ r. ⌜ FourAlike second (now (img .entry)) size j r ⌝ }
+{
+    if j < 3 {
+        return false;
+    }
+    if size - j < 4 {
+        return false;
+    }
+    image::get32(img, 512 + j) == image::get32(img, second + j)
+}
+
+// For how many bytes from offset j on, 4 or 1, the copies are as they must be; 0 where they are not at j.
+fn alike(img: &[u8], second: usize, size: usize, j: usize) -> usize
+    requires { ⌜ (512 + size ≤ second) × (second + size ≤ length (now img)) ⌝ }
+    requires { ⌜ j < size ⌝ }
+    ensures { λ r. ⌜ Alike second (now (img .entry)) size j r ⌝ }
+{
+    if four_alike(img, second, size, j) {
+        return 4;
+    }
+    if differs(img, second, j) { 0 } else { 1 }
+}
+
 // The lowest offset at which the copies, of size bytes each, are not as they must be.
 pub fn first_difference(img: &[u8], second: usize, size: usize) -> Found
     requires { ⌜ 512 + size ≤ second ⌝ }
@@ -38,10 +65,11 @@ pub fn first_difference(img: &[u8], second: usize, size: usize) -> Found
 {
     let mut j: usize = 0;
     while j < size {
-        if differs(img, second, j) {
+        let n = alike(img, second, size, j);
+        if n == 0 {
             return Found::At(j);
         }
-        j += 1;
+        j += n;
     }
     Found::Nothing
 }

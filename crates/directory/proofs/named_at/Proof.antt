@@ -7,9 +7,6 @@ use Rattle.directory.proofs.named_at.Tie as tie
 plain-at-requires : tie.Need-plain-at-requires
 plain-at-requires c κs = search needs
 
-name-at-requires : tie.Need-name-at-requires
-name-at-requires c κs = search needs
-
 same-name-requires : tie.Need-same-name-requires
 same-name-requires c κs = search needs
 
@@ -20,5 +17,4 @@ returns-2 : tie.Need-returns-2
 returns-2 c = search named-none
 
 pub named-at-spec : {M : Type 1} → statement M
-named-at-spec =
-    tie.close (tie.spec plain-at-requires name-at-requires same-name-requires returns returns-2)
+named-at-spec = tie.close (tie.spec plain-at-requires same-name-requires returns returns-2)

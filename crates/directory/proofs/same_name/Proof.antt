@@ -3,28 +3,32 @@ use native.Mathlib.Omega.{arith}
 use borrow.Author.Needs.{needs}
 use mathlib.Core.Path.{_≡_}
 use Prim.Native.Nat.{_-_, _≤_, _<_}
+use Rattle.directory.specs.Fields.{nameOf}
 use Rattle.directory.specs.Search.{sameFrom, sameName}
 use Rattle.directory.specs.Laws.Names.{same-all, same-more, same-differs, same-end}
 use Rattle.directory.proofs.same_name.Statement.{statement}
 use Rattle.directory.proofs.same_name.Tie as tie
 
 abbrev Inv-loop : tie.InvT-loop
-Inv-loop x y i₀ i = (i ≤ 11) × (sameFrom x y i (11 - i) ≡ sameName x y)
+Inv-loop img a name i₀ i = (i ≤ 11) × (sameFrom (nameOf img a) name i (11 - i) ≡ sameName (nameOf img a) name)
 
 abbrev μ-loop : tie.MeasureT-loop
-μ-loop x y i₀ i = 11 - i
+μ-loop img a name i₀ i = 11 - i
 
 loop-holds : tie.Need-loop-holds Inv-loop μ-loop
 loop-holds c = search (needs, same-all)
 
+add-if1 : tie.Need-add-if1 Inv-loop μ-loop
+add-if1 c = search needs
+
+shared-slice-read-if1 : tie.Need-shared-slice-read-if1 Inv-loop μ-loop
+shared-slice-read-if1 c = search needs
+
 array-read-if1 : tie.Need-array-read-if1 Inv-loop μ-loop
 array-read-if1 c = search needs
 
-array-read-if1-2 : tie.Need-array-read-if1-2 Inv-loop μ-loop
-array-read-if1-2 c = search needs
-
 returns : tie.Need-returns Inv-loop μ-loop
-returns c = let h : c .before .before .loop .i < 11 = omega arith in search same-differs
+returns c = let h : c .before .before .before .loop .i < 11 = omega arith in search same-differs
 
 add-i : tie.Need-add-i Inv-loop μ-loop
 add-i c = search needs
@@ -33,7 +37,7 @@ loop-less : tie.Need-loop-less Inv-loop μ-loop
 loop-less c = search needs
 
 loop-again : tie.Need-loop-again Inv-loop μ-loop
-loop-again c = let h : c .before .before .loop .i < 11 = omega arith in search (needs, same-more)
+loop-again c = let h : c .before .before .before .loop .i < 11 = omega arith in search (needs, same-more)
 
 returns-2 : tie.Need-returns-2 Inv-loop μ-loop
 returns-2 c = search same-end
@@ -45,8 +49,9 @@ same-name-spec =
     Inv-loop
     μ-loop
     loop-holds
+    add-if1
+    shared-slice-read-if1
     array-read-if1
-    array-read-if1-2
     returns
     add-i
     loop-less

@@ -10,7 +10,7 @@ use lib.Dec.{eqb}
 use lib.ListN.{length, getD}
 use lib.Seq.{ext-getD}
 use borrow.Author.Tests.{eqb-true, eq-eqb, ne-eqb}
-use Rattle.image.specs.Laws.Store.{length-part}
+use Rattle.image.specs.Laws.Store.{length-part, part-at}
 use Rattle.directory.specs.Fields.{nameOf}
 use Rattle.directory.specs.Slots.{PlainAt, standingOf, isPlain}
 use Rattle.directory.specs.Search.{sameFrom, sameName, isNamed}
@@ -27,19 +27,27 @@ module _ (x y : List ℕ) (i n : ℕ) (t : Bool) (inv : sameFrom x y i (n - i) �
   unfolding sameFrom
   same-end h = let e : n - i ≡ 0 = omega arith in rw e at inv
 
-  pub same-differs : i < n → getD x i 0 ≢ getD y i 0 → false ≡ t
-  same-differs h d = sym (turn h ∙ rw (ne-eqb (getD x i 0) (getD y i 0) d)) ∙ inv
+  differs : i < n → getD x i 0 ≢ getD y i 0 → false ≡ t
+  differs h d = sym (turn h ∙ rw (ne-eqb (getD x i 0) (getD y i 0) d)) ∙ inv
 
-  pub same-more : i < n → getD x i 0 ≡ getD y i 0 → sameFrom x y (i + 1) (n - (i + 1)) ≡ t
-  same-more h e = sym (turn h ∙ rw (eq-eqb (getD x i 0) (getD y i 0) e)) ∙ inv
+  agrees : i < n → getD x i 0 ≡ getD y i 0 → sameFrom x y (i + 1) (n - (i + 1)) ≡ t
+  agrees h e = sym (turn h ∙ rw (eq-eqb (getD x i 0) (getD y i 0) e)) ∙ inv
 
 pub same-all : (x y : List ℕ) → sameFrom x y 0 (11 - 0) ≡ sameName x y
 unfolding sameName
 same-all x y = refl
 
+-- the name's bytes are read where they stand
+module _ (l : List ℕ) (a : ℕ) (name : List ℕ) (i : ℕ) (t : Bool) (inv : sameFrom (nameOf l a) name i (11 - i) ≡ t) (h : i < 11) where
+  pub same-differs : getD l (a + i) 0 ≢ getD name i 0 → false ≡ t
+  same-differs d = differs (nameOf l a) name i 11 t inv h (λ e. d (sym (part-at l a 11 i h) ∙ e))
+
+  pub same-more : getD l (a + i) 0 ≡ getD name i 0 → sameFrom (nameOf l a) name (i + 1) (11 - (i + 1)) ≡ t
+  same-more e = agrees (nameOf l a) name i 11 t inv h (part-at l a 11 i h ∙ e)
+
 module _ (l : List ℕ) (a : ℕ) (name : List ℕ) (plain : Bool) (is : plain ≡ isPlain (standingOf l a)) where
-  pub named-plain : plain ≡ true → (found : List ℕ) → found ≡ nameOf l a → (r : Bool) → r ≡ sameName found name → r ≡ isNamed l a name
-  named-plain t found e r p = p ∙ rw (← is, t, e)
+  pub named-plain : plain ≡ true → (r : Bool) → r ≡ sameName (nameOf l a) name → r ≡ isNamed l a name
+  named-plain t r p = p ∙ rw (← is, t)
 
   pub named-none : plain ≡ false → false ≡ isNamed l a name
   named-none f = rw (← is, f)

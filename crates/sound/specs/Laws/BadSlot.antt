@@ -86,7 +86,7 @@ module _ (l : List ℕ) (root s : ℕ) where
 -- ---- the four parts
 
 -- the search below s found a plain file of that name
-says-found : (P : ℕ → Type 0) (count : ℕ) (f : answer.Found) → Answers P count f → Says (isFound f) ((t : ℕ) × (t < count) × P t)
+pub says-found : (P : ℕ → Type 0) (count : ℕ) (f : answer.Found) → Answers P count f → Says (isFound f) ((t : ℕ) × (t < count) × P t)
 says-found P count (At t) a = aye refl (t, a .below, a .passes)
 says-found P count Nothing a = nay refl (λ x. a (x .0) (x .1) (x .2))
 

@@ -1,5 +1,5 @@
 -- Findings 2 and 3 as the code searches for them, in the form of its needs.
-use Prim.Native.Nat.{ℕ, _+_, _-_, _≤_, _<_}
+use Prim.Native.Nat.{ℕ, zero, suc, _+_, _*_, _-_, _/_, _%_, _≤_, _<_}
 use native.Mathlib.Omega.{arith}
 use mir.Val.{Fits}
 use mir.Syntax.{w8}
@@ -7,17 +7,18 @@ use mathlib.Core.Bool.{Bool, true, false, _||_, not}
 use mathlib.Core.List.{List}
 use mathlib.Core.Logic.{_≢_, inl, inr}
 use mathlib.Core.Option.{Option, none}
-use mathlib.Core.Path.{_≡_, sym, ap, _∙_}
+use mathlib.Core.Path.{_≡_, refl, sym, ap, _∙_}
 use lib.Dec.{eqb}
 use lib.ListN.{getD}
-use borrow.Author.Tests.{eq-eqb, ne-eqb}
+use borrow.Author.Tests.{eqb-true, eq-eqb, ne-eqb}
 use Rattle.image.specs.Bytes.{Bytes}
+use Rattle.image.specs.Numbers.{number}
 use Rattle.chains.specs.Check.{badValue}
 use Rattle.chains.specs.Sums.{tally}
 use Rattle.chains.specs.Values.{freeAt, asideAt, freeCount, asideCount, freeb, linkb, endb, asideb, Valid, free, used, aside}
 use Rattle.chains.specs.Verdict.{first}
 use Rattle.chains.specs.Tests.{bit}
-use Rattle.chains.specs.Laws.Tests.{says-not, true-says, false-says}
+use Rattle.chains.specs.Laws.Tests.{says-not, true-says, false-says, clash}
 use Rattle.chains.specs.Laws.Values.{says-valid, says-aside}
 use Rattle.chains.specs.Laws.TallyTurns.{tally-hit, tally-miss, tally-end}
 use Rattle.chains.specs.Laws.SearchTurns.{first-hit, first-miss, first-end, clusters-start}
@@ -33,7 +34,7 @@ use Rattle.table.specs.Laws.OneCopy.{entry-small}
 use Rattle.table.specs.Laws.Values.{meaning-is}
 use Rattle.table.specs.Laws.View.{table-inside}
 use Rattle.sound.specs.Judged.{differsAt}
-use Rattle.sound.specs.Visits.{censusBy, censusOf}
+use Rattle.sound.specs.Visits.{Alike, FourAlike, censusBy, censusOf}
 use Rattle.sound.specs.declared.Census.the-variants.{BadValue, Values}
 
 -- ---- the copies at offset j
@@ -59,15 +60,72 @@ module _ (l : List ℕ) (second j : ℕ) where
     unfolding differsAt
     no-difference d h = rw (same, ne-eqb j 1 d, ne-eqb j 2 h)
 
--- ---- the search for the lowest: b is what the test answered
+-- ---- several bytes at once
+
+-- numbers are the same only where all their bytes are
+same-bytes : (l : List ℕ) → Bytes l → (a b w : ℕ) → number l a w ≡ number l b w → (i : ℕ) → i < w → getD l (a + i) 0 ≡ getD l (b + i) 0
+unfolding number
+same-bytes l bytes a b zero e i h = absurd (omega arith)
+same-bytes l bytes a b (suc w) e zero h =
+    let p : (getD l a 0 + 256 * number l (a + 1) w) % 256 ≡ getD l a 0 = omega (arith, bytes a) in
+    let q : (getD l b 0 + 256 * number l (b + 1) w) % 256 ≡ getD l b 0 = omega (arith, bytes b) in
+    let x : a + 0 ≡ a = omega arith in
+    let y : b + 0 ≡ b = omega arith in
+    rw (x, y) (sym p ∙ ap (λ (n : ℕ). n % 256) e ∙ q)
+same-bytes l bytes a b (suc w) e (suc i) h =
+    let p : (getD l a 0 + 256 * number l (a + 1) w) / 256 ≡ number l (a + 1) w = omega (arith, bytes a) in
+    let q : (getD l b 0 + 256 * number l (b + 1) w) / 256 ≡ number l (b + 1) w = omega (arith, bytes b) in
+    let x : a + suc i ≡ a + 1 + i = omega arith in
+    let y : b + suc i ≡ b + 1 + i = omega arith in
+    rw (x, y) (same-bytes l bytes (a + 1) (b + 1) w (sym p ∙ ap (λ (n : ℕ). n / 256) e ∙ q) i (omega arith))
+
+module _ (l : List ℕ) (second size j : ℕ) where
+  pub not-told : FourAlike second l size j false
+  not-told = record { alike = λ e. absurd (clash e refl) }
+
+  pub four-told : ((i : ℕ) → Fits w8 (getD l i 0)) → 3 ≤ j → 4 ≤ size - j → (v w : ℕ) → v ≡ number l (512 + j) 4 → w ≡ number l (second + j) 4 → (r : Bool) → r ≡ eqb v w
+      → FourAlike second l size j r
+  four-told fit far room v w p q r t = record {
+    alike = λ e. record {
+      within = omega arith;
+      clear = λ i h.
+          let x : 512 + (j + i) ≡ 512 + j + i = omega arith in
+          let y : second + (j + i) ≡ second + j + i = omega arith in
+          sym (no-difference l second (j + i) (rw (x, y) (same-bytes l (λ k. omega (arith, fit k)) (512 + j) (second + j) 4 (sym p ∙ eqb-true v w (sym t ∙ e) ∙ q) i h)) (omega arith) (omega arith));
+      here = λ z. absurd (omega arith);
+    };
+  }
+
+  pub alike-four : (b : Bool) → FourAlike second l size j b → b ≡ true → Alike second l size j 4
+  alike-four b t e = t .alike e
+
+  module _ (h : j < size) (b : Bool) (t : b ≡ differsAt second l j) where
+    pub alike-none : b ≡ true → Alike second l size j 0
+    alike-none e = record { within = omega arith; clear = λ i k. absurd (omega arith); here = λ z. sym t ∙ e }
+
+    pub alike-one : b ≡ false → Alike second l size j 1
+    alike-one e = record {
+      within = omega arith;
+      clear = λ i k. let z : j + i ≡ j = omega arith in rw z (sym t ∙ e);
+      here = λ z. absurd (omega arith);
+    }
+
+-- ---- the search for the lowest
+
+misses : (t : ℕ → Bool) (end c : ℕ) (whole : Option ℕ) → first t (end - c) c ≡ whole → (n : ℕ) → c + n ≤ end → ((i : ℕ) → i < n → t (c + i) ≡ false)
+    → first t (end - (c + n)) (c + n) ≡ whole
+misses t end c whole inv zero h clear = let z : c + 0 ≡ c = omega arith in rw z inv
+misses t end c whole inv (suc n) h clear =
+    let z : c + suc n ≡ c + n + 1 = omega arith in
+    rw z (first-miss t end (c + n) whole (omega arith) (clear n (omega arith)) (misses t end c whole inv n (omega arith) (λ i k. clear i (omega arith))))
 
 module _ (l : List ℕ) (second size j : ℕ) (whole : Option ℕ) (inv : first (differsAt second l) (size - j) j ≡ whole) where
-  module _ (b : Bool) (h : j < size) (t : b ≡ differsAt second l j) where
-    pub difference-hit : b ≡ true → optional (At j) ≡ whole
-    difference-hit y = first-hit (differsAt second l) size j whole h (sym t ∙ y) inv
+  module _ (n : ℕ) (a : Alike second l size j n) where
+    pub difference-hit : j < size → n ≡ 0 → optional (At j) ≡ whole
+    difference-hit h z = first-hit (differsAt second l) size j whole h (a .here z) inv
 
-    pub difference-miss : b ≡ false → first (differsAt second l) (size - (j + 1)) (j + 1) ≡ whole
-    difference-miss y = first-miss (differsAt second l) size j whole h (sym t ∙ y) inv
+    pub difference-miss : first (differsAt second l) (size - (j + n)) (j + n) ≡ whole
+    difference-miss = misses (differsAt second l) size j whole inv n (a .within) (a .clear)
 
   pub difference-end : size ≤ j → optional Nothing ≡ whole
   difference-end h = first-end (differsAt second l) size j whole h inv

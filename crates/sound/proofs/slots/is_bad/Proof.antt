@@ -1,5 +1,6 @@
 -- Each of the four in turn: the first that is true decides, else the last.
 use Rattle.sound.specs.Laws.Slots.{bad-after, bad-strange, bad-label, bad-name}
+use Rattle.sound.specs.Laws.Checksums.{told-bad, told-last}
 use borrow.Author.Needs.{needs}
 use Rattle.sound.proofs.slots.is_bad.Statement.{statement}
 use Rattle.sound.proofs.slots.is_bad.Tie as tie
@@ -11,13 +12,13 @@ both-requires : tie.Need-both-requires
 both-requires c κs = search needs
 
 returns : tie.Need-returns
-returns c = search bad-after
+returns c = search (told-bad, bad-after)
 
 is-strange-slot-requires : tie.Need-is-strange-slot-requires
 is-strange-slot-requires c κs = search needs
 
 returns-2 : tie.Need-returns-2
-returns-2 c = search bad-strange
+returns-2 c = search (told-bad, bad-strange)
 
 is-label-requires : tie.Need-is-label-requires
 is-label-requires c κs = search needs
@@ -26,13 +27,16 @@ both-requires-2 : tie.Need-both-requires-2
 both-requires-2 c κs = search needs
 
 returns-3 : tie.Need-returns-3
-returns-3 c = search bad-label
+returns-3 c = search (told-bad, bad-label)
 
 is-name-twice-requires : tie.Need-is-name-twice-requires
 is-name-twice-requires c κs = search needs
 
+same-length : tie.Need-same-length
+same-length c = search needs
+
 returns-4 : tie.Need-returns-4
-returns-4 c = search bad-name
+returns-4 c = search (told-last, bad-name)
 
 pub is-bad-spec : {M : Type 1} → statement M
 is-bad-spec =
@@ -47,4 +51,5 @@ is-bad-spec =
     both-requires-2
     returns-3
     is-name-twice-requires
+    same-length
     returns-4)

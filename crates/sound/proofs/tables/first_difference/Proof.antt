@@ -18,8 +18,8 @@ abbrev μ-loop : tie.MeasureT-loop
 loop-holds : tie.Need-loop-holds Inv-loop μ-loop
 loop-holds c = search (needs, slots-start)
 
-differs-requires : tie.Need-differs-requires Inv-loop μ-loop
-differs-requires c κs = search needs
+alike-requires : tie.Need-alike-requires Inv-loop μ-loop
+alike-requires c κs = search needs
 
 returns : tie.Need-returns Inv-loop μ-loop
 returns c = search difference-hit
@@ -43,7 +43,7 @@ first-difference-spec =
     Inv-loop
     μ-loop
     loop-holds
-    differs-requires
+    alike-requires
     returns
     add-j
     loop-less
