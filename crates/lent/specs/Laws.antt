@@ -1,3 +1,4 @@
 -- The laws of the definitions beside this folder.
 pub mod Row
 pub mod Turns
+pub mod Seek

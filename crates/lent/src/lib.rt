@@ -1,6 +1,9 @@
 // The open table as a row of records that the caller lends, beside its form as bytes (crate opened).
+use calls::Answer;
+use offset::Moved;
 use search::Found;
 ghost use mathlib.Core.Path.{_≡_};
+ghost use Rattle.lent.specs.Seek.{baseFrom, seekFrom, answerOf, SeeksIn};
 ghost use Rattle.lent.specs.Row.{recordAt, lowestUnusedIn, isOpenIn};
 
 pub struct OpenRecord {
@@ -55,4 +58,41 @@ pub fn is_open(row: &[OpenRecord], slot: u32) -> bool
         place += 1;
     }
     false
+}
+
+// From where the offset counts: from 0, the pointer or the size.
+fn base_of(pointer: u32, size: u32, method: u32) -> u32
+    ensures { λ r. ⌜ r ≡ baseFrom pointer size method ⌝ }
+{
+    if method == 0 {
+        return 0;
+    }
+    if method == 1 {
+        return pointer;
+    }
+    size
+}
+
+// What a seek from this pointer answers, in a file of this size.
+fn sought(pointer: u32, size: u32, method: u32, offset: i32) -> Answer
+    ensures { λ r. ⌜ r ≡ answerOf (seekFrom pointer size method offset) ⌝ }
+{
+    if 2 < method {
+        return Answer::refused(1);
+    }
+    match offset::moved_by(base_of(pointer, size, method), offset) {
+        Moved::Beyond => Answer::refused(1),
+        Moved::To(to) => Answer::well(to),
+    }
+}
+
+// Moves the pointer of one open record, of a file of this size, and nothing else; a refusal leaves the record as it came.
+pub fn seek(lent: &mut OpenRecord, size: u32, method: u32, offset: i32) -> Answer
+    ensures { λ r. ⌜ SeeksIn (now (lent .entry)) size method offset r (now (lent .exit)) ⌝ }
+{
+    let answer = sought(lent.pointer, size, method, offset);
+    if answer.number == 0 {
+        lent.pointer = answer.value;
+    }
+    answer
 }
