@@ -3,3 +3,5 @@ pub mod Row
 pub mod Turns
 pub mod Seek
 pub mod Alike
+pub mod Stores
+pub mod SeekAlike
