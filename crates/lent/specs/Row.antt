@@ -1,6 +1,6 @@
 -- The open table is a row of records that the caller lends; only the first 16 are used.
 use Prim.Native.Nat.{ℕ, zero, suc, _+_, _/_, min}
-use mathlib.Core.Bool.{Bool, true, false, cond, not, _&&_}
+use mathlib.Core.Bool.{Bool, false, cond, not, _&&_}
 use mathlib.Core.List.{List, [], _∷_}
 use lib.Dec.{eqb, ltb}
 use lib.ListN.{length, getD}

@@ -1,14 +1,14 @@
 -- The row that a table's bytes say: both forms of the table answer alike.
-use Prim.Native.Nat.{ℕ, zero, suc, _+_, _/_, _≤_, _<_}
+use Prim.Native.Nat.{ℕ, zero, suc, _+_, _/_, _<_}
 use native.Mathlib.Omega.{arith}
 use mathlib.Core.Bool.{Bool, not}
-use mathlib.Core.List.{List, []}
+use mathlib.Core.List.{List}
 use mathlib.Core.Path.{_≡_, refl, sym, ap, _∙_}
 use lib.Dec.{lt→ltb}
 use lib.ListN.{length, getD}
 use Rattle.search.specs.Search.{lowest}
 use Rattle.search.specs.Laws.Meaning.{lowest-same}
-use Rattle.opened.specs.Records.{placeCount, usedOf, slotOf, accessOf, pointerOf, writtenOf}
+use Rattle.opened.specs.Records.{placeCount}
 use Rattle.opened.specs.Places.{unusedAt, lowestUnused, namesSlot, isFound, isOpen}
 use Rattle.opened.specs.Changes.{Holds}
 use Rattle.lent.specs.declared.OpenRecord.{OpenRecord}

@@ -9,7 +9,7 @@ use Rattle.directory.specs.Fields.{sizeOf}
 use Rattle.offset.specs.Offset.{movedBy}
 use Rattle.offset.specs.declared.Moved.{Moved}
 use Rattle.offset.specs.declared.Moved.the-variants.{To, Beyond}
-use Rattle.opened.specs.Records.{slotOf, pointerOf, withPointer}
+use Rattle.opened.specs.Records.{slotOf, withPointer}
 use Rattle.calls.specs.Outcome.{outcome, refusal, decided}
 use Rattle.calls.specs.Refusals.{notOfKind, notSound, notLive, addressOf}
 use Rattle.opening.specs.Seek.{seekBase, isBeyond, pointerMoved, seekOutcome}

@@ -5,10 +5,10 @@ use native.Mathlib.Decide.{ℕ-discrete}
 use mathlib.Core.Bool.{Bool, true}
 use mathlib.Core.List.{List}
 use mathlib.Core.Logic.{_≢_}
-use mathlib.Core.Path.{_≡_, refl, sym, ap, _∙_}
+use mathlib.Core.Path.{_≡_, sym, ap, _∙_}
 use lib.ListN.{length, getD, set, length-set}
 use lib.Seq.{getD-set-same, getD-set-other, ext-getD}
-use Rattle.opened.specs.Records.{placeCount, withRecord, withPointer, withWritten, cleared, usedOf, slotOf, accessOf, pointerOf, writtenOf}
+use Rattle.opened.specs.Records.{placeCount, withRecord, withPointer, withWritten, cleared}
 use Rattle.opened.specs.Changes.{OnlyAt}
 use Rattle.opened.specs.Laws.Stores.{record-only, record-holds, pointer-only, pointer-holds, written-only, written-holds, cleared-only, cleared-holds}
 use Rattle.lent.specs.declared.OpenRecord.{OpenRecord}

@@ -4,15 +4,14 @@ use native.Mathlib.Omega.{arith}
 use mathlib.Core.Bool.{Bool, true, false, not, _&&_}
 use mathlib.Core.List.{List}
 use mathlib.Core.Path.{_≡_, refl, ap}
-use lib.Dec.{T, eqb}
-use lib.ListN.{length, getD}
+use lib.Dec.{T}
+use lib.ListN.{length}
 use Rattle.search.specs.Search.{lowest}
 use Rattle.search.specs.Laws.Turns.{lowest-hit, lowest-miss, lowest-done}
-use Rattle.search.specs.declared.Found.{Found}
 use Rattle.search.specs.declared.Found.the-variants.{At, Nothing}
 use Rattle.opened.specs.Places.{isFound}
 use Rattle.lent.specs.declared.OpenRecord.{OpenRecord}
-use Rattle.lent.specs.Row.{unused, rowCount, unusedIn, lowestUnusedIn, namesIn, isOpenIn}
+use Rattle.lent.specs.Row.{rowCount, unusedIn, lowestUnusedIn, namesIn, isOpenIn}
 
 is-true : (z : Bool) → T z → z ≡ true
 is-true true h = refl
