@@ -44,10 +44,6 @@ unusedIn row p = not (getD row p unused .used)
 unfoldable pub lowestUnusedIn : List OpenRecord → Found
 lowestUnusedIn row = lowest (unusedIn row) 0 (rowCount row)
 
--- a number among count places: that place, or nothing where there is no such place
-unfoldable pub placeAmong : ℕ → ℕ → Found
-placeAmong count p = cond (ltb p count) (At p) Nothing
-
 -- ---- A file is open when a used place names its slot.
 
 abbrev pub namesIn : List OpenRecord → ℕ → ℕ → Bool
