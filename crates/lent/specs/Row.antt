@@ -3,7 +3,7 @@ use Prim.Native.Nat.{ℕ, zero, suc, _+_, _/_, min}
 use mathlib.Core.Bool.{Bool, false, cond, not, _&&_}
 use mathlib.Core.List.{List, [], _∷_}
 use lib.Dec.{eqb, ltb}
-use lib.ListN.{length, getD}
+use lib.ListN.{length, getD, set}
 use Rattle.search.specs.Search.{lowest}
 use Rattle.search.specs.declared.Found.{Found}
 use Rattle.search.specs.declared.Found.the-variants.{At, Nothing}
@@ -35,6 +35,10 @@ rowCount row = min 16 (length row)
 -- the record at place p, an unused one where the row has no such place
 unfoldable pub recordAt : List OpenRecord → ℕ → OpenRecord
 recordAt row p = cond (ltb p 16) (cond (ltb p (length row)) (getD row p unused) unused) unused
+
+-- the row with r at place p; as it was where it has no such place
+unfoldable pub withRecordAt : List OpenRecord → ℕ → OpenRecord → List OpenRecord
+withRecordAt row p r = cond (ltb p 16) (cond (ltb p (length row)) (set row p r) row) row
 
 -- ---- the lowest unused place
 

@@ -4,7 +4,7 @@ use offset::Moved;
 use search::Found;
 ghost use mathlib.Core.Path.{_≡_};
 ghost use Rattle.lent.specs.Seek.{baseFrom, seekFrom, answerOf, SeeksIn};
-ghost use Rattle.lent.specs.Row.{recordAt, lowestUnusedIn, isOpenIn};
+ghost use Rattle.lent.specs.Row.{recordAt, withRecordAt, lowestUnusedIn, isOpenIn};
 
 pub struct OpenRecord {
     pub used: bool,
@@ -29,6 +29,17 @@ pub fn record_at(row: &[OpenRecord], place: usize) -> OpenRecord
         access: 0,
         pointer: 0,
         written: false,
+    }
+}
+
+// Stores a record at a place among the first 16; the row stays as it is where it has no such place.
+pub fn put_record(row: &mut [OpenRecord], place: usize, held: OpenRecord)
+    ensures { λ _. ⌜ now (row .exit) ≡ withRecordAt (now (row .entry)) place held ⌝ }
+{
+    if place < 16 {
+        if place < row.len() {
+            row[place] = held;
+        }
     }
 }
 

@@ -1,4 +1,4 @@
--- A place of the table stored as bytes is a record of the row set, and no other.
+-- A place of the table stored as bytes is one record of the row stored, and no other.
 use Prim.Native.Nat.{ℕ, _/_, _<_}
 use native.Mathlib.Omega.{arith}
 use native.Mathlib.Decide.{ℕ-discrete}
@@ -6,13 +6,15 @@ use mathlib.Core.Bool.{Bool, true}
 use mathlib.Core.List.{List}
 use mathlib.Core.Logic.{_≢_}
 use mathlib.Core.Path.{_≡_, sym, ap, _∙_}
+use lib.Dec.{lt→ltb}
 use lib.ListN.{length, getD, set, length-set}
 use lib.Seq.{getD-set-same, getD-set-other, ext-getD}
 use Rattle.opened.specs.Records.{placeCount, withRecord, withPointer, withWritten, cleared}
 use Rattle.opened.specs.Changes.{OnlyAt}
 use Rattle.opened.specs.Laws.Stores.{record-only, record-holds, pointer-only, pointer-holds, written-only, written-holds, cleared-only, cleared-holds}
 use Rattle.lent.specs.declared.OpenRecord.{OpenRecord}
-use Rattle.lent.specs.Row.{unused, recordOf, rowOf}
+use Rattle.lent.specs.Row.{unused, recordOf, rowOf, withRecordAt}
+use Rattle.lent.specs.Laws.Row.{put-within}
 use Rattle.lent.specs.Seek.{movedTo}
 use Rattle.lent.specs.Laws.Alike.{row-length, row-reads, record-of}
 
@@ -22,8 +24,8 @@ module _ (m t : List ℕ) (p : ℕ) (k : p < placeCount t) (only : OnlyAt p m t)
   unfolding recordOf
   other q d = record-of m q (recordOf t q) (only .others q (λ e. d (sym e)))
 
-  pub row-set : rowOf m ≡ set (rowOf t) p r
-  row-set = ext-getD unused (rowOf m) (set (rowOf t) p r) long each
+  as-set : rowOf m ≡ set (rowOf t) p r
+  as-set = ext-getD unused (rowOf m) (set (rowOf t) p r) long each
     where
       long : length (rowOf m) ≡ length (set (rowOf t) p r)
       long = row-length m ∙ ap (λ (n : ℕ). n / 16) (only .long) ∙ sym (row-length t) ∙ sym (length-set (rowOf t) p r)
@@ -39,19 +41,24 @@ module _ (m t : List ℕ) (p : ℕ) (k : p < placeCount t) (only : OnlyAt p m t)
             | no e ↦ other q e ∙ sym (row-reads t q (omega arith)) ∙ sym (getD-set-other (rowOf t) p q r unused (λ f. e (sym f)))
           ]
 
+  pub row-set : rowOf m ≡ withRecordAt (rowOf t) p r
+  row-set =
+      let e = row-length t in
+      as-set ∙ put-within (rowOf t) p r (lt→ltb p 16 (omega arith)) (lt→ltb p (length (rowOf t)) (omega arith))
+
 module _ (t : List ℕ) (p : ℕ) (k : p < placeCount t) where
   -- a place taken
   module _ (access slot pointer : ℕ) (written : Bool) (slot-fits : slot < 4294967296) (pointer-fits : pointer < 4294967296) where
     abbrev taken : OpenRecord
     taken = record { used = true; slot = slot; access = access; pointer = pointer; written = written }
 
-    pub row-taken : rowOf (withRecord t p access slot pointer written) ≡ set (rowOf t) p taken
+    pub row-taken : rowOf (withRecord t p access slot pointer written) ≡ withRecordAt (rowOf t) p taken
     row-taken =
         let m = withRecord t p access slot pointer written in
         row-set m t p k (record-only t p k access slot pointer written) taken (record-of m p taken (record-holds t p k access slot pointer written slot-fits pointer-fits))
 
   -- its pointer moved
-  pub row-moved : (v : ℕ) → v < 4294967296 → rowOf (withPointer t p v) ≡ set (rowOf t) p (movedTo (recordOf t p) v)
+  pub row-moved : (v : ℕ) → v < 4294967296 → rowOf (withPointer t p v) ≡ withRecordAt (rowOf t) p (movedTo (recordOf t p) v)
   unfolding recordOf
   row-moved v h =
       let m = withPointer t p v in
@@ -62,10 +69,10 @@ module _ (t : List ℕ) (p : ℕ) (k : p < placeCount t) where
   abbrev pub asWritten : OpenRecord
   asWritten = let r = recordOf t p in record { used = r .used; slot = r .slot; access = r .access; pointer = r .pointer; written = true }
 
-  pub row-written : rowOf (withWritten t p) ≡ set (rowOf t) p asWritten
+  pub row-written : rowOf (withWritten t p) ≡ withRecordAt (rowOf t) p asWritten
   unfolding recordOf
   row-written = let m = withWritten t p in row-set m t p k (written-only t p k) asWritten (record-of m p asWritten (written-holds t p k))
 
   -- the place freed
-  pub row-freed : rowOf (cleared t p) ≡ set (rowOf t) p unused
+  pub row-freed : rowOf (cleared t p) ≡ withRecordAt (rowOf t) p unused
   row-freed = let m = cleared t p in row-set m t p k (cleared-only t p k) unused (record-of m p unused (cleared-holds t p k))
