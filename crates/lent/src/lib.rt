@@ -4,7 +4,7 @@ use offset::Moved;
 use search::Found;
 ghost use mathlib.Core.Path.{_≡_};
 ghost use Rattle.lent.specs.Seek.{baseFrom, seekFrom, answerOf, SeeksIn};
-ghost use Rattle.lent.specs.Row.{recordAt, withRecordAt, lowestUnusedIn, isOpenIn};
+ghost use Rattle.lent.specs.Row.{rowOf, recordAt, withRecordAt, lowestUnusedIn, isOpenIn};
 
 pub struct OpenRecord {
     pub used: bool,
@@ -12,6 +12,29 @@ pub struct OpenRecord {
     pub access: u8,
     pub pointer: u32,
     pub written: bool,
+}
+
+// The record that a place of a table of bytes says; an unused one where the table has no such place.
+pub fn from_bytes(t: &[u8], place: usize) -> OpenRecord
+    ensures { λ r. ⌜ r ≡ recordAt (rowOf (now (t .entry))) place ⌝ }
+{
+    if place < opened::place_count(t) {
+        OpenRecord {
+            used: opened::used_at(t, place),
+            slot: opened::slot_at(t, place),
+            access: opened::access_at(t, place),
+            pointer: opened::pointer_at(t, place),
+            written: opened::written_at(t, place),
+        }
+    } else {
+        OpenRecord {
+            used: false,
+            slot: 0,
+            access: 0,
+            pointer: 0,
+            written: false,
+        }
+    }
 }
 
 // The record at a place; an unused one where the row has no such place among its first 16.

@@ -1,19 +1,20 @@
 -- The row that a table's bytes say: both forms of the table answer alike.
-use Prim.Native.Nat.{ℕ, zero, suc, _+_, _/_, _<_}
+use Prim.Native.Nat.{ℕ, zero, suc, _+_, _/_, _≤_, _<_}
 use native.Mathlib.Omega.{arith}
+use native.Mathlib.Decide.{decLt}
 use mathlib.Core.Bool.{Bool, not}
 use mathlib.Core.List.{List}
 use mathlib.Core.Path.{_≡_, refl, sym, ap, _∙_}
-use lib.Dec.{lt→ltb}
+use lib.Dec.{ltb, lt→ltb, ltb→lt, not-T}
 use lib.ListN.{length, getD}
 use Rattle.search.specs.Search.{lowest}
 use Rattle.search.specs.Laws.Meaning.{lowest-same}
-use Rattle.opened.specs.Records.{placeCount}
+use Rattle.opened.specs.Records.{placeCount, usedOf, slotOf, accessOf, pointerOf, writtenOf}
 use Rattle.opened.specs.Places.{unusedAt, lowestUnused, namesSlot, isFound, isOpen}
 use Rattle.opened.specs.Changes.{Holds}
 use Rattle.lent.specs.declared.OpenRecord.{OpenRecord}
 use Rattle.lent.specs.Row.{unused, recordOf, rowFrom, rowOf, rowCount, recordAt, unusedIn, lowestUnusedIn, namesIn, isOpenIn}
-use Rattle.lent.specs.Laws.Row.{record-within}
+use Rattle.lent.specs.Laws.Row.{record-within, record-over, record-past}
 
 -- ---- the row by index
 
@@ -74,3 +75,16 @@ module _ (t : List ℕ) where
   pub open-alike : (slot : ℕ) → isOpenIn (rowOf t) slot ≡ isOpen t slot
   unfolding isOpenIn isOpen recordOf
   open-alike slot = ap isFound (search-alike (namesIn (rowOf t) slot) (namesSlot t slot) (λ i h. rw (row-reads t i (omega arith))))
+
+-- ---- a record read from bytes
+module _ (t : List ℕ) (p count : ℕ) (is : count ≡ placeCount t) where
+  pub read-none : count ≤ p → unused ≡ recordAt (rowOf t) p
+  read-none h = elim (decLt p 16) [
+    | yes few ↦ let e = row-length t in record-over (rowOf t) p (lt→ltb p 16 few) (not-T (ltb p (length (rowOf t))) (λ z. let k = ltb→lt p (length (rowOf t)) z in absurd (omega arith)))
+    | no many ↦ record-past (rowOf t) p (not-T (ltb p 16) (λ z. many (ltb→lt p 16 z)))
+  ]
+
+  pub read-some : p < count → (u : Bool) → u ≡ usedOf t p → (s : ℕ) → s ≡ slotOf t p → (a : ℕ) → a ≡ accessOf t p → (x : ℕ) → x ≡ pointerOf t p → (w : Bool) → w ≡ writtenOf t p
+      → record { used = u; slot = s; access = a; pointer = x; written = w } ≡ recordAt (rowOf t) p
+  unfolding recordOf
+  read-some h u eu s es a ea x ex w ew = rw (eu, es, ea, ex, ew) (sym (record-alike t p (omega arith)))
