@@ -5,3 +5,4 @@ pub mod Seek
 pub mod Alike
 pub mod Stores
 pub mod SeekAlike
+pub mod Bytes

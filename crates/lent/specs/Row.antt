@@ -8,7 +8,7 @@ use Rattle.search.specs.Search.{lowest}
 use Rattle.search.specs.declared.Found.{Found}
 use Rattle.search.specs.declared.Found.the-variants.{At, Nothing}
 use Rattle.opened.specs.Places.{isFound}
-use Rattle.opened.specs.Records.{usedOf, slotOf, accessOf, pointerOf, writtenOf}
+use Rattle.opened.specs.Records.{placeCount, withRecord, withWritten, cleared, usedOf, slotOf, accessOf, pointerOf, writtenOf}
 use Rattle.lent.specs.declared.OpenRecord.{OpenRecord}
 
 -- what an unused place holds: all fields zero
@@ -18,6 +18,13 @@ unused = record { used = false; slot = 0; access = 0; pointer = 0; written = fal
 -- the record that the bytes of place p say
 unfoldable pub recordOf : List ℕ → ℕ → OpenRecord
 recordOf t p = record { used = usedOf t p; slot = slotOf t p; access = accessOf t p; pointer = pointerOf t p; written = writtenOf t p }
+
+-- a table with a used record stored at place p; an unused one frees the place
+unfoldable pub takenBytes : List ℕ → ℕ → OpenRecord → List ℕ
+takenBytes t p r = let m = withRecord t p (r .access) (r .slot) (r .pointer) false in cond (r .written) (withWritten m p) m
+
+unfoldable pub inBytes : List ℕ → ℕ → OpenRecord → List ℕ
+inBytes t p r = cond (ltb p (placeCount t)) (cond (r .used) (takenBytes t p r) (cleared t p)) t
 
 -- the n records from place p on
 unfoldable pub rowFrom : List ℕ → ℕ → ℕ → List OpenRecord

@@ -4,7 +4,7 @@ use offset::Moved;
 use search::Found;
 ghost use mathlib.Core.Path.{_≡_};
 ghost use Rattle.lent.specs.Seek.{baseFrom, seekFrom, answerOf, SeeksIn};
-ghost use Rattle.lent.specs.Row.{rowOf, recordAt, withRecordAt, lowestUnusedIn, isOpenIn};
+ghost use Rattle.lent.specs.Row.{rowOf, inBytes, recordAt, withRecordAt, lowestUnusedIn, isOpenIn};
 
 pub struct OpenRecord {
     pub used: bool,
@@ -33,6 +33,22 @@ pub fn from_bytes(t: &[u8], place: usize) -> OpenRecord
             access: 0,
             pointer: 0,
             written: false,
+        }
+    }
+}
+
+// Stores a record at a place of a table of bytes; an unused one frees the place, and no such place leaves the table as it is.
+pub fn to_bytes(t: &mut [u8], place: usize, held: OpenRecord)
+    ensures { λ _. ⌜ now (t .exit) ≡ inBytes (now (t .entry)) place held ⌝ }
+{
+    if place < opened::place_count(t) {
+        if held.used {
+            opened::put_record(t, place, held.access, held.slot, held.pointer);
+            if held.written {
+                opened::put_written(t, place);
+            }
+        } else {
+            opened::clear(t, place);
         }
     }
 }
