@@ -1,0 +1,41 @@
+-- Seek on bytes and on a record: where the volume is sound and the handle live, both answer alike and leave the same pointer.
+use Prim.Native.Nat.{ℕ}
+use mathlib.Core.Bool.{Bool, true, false, cond}
+use mathlib.Core.List.{List, [], _∷_}
+use mathlib.Core.Path.{_≡_, refl}
+use lib.Dec.{ltb}
+use lib.IntN.{ℤ}
+use Rattle.directory.specs.Fields.{sizeOf}
+use Rattle.offset.specs.Offset.{movedBy}
+use Rattle.offset.specs.declared.Moved.{Moved}
+use Rattle.offset.specs.declared.Moved.the-variants.{To, Beyond}
+use Rattle.opened.specs.Records.{slotOf, withPointer}
+use Rattle.calls.specs.Outcome.{outcome, refusal, decided}
+use Rattle.calls.specs.Refusals.{notOfKind, notSound, notLive, addressOf}
+use Rattle.opening.specs.Seek.{seekBase, isBeyond, pointerMoved, seekOutcome}
+use Rattle.lent.specs.Row.{recordOf}
+use Rattle.lent.specs.Seek.{baseFrom, seekFrom, answerOf}
+
+module _ (img t : List ℕ) (h : ℕ) where
+  -- the table after a seek that leads there
+  abbrev pub soughtTable : Moved → List ℕ
+  soughtTable (To v) = withPointer t h v
+  soughtTable Beyond = t
+
+  -- by the two rows that are left: the method, and where it leads
+  by-rows : (z : Bool) (m : Moved) → decided ((false, 40) ∷ (false, 41) ∷ (z, 1) ∷ (false, 6) ∷ (isBeyond m, 1) ∷ []) (outcome 0 (pointerMoved m) img (withPointer t h (pointerMoved m)) []) img t []
+      ≡ outcome (answerOf (cond z Beyond m) .number) (answerOf (cond z Beyond m) .value) img (soughtTable (cond z Beyond m)) []
+  unfolding decided refusal
+  by-rows true m = refl
+  by-rows false (To v) = refl
+  by-rows false Beyond = refl
+
+  module _ (method : ℕ) (offset : ℤ) where
+    -- where it leads, by the record that the bytes say and the size of its file
+    abbrev pub leads : Moved
+    leads = seekFrom (recordOf t h .pointer) (sizeOf img (addressOf img (slotOf t h))) method offset
+
+    pub seek-alike : notOfKind img ≡ false → notSound img ≡ false → notLive img t h ≡ false
+        → seekOutcome img t h method offset ≡ outcome (answerOf leads .number) (answerOf leads .value) img (soughtTable leads) []
+    unfolding seekOutcome seekBase seekFrom baseFrom recordOf
+    seek-alike known sound live = rw (known, sound, live) (by-rows (ltb 2 method) (movedBy (seekBase img t h method) offset))
