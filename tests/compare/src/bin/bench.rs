@@ -167,11 +167,46 @@ fn works() -> [Work; 5] {
     };
     let blank = with_chains(std::iter::empty());
     [
-        work("half-full", "check of a half-full FD", half_full(), 2001, 20, check_half_full),
-        work("shared", "check of an FD with one chain for 112 files", shared(), 2001, 20, check_shared),
-        work("writes", "a write of 32 bytes, a thousand in a row, half-full FD", with_new_file(half_full()), 301, 1000, write_weighings),
-        work("read", "open, read of 512 bytes and close, half-full FD", half_full(), 2001, 20, open_read_close),
-        work("full", "one write that fills a blank FD", with_new_file(blank), 2001, 1, fill_disk),
+        work(
+            "half-full",
+            "check of a half-full FD",
+            half_full(),
+            2001,
+            20,
+            check_half_full,
+        ),
+        work(
+            "shared",
+            "check of an FD with one chain for 112 files",
+            shared(),
+            2001,
+            20,
+            check_shared,
+        ),
+        work(
+            "writes",
+            "a write of 32 bytes, a thousand in a row, half-full FD",
+            with_new_file(half_full()),
+            301,
+            1000,
+            write_weighings,
+        ),
+        work(
+            "read",
+            "open, read of 512 bytes and close, half-full FD",
+            half_full(),
+            2001,
+            20,
+            open_read_close,
+        ),
+        work(
+            "full",
+            "one write that fills a blank FD",
+            with_new_file(blank),
+            2001,
+            1,
+            fill_disk,
+        ),
     ]
 }
 
@@ -202,7 +237,10 @@ fn compare_times(work: &Work) {
         }
     }
     let (archive, plain) = (median(archives, work), median(plains, work));
-    println!("{}, medians of {} rounds of {}:", work.title, work.rounds, work.times);
+    println!(
+        "{}, medians of {} rounds of {}:",
+        work.title, work.rounds, work.times
+    );
     println!("archive    {archive:.0} ns");
     println!("plain Rust {plain:.0} ns");
     println!("ratio      {:.2}", archive / plain);
@@ -220,7 +258,11 @@ fn main() -> ExitCode {
                 .iter()
                 .find(|work| work.word == word)
                 .expect("half-full, shared, writes, read or full");
-            (work.act)(&library, &mut work.scene.clone(), times.parse().expect("a count"));
+            (work.act)(
+                &library,
+                &mut work.scene.clone(),
+                times.parse().expect("a count"),
+            );
         }
         _ => {
             eprintln!("bench [archive|plain half-full|shared|writes|read|full COUNT]");
