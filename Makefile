@@ -30,16 +30,18 @@ CFLAGS = -O2
 COMPILE = tests/x86.sh --cc $(CFLAGS) -Wall -Wextra -Werror -std=c11 -pedantic -Iinclude -Itools
 SHARED = tools/imagefile.c tools/refusal.c tools/say.c tools/stamp.c tools/wholefile.c
 ARCHIVE = target/staticlib/libscale.a
+MEMBER = target/staticlib/libmember.a
 OUT = target/c
 
-archive:
+archives:
 	tests/product.sh archive
+	tests/product.sh member
 	mkdir -p $(OUT)
 
-balladmoor: archive
-	$(COMPILE) tools/balladmoor.c tools/print.c $(SHARED) $(ARCHIVE) -o $(OUT)/balladmoor
+balladmoor: archives
+	$(COMPILE) tools/balladmoor.c tools/print.c $(SHARED) $(ARCHIVE) $(MEMBER) -o $(OUT)/balladmoor
 
-example: archive
+example: archives
 	$(COMPILE) examples/scale.c $(SHARED) $(ARCHIVE) -o $(OUT)/scale
 
 PREFIX = /usr/local
@@ -52,4 +54,4 @@ install: balladmoor
 clean:
 	rm -rf target tests/compare/target
 
-.PHONY: all test compare bench archive balladmoor example install clean
+.PHONY: all test compare bench archives balladmoor example install clean

@@ -1,5 +1,6 @@
 #!/usr/bin/env bash
-# product.sh archive   makes target/staticlib/libscale.a
+# product.sh archive   makes target/staticlib/libscale.a, the scale's calls
+# product.sh member    makes target/staticlib/libmember.a, what the command asks beside them
 # product.sh PROGRAM   makes target/bin/PROGRAM (listing, sample)
 # Only where it is missing or older than a source; what is proved already is not proved again.
 set -eu
@@ -12,6 +13,7 @@ is_fresh() {
 
 case $1 in
 archive) is_fresh target/staticlib/libscale.a || rt staticlib scale ;;
+member) is_fresh target/staticlib/libmember.a || rt staticlib member ;;
 listing | sample) is_fresh "target/bin/$1" || rt check "$1" ;;
 *)
   echo "product.sh: no product is called $1" >&2

@@ -1,11 +1,11 @@
 #include "print.h"
 
 #include "balladmoor.h"
+#include "member.h"
 
 #include <stdio.h>
 
-/* No kind has more slots in its root; past its own, bm_entry answers none. */
-enum { SLOTS_MOST = 112, LINE = 16 };
+enum { LINE = 16, DIGITS_MOST = 32 };
 
 static const struct {
     uint32_t bit;
@@ -47,18 +47,18 @@ static void print_name(const uint8_t *entry)
     }
 }
 
-/* Date and time as stored: 7, 4, 5 bits and 5, 6, 5. One that is out of its ranges prints as none. */
+/* One that is out of its ranges prints as none. */
 static void print_stamp(const uint8_t *entry)
 {
-    unsigned date = number_at(entry + BM_ENTRY_DATE, 2), time = number_at(entry + BM_ENTRY_TIME, 2);
-    unsigned year = date >> 9, month = date >> 5 & 15, day = date & 31;
-    unsigned hour = time >> 11, minute = time >> 5 & 63, step = time & 31;
-    if (year <= 119 && month >= 1 && month <= 12 && day >= 1)
-        printf(" %04u-%02u-%02u", 1980 + year, month, day);
+    uint64_t date = member_date(number_at(entry + BM_ENTRY_DATE, 2));
+    uint64_t time = member_time(number_at(entry + BM_ENTRY_TIME, 2));
+    unsigned ymd = BM_VALUE(date), hms = BM_VALUE(time);
+    if (BM_NUMBER(date) == 0)
+        printf(" %04u-%02u-%02u", ymd / 10000, ymd / 100 % 100, ymd % 100);
     else
         printf(" %10s", "none");
-    if (hour <= 23 && minute <= 59 && step <= 29)
-        printf("  %2u:%02u", hour, minute);
+    if (BM_NUMBER(time) == 0)
+        printf("  %2u:%02u", hms / 10000, hms / 100 % 100);
     else
         printf("  %5s", "none");
 }
@@ -75,46 +75,71 @@ static void print_file(const uint8_t *entry)
     putchar('\n');
 }
 
+/* The lowest slot from this one on where that stands, with its entry. False if there is none. */
+static bool next_slot(const struct bytes *image, uint32_t *slot, uint32_t that, uint8_t *entry)
+{
+    uint32_t there = BM_VALUE(member_slot(image->at, image->length, *slot));
+    while (there != that && there != MEMBER_NO_SLOT)
+        there = BM_VALUE(member_slot(image->at, image->length, ++*slot));
+    return there == that && BM_VALUE(bm_entry(image->at, image->length, *slot, entry, BM_ENTRY_SIZE)) == 1;
+}
+
 static void print_label(const char *path, const struct bytes *image)
 {
     uint8_t entry[BM_ENTRY_SIZE];
+    uint32_t slot = 0;
+    unsigned n, length = 11;
+    if (!next_slot(image, &slot, MEMBER_LABEL, entry)) {
+        printf(" Volume in %s has no label\n\n", path);
+        return;
+    }
+    while (length > 0 && entry[BM_ENTRY_NAME + length - 1] == ' ')
+        length--;
+    printf(" Volume in %s is ", path);
+    for (n = 0; n < length; n++)
+        putchar(shown(entry[BM_ENTRY_NAME + n], '?'));
+    printf("\n\n");
+}
+
+/* The digits of a number, with a space before each three as mdir has them. Answers how many signs. */
+static int group(unsigned long number, char *digits)
+{
+    int length = number < 1000 ? 0 : group(number / 1000, digits);
+    return length + sprintf(digits + length, length == 0 ? "%lu" : " %03lu", number % 1000);
+}
+
+static void print_files(const struct bytes *image)
+{
+    uint8_t entry[BM_ENTRY_SIZE];
+    unsigned long files = 0, bytes = 0;
+    char digits[DIGITS_MOST];
     uint32_t slot;
-    printf(" Volume in %s ", path);
-    for (slot = 0; slot < SLOTS_MOST; slot++)
-        if (BM_VALUE(bm_entry(image->at, image->length, slot, entry, sizeof entry)) == 1 &&
-            (entry[BM_ENTRY_ATTRIBUTE] & BM_LABEL)) {
-            unsigned n, length = 11;
-            while (length > 0 && entry[BM_ENTRY_NAME + length - 1] == ' ')
-                length--;
-            printf("is ");
-            for (n = 0; n < length; n++)
-                putchar(shown(entry[BM_ENTRY_NAME + n], '?'));
-            printf("\n\n");
-            return;
-        }
-    printf("has no label\n\n");
+    for (slot = 0; next_slot(image, &slot, MEMBER_FILE, entry); slot++) {
+        print_file(entry);
+        files++;
+        bytes += number_at(entry + BM_ENTRY_FILE_SIZE, 4);
+    }
+    group(bytes, digits);
+    if (files == 0)
+        printf("No files\n");
+    else
+        printf("%9lu file%s%20s bytes\n", files, files == 1 ? " " : "s", digits);
 }
 
 uint32_t print_list(const char *path, const struct bytes *image)
 {
-    uint8_t entry[BM_ENTRY_SIZE], space[BM_SPACE_SIZE];
-    unsigned long files = 0, bytes = 0;
-    uint64_t answer = bm_entry(image->at, image->length, 0, NULL, 0);
-    uint32_t slot;
+    uint8_t space[BM_SPACE_SIZE];
+    uint64_t answer = member_slot(image->at, image->length, 0);
+    char digits[DIGITS_MOST];
     if (BM_NUMBER(answer) != 0)
         return BM_NUMBER(answer);
     print_label(path, image);
-    for (slot = 0; slot < SLOTS_MOST; slot++)
-        if (BM_VALUE(bm_entry(image->at, image->length, slot, entry, sizeof entry)) == 1 &&
-            !(entry[BM_ENTRY_ATTRIBUTE] & BM_LABEL)) {
-            print_file(entry);
-            files++;
-            bytes += number_at(entry + BM_ENTRY_FILE_SIZE, 4);
-        }
-    printf("%9lu file%s %18lu bytes\n", files, files == 1 ? " " : "s", bytes);
+    print_files(image);
     answer = bm_free_space(image->at, image->length, space, sizeof space);
-    if (BM_NUMBER(answer) == 0)
-        printf("%34lu bytes free\n", word_at(space, 0) * word_at(space, 2) * word_at(space, 3));
+    if (BM_NUMBER(answer) == 0) {
+        group(word_at(space, 0) * word_at(space, 2) * word_at(space, 3), digits);
+        printf("%35s bytes free\n", digits);
+    }
     return BM_NUMBER(answer);
 }
 

@@ -50,8 +50,8 @@ check "the day's stamp, start and size" [ "$(bytes disk.img $((1536 + 54)) 10)" 
 ends 0 "list" balladmoor list disk.img
 prints "TARE     KEY        40 1983-09-01   6:40  R--A"
 prints "DAY001   LOG      1025 1983-09-01  18:05  ---A"
-prints "        2 files               1065 bytes"
-prints "                            $((309 * 512)) bytes free"
+prints "        2 files               1 065 bytes"
+prints "                            158 208 bytes free"
 ends 0 "check" balladmoor check disk.img
 prints "disk.img: sound; files 2; clusters free 309, held by files 4, set aside 0"
 ends 0 "get to a file" balladmoor get disk.img tare.key tare.back
@@ -106,7 +106,7 @@ ends 0 "delete" balladmoor delete disk.img NOTE.TXT
 ends 0 "clear the tare's mark" balladmoor mode disk.img TARE.KEY 20
 ends 0 "then it may be deleted" balladmoor delete disk.img TARE.KEY
 ends 0 "list" balladmoor list disk.img
-prints "        1 file                1025 bytes"
+prints "        1 file                1 025 bytes"
 
 echo "-- a full disk"
 head -c 362497 /dev/urandom >long
@@ -127,7 +127,7 @@ for n in $(seq 64); do balladmoor put slots.img "F$n" /dev/null || break; done
 ends 1 "a 65th name on a disk of 64 slots" balladmoor put slots.img F65 tare
 says "or the directory has no room for another name"
 ends 0 "list" balladmoor list slots.img
-prints "       64 files                  0 bytes"
+prints "       64 files                   0 bytes"
 
 echo "-- stamps"
 while read -r status date time shown; do

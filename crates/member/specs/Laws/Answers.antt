@@ -1,0 +1,81 @@
+-- The answers in the form of the code's needs.
+use Prim.Native.Nat.{ℕ, _+_, _*_, _/_, _%_, _≤_, _<_}
+use native.Mathlib.Omega.{arith}
+use mathlib.Core.Bool.{false}
+use mathlib.Core.List.{List}
+use mathlib.Core.Path.{_≡_, refl, sym, _∙_, ap}
+use lib.ListN.{length}
+use borrow.Author.Tests.{le-leb, lt-leb}
+use Rattle.diskette.specs.Images.{kindOfImage}
+use Rattle.diskette.specs.Kinds.{Usable}
+use Rattle.diskette.specs.Places.{rootEntries, slotAt}
+use Rattle.diskette.specs.Laws.Images.{image-of-kind, image-usable, image-has-area}
+use Rattle.diskette.specs.Laws.Places.{slot-before-data}
+use Rattle.diskette.specs.declared.Kind.{Kind}
+use Rattle.diskette.specs.declared.WhichKind.{WhichKind}
+use Rattle.diskette.specs.declared.WhichKind.the-variants.{Known, Unknown}
+use Rattle.directory.specs.Slots.{standingOf}
+use Rattle.directory.specs.declared.Standing.{Standing}
+use Rattle.stamps.specs.Stamps.{timeRead, dateRead}
+use Rattle.stamps.specs.Laws.Ranges.{time-out, date-out}
+use Rattle.stamps.specs.Laws.Stamps.{read-no-time, read-no-date}
+use Rattle.stamps.specs.declared.TimeRead.{TimeRead}
+use Rattle.stamps.specs.declared.TimeRead.the-variants.{Time, NoTime}
+use Rattle.stamps.specs.declared.DateRead.{DateRead}
+use Rattle.stamps.specs.declared.DateRead.the-variants.{Date, NoDate}
+use Rattle.member.specs.Answers.{refusedBy, standingTold, slotTold, dateTold, timeTold}
+
+-- ---- a slot: r is the kind that was found
+
+module _ (l : List ℕ) (s : ℕ) (r : WhichKind) (p : r ≡ kindOfImage l) where
+  told-on : (x : ℕ) → x ≡ slotTold r l s → x ≡ slotTold (kindOfImage l) l s
+  told-on x h = h ∙ ap (λ w. slotTold w l s) p
+
+  pub not-of-a-kind : r ≡ Unknown → refusedBy 40 ≡ slotTold (kindOfImage l) l s
+  unfolding slotTold
+  not-of-a-kind q = told-on _ (rw q)
+
+  module _ (k : Kind) (q : r ≡ Known k) where
+    pub kind-usable : Usable k
+    kind-usable = image-usable l k (sym p ∙ q)
+
+    pub no-such-slot : (n : ℕ) → n ≡ rootEntries k → n ≤ s → 0 ≡ slotTold (kindOfImage l) l s
+    unfolding slotTold
+    no-such-slot n e h = told-on 0 (rw (q, le-leb (rootEntries k) s (omega arith)))
+
+    module _ (n : ℕ) (e : n ≡ rootEntries k) (h : s < n) (a : ℕ) (g : a ≡ slotAt k s) where
+      pub slot-within : a + 32 ≤ length l
+      slot-within =
+          let o = image-of-kind l k .0 (sym p ∙ q) in
+          omega (arith, slot-before-data k kind-usable s (omega arith), image-has-area l k o kind-usable)
+
+      pub slot-told : (m : Standing) (x : ℕ) → m ≡ standingOf l a → x ≡ standingTold m → x ≡ slotTold (kindOfImage l) l s
+      unfolding slotTold
+      slot-told m x d y = told-on x (y ∙ rw (q, lt-leb (rootEntries k) s (omega arith), d, g))
+
+-- ---- a stored date and a stored time: a is what was read
+
+module _ (w : ℕ) where
+  pub date-told : (a : DateRead) (year month day : ℕ) → a ≡ dateRead w → a ≡ Date year month day → (1980 + year) * 10000 + month * 100 + day ≡ dateTold (dateRead w)
+  unfolding dateTold
+  date-told a year month day e f = rw (← e, f)
+
+  pub no-date : (a : DateRead) → a ≡ dateRead w → a ≡ NoDate → refusedBy 43 ≡ dateTold (dateRead w)
+  unfolding dateTold
+  no-date a e f = rw (← e, f)
+
+  -- a word has 16 bits; a larger number has a year above 119
+  pub date-too-large : 65535 < w → refusedBy 43 ≡ dateTold (dateRead w)
+  date-too-large h = no-date NoDate (read-no-date w false (date-out _ _ _ (λ r. omega arith)) refl) refl
+
+  pub time-told : (a : TimeRead) (hour minute step : ℕ) → a ≡ timeRead w → a ≡ Time hour minute step → hour * 10000 + minute * 100 + step * 2 ≡ timeTold (timeRead w)
+  unfolding timeTold
+  time-told a hour minute step e f = rw (← e, f)
+
+  pub no-time : (a : TimeRead) → a ≡ timeRead w → a ≡ NoTime → refusedBy 43 ≡ timeTold (timeRead w)
+  unfolding timeTold
+  no-time a e f = rw (← e, f)
+
+  -- and an hour above 23
+  pub time-too-large : 65535 < w → refusedBy 43 ≡ timeTold (timeRead w)
+  time-too-large h = no-time NoTime (read-no-time w false (time-out _ _ _ (λ r. omega arith)) refl) refl
