@@ -3,6 +3,7 @@
 import os
 import struct
 
+from as_mdir import free_of
 from counts import expect
 from exchange import content, contents, exchange, read_by_us
 from volume import DISKETTES, Volume, ran
@@ -22,18 +23,13 @@ def formatted(folder, kilobytes, words):
     return volume
 
 
-def put_all(volume):
-    for name, data in contents().items():
-        volume.copy(name, data)
-
-
 def try_kind(folder, kilobytes):
     formatted(folder, kilobytes, KINDS[kilobytes]).expect_sound("blank")
     # Its label is an entry, and one is allowed.
     volume = formatted(folder, kilobytes, KINDS[kilobytes] + " -n SCALE")
     expect(volume.slots_with(0x08), [0], f"{volume.title}: the label is an entry")
     volume.expect_sound("blank with a label")
-    put_all(volume)
+    volume.copy_all(contents())
     exchange(volume, contents())
 
 
@@ -45,7 +41,7 @@ def try_bad_blocks(folder, kilobytes):
     volume = formatted(folder, kilobytes, f"{KINDS[kilobytes]} -l {listed}")
     volume.title = f"mkfs.fat with bad blocks, {kilobytes}K"
     volume.aside = 2 * 1024 // volume.cluster_bytes
-    put_all(volume)
+    volume.copy_all(contents())
     blocks = [volume.bytes()[1024 * block :][:1024] for block in (20, 30)]
     exchange(volume, contents())
     after = [volume.bytes()[1024 * block :][:1024] for block in (20, 30)]
@@ -70,7 +66,7 @@ def try_other_layouts(folder):
     formatted(folder, 320, KINDS[320].replace("-s 2", "-s 1")).expect_finding(2, 0, "a table of another length")
     # Clusters of two sectors: a file of 1,025 bytes has two clusters and needs three.
     volume = formatted(folder, 160, KINDS[160].replace("-s 1", "-s 2"))
-    volume.expect_verdict("sound 0 313 0 0", f"{volume.title}, larger clusters, blank")
+    volume.expect_counts(0, 313, 0, f"{volume.title}, larger clusters, blank")
     volume.copy("DAY001.LOG", content("DAY001.LOG", 1025))
     volume.expect_finding(5, 0, "larger clusters, a file")
 
@@ -79,9 +75,9 @@ def try_more_than_the_maker(folder):
     # Without -g it lays out 352 of the 360 sectors. The kind goes by the length: 8 clusters more than the maker's.
     volume = formatted(folder, 180, KINDS[180].replace("-g 1/9 ", ""))
     expect(struct.unpack_from("<H", volume.bytes(), 19)[0], 352, f"{volume.title}: sectors that the maker counts")
-    expect(volume.files_by_mdir()[1], (351 - 8) * 512, f"{volume.title}: free bytes by mdir")
-    volume.expect_verdict("sound 0 351 0 0", f"{volume.title}, 8 sectors not laid out")
-    put_all(volume)
+    expect(free_of(volume.mdir()), (351 - 8) * 512, f"{volume.title}: free bytes by mdir")
+    volume.expect_counts(0, 351, 0, f"{volume.title}, 8 sectors not laid out")
+    volume.copy_all(contents())
     read_by_us(volume, contents(), volume.title)
 
 
@@ -90,7 +86,7 @@ def try_longer_root(folder):
     # the same place; the data begin 3 sectors later than the kind's, so that a read gives other bytes than the maker's.
     volume = formatted(folder, 160, KINDS[160].replace("-r 64", "-r 112"))
     volume.copy("TARE.KEY", content("TARE.KEY", 40))
-    volume.expect_verdict("sound 1 312 1 0", f"{volume.title}, a longer root")
+    volume.expect_counts(1, 312, 1, f"{volume.title}, a longer root")
     kind_data = volume.bytes()[512 * volume.first_data :][:40]
     maker_data = volume.bytes()[512 * (volume.first_data + 3) :][:40]
     expect(maker_data == content("TARE.KEY", 40), True, f"{volume.title}: where the maker put the bytes")

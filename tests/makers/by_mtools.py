@@ -2,7 +2,7 @@
 
 from counts import expect
 from exchange import contents, exchange
-from volume import DISKETTES, Volume, fields
+from volume import DISKETTES, Volume, ended, fields
 
 
 def formatted(folder, kilobytes, *words):
@@ -37,22 +37,36 @@ def try_files(folder, kilobytes):
     volume.copy("ONE.513", plain(513), "2000-02-29 12:30:30")
     volume.copy("small.txt", plain(5000), "2024-06-30 09:08:06")
     volume.expect_sound("six files")
-    # mdir has no seconds; these are the stamps that the files had.
+    # Neither mdir nor our list has seconds; these are the stamps that the files had.
     seconds = fields(volume.listed(), "time")
     wanted = ["06:40:00", "18:05:58", "00:00:00", "23:59:58", "12:30:30", "09:08:06"]
-    expect(seconds, wanted, f"{volume.title}: seconds as copied")
+    expect(seconds, wanted, f"{volume.title}: seconds as copied, by the listing program")
     volume.tool("mattrib", "+r", "+h", "+s", "::TARE.KEY")
     volume.expect_sound("a file read-only, hidden and system")
-    expect(fields(volume.listed(), "attr")[0], "27", f"{volume.title}: its attribute")
+    shown = b"27 read-only hidden system archive\n"
+    expect(ended(volume.command("mode", "TARE.KEY")), [(0, shown, "")], f"{volume.title}: its attribute by our mode")
     # Deleted files leave erased slots and free clusters; a longer file then lies in pieces.
     volume.tool("mdel", "::DAY001.LOG", "::ONE.512")
-    volume.expect_sound("two files deleted")
     volume.copy("PIECES.BIN", plain(20000), "2010-10-10 10:10:10")
-    volume.expect_sound("a file in pieces")
     # mren may leave the old slot erased.
     volume.tool("mren", "::ONE.513", "NEW.NAM")
-    expect("NEW.NAM" in fields(volume.listed(), "file"), True, f"{volume.title}: the new name is listed")
-    volume.expect_sound("a file renamed")
+    volume.expect_sound("files deleted, one in pieces, one renamed")
+
+
+def try_list(folder, kilobytes):
+    # Names with and without an extension, sizes of 1 to 6 digits, years to the last one, times about noon and midnight.
+    volume = formatted(folder, kilobytes, "-v", "HIVES 7")
+    volume.copy("A", plain(1), "1980-01-01 00:00:00")
+    volume.copy("B.C", plain(12), "1999-12-31 11:59:58")
+    volume.copy("LONGNAME", plain(123), "2000-01-01 12:00:00")
+    volume.copy("LONGNAME.EXT", plain(1234), "2026-03-04 12:59:00")
+    volume.copy("SIGNS-_.$#@", plain(12345), "2079-11-30 13:00:00")
+    volume.copy("12345678.9", plain(100001), "2099-12-31 23:59:58")
+    volume.expect_sound("sizes, dates and times of all widths")
+    slots = {160: 64, 180: 64, 320: 112, 360: 112}[kilobytes]
+    volume = formatted(folder, kilobytes)
+    volume.copy_all({f"F{n}": b"" for n in range(slots)})
+    volume.expect_sound("a file in each slot")
 
 
 def try_full(folder, kilobytes):
@@ -67,7 +81,8 @@ def try_long_names(folder, kilobytes):
     volume = formatted(folder, kilobytes)
     volume.copy("longer.name", plain(5))
     expect(len(volume.slots_with(0x08)), 1, f"{volume.title}: one entry for a long name")
-    volume.expect_sound("one long name")
+    # mdir calls no such entry a label; its bytes are the name's letters in pairs, the second 0.
+    volume.expect_sound("one long name", label="Al?o?n?g?e?")
     # The next is a second label: finding 4 at its slot.
     volume.copy("another.name", plain(5))
     volume.expect_finding(4, volume.slots_with(0x08)[1], "a second long name")
@@ -92,8 +107,7 @@ def try_folder(folder, kilobytes):
 
 def try_exchange(folder, kilobytes):
     volume = formatted(folder, kilobytes, "-v", "SCALE")
-    for name, data in contents().items():
-        volume.copy(name, data)
+    volume.copy_all(contents())
     exchange(volume, contents())
 
 
@@ -108,6 +122,7 @@ def try_all(folder):
     for kilobytes in DISKETTES:
         try_blank(folder, kilobytes)
         try_files(folder, kilobytes)
+        try_list(folder, kilobytes)
         try_full(folder, kilobytes)
         try_long_names(folder, kilobytes)
         try_folder(folder, kilobytes)

@@ -3,14 +3,13 @@
 
 from counts import expect
 from exchange import contents, exchange, put_by_us
-from volume import DISKETTES, Volume
+from volume import COMMAND, DISKETTES, Volume, ended
 
 
 def formatted(folder, kilobytes):
     volume = Volume(folder, kilobytes, "our format")
-    with open(volume.path, "wb") as file:
-        file.truncate(1024 * kilobytes)
-    expect(volume.call(f"format {volume.kind:02X}"), [(0, 0)], f"{volume.title}: our format")
+    made = ended([*COMMAND, "format", str(kilobytes), volume.path])
+    expect(made, [(0, b"", "")], f"{volume.title}: our format")
     return volume
 
 

@@ -1,15 +1,20 @@
-"""Files go both ways: our calls read what the maker put on a volume, and mtools reads what our calls did there."""
+"""Files go both ways: our command reads what the maker put on a volume, and mtools reads what our command did there."""
 
 import os
 import random
 import tempfile
 
+from as_mdir import files_of
 from counts import expect
+from volume import ended
+
+SCALE = ["tests/x86.sh", "target/c/scale"]
 
 # The files that each maker puts on its volumes, in this order; sizes about the ends of clusters, but on no end of one
 # (DOSBox's volumes are not sound then).
 SIZES = {
     "TARE.KEY": 40,
+    "19830901.LOG": 1000,
     "DAY001.LOG": 1025,
     "EMPTY": 0,
     "ONE.511": 511,
@@ -20,13 +25,18 @@ SIZES = {
 
 
 def content(name, size):
-    """Bytes that no other file has, the same each time."""
-    return random.Random(name).randbytes(size)
+    """Bytes that no other file has, the same each time; the tare's are a number of grams."""
+    return b"12500".ljust(size, b"\n") if name == "TARE.KEY" else random.Random(name).randbytes(size)
 
 
 def contents():
     """The files' bytes by their names."""
     return {name: content(name, size) for name, size in SIZES.items()}
+
+
+def held(volume, files):
+    """The clusters that files with these bytes need."""
+    return sum(-(-len(data) // volume.cluster_bytes) for data in files.values())
 
 
 def taken(path):
@@ -45,79 +55,75 @@ def differing(files, folder):
 
 
 def read_by_us(volume, files, what):
-    """Each file's bytes, by our open, read and close."""
+    """Each file's bytes, by our get."""
     before = volume.bytes()
-    with tempfile.TemporaryDirectory(dir=volume.folder) as folder:
-        answers = volume.call(*(f"get {name} {os.path.join(folder, name)}" for name in files))
-        expect(answers, [(0, len(wanted)) for wanted in files.values()], f"{what}: our reads end well")
-        expect(differing(files, folder), [], f"{what}: the bytes of all files by our calls")
+    got = ended(*(volume.command("get", name, "-") for name in files))
+    differ = [name for name, told in zip(files, got) if told != (0, files[name], "")]
+    expect(differ, [], f"{what}: the bytes of all files by our get")
     expect(volume.bytes() == before, True, f"{what}: reading alters nothing")
 
 
 def read_by_mtools(volume, files, what):
     """Exactly these files stand there, with their bytes, by mtools."""
-    names = sorted(name for name, _, _, _ in volume.files_by_mdir()[0])
+    names = sorted(name for name, _ in files_of(volume.mdir()))
     expect(names, sorted(files), f"{what}: the files by mdir")
     with tempfile.TemporaryDirectory(dir=volume.folder) as folder:
         volume.tool("mcopy", *(f"::{name}" for name in files), folder)
         expect(differing(files, folder), [], f"{what}: the bytes of all files by mcopy")
 
 
-def agreed(volume, files, what, fsck=True):
-    """Sound, and the files have these bytes, by mtools and by our calls; fsck.fat finds nothing."""
+def agreed(volume, files, what, fsck):
+    """Sound, and the files have these bytes by mtools; fsck.fat finds nothing."""
     volume.expect_sound(what)
     what = f"{volume.title}, {what}"
     read_by_mtools(volume, files, what)
-    read_by_us(volume, files, what)
     if fsck:
-        held = sum(-(-len(wanted) // volume.cluster_bytes) for wanted in files.values())
-        volume.expect_fsck_passes(len(files), held, what)
-
-
-def made(volume, *steps):
-    """Makes our calls, each the words of a line; where the last word is bytes they stand in a file. The answers."""
-    lines = []
-    with tempfile.TemporaryDirectory(dir=volume.folder) as folder:
-        for place, (*words, last) in enumerate(steps):
-            if isinstance(last, bytes):
-                path = os.path.join(folder, str(place))
-                with open(path, "wb") as file:
-                    file.write(last)
-                last = path
-            lines.append(" ".join([*words, last]))
-        return volume.call(*lines)
+        volume.expect_fsck_passes(len(files), held(volume, files), what)
 
 
 def put_by_us(volume, files):
-    """Creates and writes these files by our calls."""
-    answers = made(volume, *(("put", name, data) for name, data in files.items()))
-    expect(answers, [(0, len(data)) for data in files.values()], f"{volume.title}: our calls put files there")
+    """Has our command put these files there."""
+    said = [volume.put(name, data) for name, data in files.items()]
+    expect(said, [(0, "")] * len(files), f"{volume.title}: our put")
+
+
+def weigh(volume, files):
+    """The scale's program writes at the end of the day's file, which the maker began; it wants a read-only tare."""
+    expect(volume.change("mode", "TARE.KEY", "01"), True, f"{volume.title}: our mode")
+    grams = [str(61000 + n) for n in range(200)]
+    [(status, _, said)] = ended([*SCALE, volume.path, "1983-09-01", "18:05:58", *grams])
+    expect((status, said), (0, ""), f"{volume.title}: weighings written at a file's end")
+    files["19830901.LOG"] += "".join(f"18:05:58 {weight}\n" for weight in grams).encode()
 
 
 def change_by_us(volume, files):
-    """Creates, writes, deletes and renames by our calls, and keeps the files' bytes beside."""
+    """Puts, deletes, renames, marks and appends by our command, and keeps the files' bytes beside."""
     sizes = {"PIECES.BIN": 9001, "WHOLE.BIN": 2 * volume.cluster_bytes, "NOTHING": 0, "DAY001.LOG": 3000}
     put = {name: content(f"ours {name}", size) for name, size in sizes.items()}
-    more = content("ours TARE.KEY", 3000)
     # The free clusters of the deleted file come first, then those after the last file: PIECES.BIN lies in pieces.
-    expect(made(volume, ("delete", "GONE.BIN")), [(0, 0)], f"{volume.title}: our delete")
+    expect(volume.change("delete", "GONE.BIN"), True, f"{volume.title}: our delete")
     put_by_us(volume, put)
-    answers = made(volume, ("add", "TARE.KEY", more), ("rename", "ONE.513", "NEW.NAM"))
-    expect(answers, [(0, len(more)), (0, 0)], f"{volume.title}: our write at a file's end, and our rename")
+    expect(volume.change("rename", "ONE.513", "NEW.NAM"), True, f"{volume.title}: our rename")
+    weigh(volume, files)
     del files["GONE.BIN"]
     files.update(put)
-    files["TARE.KEY"] += more
     files["NEW.NAM"] = files.pop("ONE.513")
+    mark = volume.tool("mattrib", "-X", "::TARE.KEY").split()[0]
+    expect(mark, "R", f"{volume.title}: the tare's mark by mattrib")
 
 
 def fill_by_us(volume, files):
-    """Writes until no cluster is free: as many bytes as the room has, and then none."""
-    held = sum(-(-len(wanted) // volume.cluster_bytes) for wanted in files.values())
-    room = (volume.clusters - held - volume.aside) * volume.cluster_bytes
+    """Puts a file that leaves no cluster free; one byte more finds no room, before and after."""
+    room = (volume.clusters - held(volume, files) - volume.aside) * volume.cluster_bytes
     data = content("ours REST.BIN", room + 1)
-    answers = made(volume, ("put", "REST.BIN", data), ("put", "MORE.BIN", b"M"))
-    expect(answers, [(0, room), (0, 0)], f"{volume.title}: our write fills it, and the next finds no room")
-    files.update({"REST.BIN": data[:room], "MORE.BIN": b""})
+    before = volume.bytes()
+    status, said = volume.put("REST.BIN", data)
+    full = (status, f"room for {room} of {room + 1} bytes" in said, volume.bytes() == before)
+    expect(full, (1, True, True), f"{volume.title}: our put of a byte too much changes nothing")
+    put_by_us(volume, {"REST.BIN": data[:room]})
+    status, said = volume.put("MORE.BIN", b"M")
+    expect((status, "room for 0 of 1 bytes" in said), (1, True), f"{volume.title}: our put finds the volume full")
+    files["REST.BIN"] = data[:room]
 
 
 def exchange(volume, files, fsck=True):
@@ -125,9 +131,11 @@ def exchange(volume, files, fsck=True):
     files = dict(files)
     boot_sector = volume.bytes()[:512]
     agreed(volume, files, "the maker's files", fsck)
+    read_by_us(volume, files, f"{volume.title}, the maker's files")
     change_by_us(volume, files)
-    agreed(volume, files, "changed by our calls", fsck)
+    agreed(volume, files, "changed by our command", fsck)
     fill_by_us(volume, files)
-    agreed(volume, files, "filled by our calls", fsck)
+    agreed(volume, files, "filled by our command", fsck)
+    read_by_us(volume, files, f"{volume.title}, filled by our command")
     expect(volume.bytes()[:512] == boot_sector, True, f"{volume.title}: the boot sector keeps its bytes")
     return files

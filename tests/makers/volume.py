@@ -1,16 +1,18 @@
-"""A volume of another maker: what its bytes say, what mtools and fsck.fat say of it, what our programs say of it."""
+"""A volume of another maker: what its bytes say, what mtools and fsck.fat say of it, what our command says of it."""
 
 import os
 import re
 import shutil
 import struct
 import subprocess
+import tempfile
 
+from as_mdir import files_of, free_of, our_list
 from counts import expect, skip
 
-JUDGE = ["tests/x86.sh", "tests/compare/target/x86_64-unknown-linux-gnu/release/judge"]
+JUDGE = ["tests/compare/target/release/judge"]
 LISTING = ["tests/x86.sh", "target/bin/listing"]
-CALLS = ["tests/x86.sh", os.environ["CALLS"]]
+COMMAND = ["tests/x86.sh", "target/c/balladmoor"]
 
 # The diskettes of the specification by their kilobytes: kind byte, clusters, bytes of a cluster, first data sector.
 DISKETTES = {
@@ -27,6 +29,7 @@ ENVIRONMENT = dict(
     MTOOLSRC="/dev/null",
     MTOOLS_DATE_STRING="yyyy-mm-dd",
     MTOOLS_TWENTY_FOUR_HOUR_CLOCK="1",
+    SOURCE_DATE_EPOCH="1782903906",  # 2026-07-01 11:05:06, the stamp of what our command puts there
 )
 
 
@@ -40,6 +43,18 @@ def ran(command, **words):
     if done.returncode != 0:
         raise EndedBadly(f"{' '.join(command)}: exit status {done.returncode}: {done.stderr}")
     return done.stdout
+
+
+def started(command):
+    pipe = subprocess.PIPE
+    return subprocess.Popen(command, env=ENVIRONMENT, stdin=subprocess.DEVNULL, stdout=pipe, stderr=pipe)
+
+
+def ended(*commands):
+    """Runs programs at once, for under the emulator a start takes long; the status of each, what it printed and said."""
+    running = [started(command) for command in commands]
+    told = [program.communicate() for program in running]
+    return [(program.returncode, out, said.decode()) for program, (out, said) in zip(running, told)]
 
 
 class Volume:
@@ -88,26 +103,26 @@ class Volume:
 
     def copy(self, name, content, stamp="1983-09-01 06:40:00"):
         """Has mtools copy a file with these bytes and this stamp to the volume."""
-        source = os.path.join(self.folder, name)
-        with open(source, "wb") as file:
-            file.write(content)
-        ran(["touch", "-d", stamp, source])
-        self.tool("mcopy", "-m", source, "::")
-        os.remove(source)
+        self.copy_all({name: content}, stamp)
 
-    def files_by_mdir(self):
-        """(name, size, date, hour and minute) of each file, and the free bytes."""
-        text = self.tool("mdir", "-a", "::")
-        line = re.compile(r"^(.{8}) (.{3}) +(\d+) (\d{4}-\d\d-\d\d) +(\d+):(\d\d)", re.MULTILINE)
-        files = []
-        for name, extension, size, date, hour, minute in line.findall(text):
-            full = name.strip() + ("." + extension.strip()).rstrip(".")
-            # Month and day 0 are out of their ranges: our listing says none.
-            date = "none" if date.endswith("-00-00") else date
-            # A small letter is mtools' reading of a reserved byte; `~` is none of our signs.
-            files.append((full.upper().replace("~", "?"), int(size), date, f"{int(hour):02}:{minute}"))
-        free = re.search(r"([\d ]+) bytes free", text).group(1).replace(" ", "")
-        return files, int(free)
+    def copy_all(self, files, stamp="1983-09-01 06:40:00"):
+        """The same for several files."""
+        with tempfile.TemporaryDirectory(dir=self.folder) as folder:
+            sources = [os.path.join(folder, name) for name in files]
+            for source, content in zip(sources, files.values()):
+                with open(source, "wb") as file:
+                    file.write(content)
+            ran(["touch", "-d", stamp, *sources])
+            self.tool("mcopy", "-m", *sources, "::")
+
+    def mdir(self):
+        """mdir's text, with hidden and system files."""
+        return self.tool("mdir", "-a", "::")
+
+    def marks_by_mattrib(self):
+        """The letters of each file's attribute, in slot order."""
+        lines = self.tool("mattrib", "-X", "::*").splitlines() if files_of(self.mdir()) else []
+        return [line.partition(" ")[0] for line in lines]
 
     def fsck(self, what):
         """The exit status of fsck.fat and its lines after the version; None where it is skipped."""
@@ -135,55 +150,81 @@ class Volume:
 
     # ---- Our programs.
 
-    def listed(self):
-        """The listing's lines."""
-        return ran(LISTING, input=self.bytes()).decode().splitlines()
+    def command(self, name, *words):
+        """The words that start our command on this volume."""
+        return [*COMMAND, name, self.path, *words]
 
-    def call(self, *lines):
-        """Makes our calls on the volume; the answers, each a refusal number and a value."""
-        text = "".join(f"{line}\n" for line in lines).encode()
-        answers = ran([*CALLS, self.path], input=text).decode().splitlines()
-        return [tuple(int(word) for word in answer.split()) for answer in answers]
+    def change(self, name, *words):
+        """Runs our command; whether it ended well, without a word."""
+        return ended(self.command(name, *words)) == [(0, b"", "")]
+
+    def put(self, name, content):
+        """Has our command put a file there; its exit status and what it said."""
+        with tempfile.NamedTemporaryFile(dir=self.folder) as file:
+            file.write(content)
+            file.flush()
+            [(status, _, said)] = ended(self.command("put", name, file.name))
+        return status, said
+
+    def listed(self):
+        """The lines of the listing program."""
+        return ran(LISTING, input=self.bytes()).decode().splitlines()
 
     # ---- What must come out.
 
-    def expect_verdict(self, verdict, what):
-        """The archive's check says so, and the independent implementation's too."""
-        judged = ran(JUDGE, input=self.bytes()).decode().splitlines()
-        expect(judged, [f"archive {verdict}", f"plain {verdict}"], f"{what}: {verdict}")
+    def expect_judged(self, verdict, what):
+        """The independent implementation says so."""
+        expect(ran(JUDGE, input=self.bytes()).decode(), f"{verdict}\n", f"{what}: {verdict}")
 
-    def expect_sound(self, what):
-        """Sound, with mdir's files and free clusters, and listed as mdir lists them."""
+    def expect_counts(self, files, free, held, what):
+        """Sound with these counts, by the independent implementation and by our check; our list's lines."""
+        self.expect_judged(f"sound {files} {free} {held} {self.aside}", what)
+        counts = f"files {files}; clusters free {free}, held by files {held}, set aside {self.aside}"
+        sound = f"{self.path}: sound; {counts}\n".encode()
+        checked, (status, lines, said) = ended(self.command("check"), self.command("list"))
+        expect(checked, (0, sound, ""), f"{what}: our check says so")
+        expect((status, said), (0, ""), f"{what}: our list ends well")
+        return lines.decode().splitlines()
+
+    def expect_sound(self, what, label=None):
+        """Sound, with mdir's files and free clusters, and listed as mdir lists them, with this label if one is given."""
         what = f"{self.title}, {what}"
-        files, free_bytes = self.files_by_mdir()
-        free = free_bytes // self.cluster_bytes
-        held = sum(-(-size // self.cluster_bytes) for _, size, _, _ in files)
-        self.expect_verdict(f"sound {len(files)} {free} {held} {self.aside}", what)
+        shown = self.mdir()
+        files = files_of(shown)
+        free = free_of(shown) // self.cluster_bytes
+        held = sum(-(-size // self.cluster_bytes) for _, size in files)
         expect(free + held + self.aside, self.clusters, f"{what}: each cluster is free, held or set aside")
-        lines = self.listed()
-        head = ["sound=yes", f"kind={self.kind:02X}", f"clusters={self.clusters}", f"free={free}", f"held={held}"]
-        expect(lines[:7], head + [f"aside={self.aside}", f"files={len(files)}"], f"{what}: the listing's head")
-        expect(listed_files(lines), files, f"{what}: the files as mdir lists them")
+        lines = self.expect_counts(len(files), free, held, what)
+        wanted = our_list(shown, self.path, self.marks_by_mattrib(), label)
+        expect(lines, wanted, f"{what}: our list is mdir's")
 
     def expect_finding(self, finding, place, what):
+        """The independent implementation and our check find this, and our command changes nothing there."""
         what = f"{self.title}, {what}"
-        self.expect_verdict(f"finding {finding} {place}", what)
-        lines = ["sound=no", f"finding={finding}", f"place={place}"]
-        expect(self.listed(), lines, f"{what}: the listing says so")
+        self.expect_judged(f"finding {finding} {place}", what)
         before = self.bytes()
-        answers = self.call("get TARE.KEY -", "put NEW.KEY -", "add TARE.KEY -", "delete TARE.KEY", "rename TARE.KEY A")
+        told = ended(*(self.command(*words) for words in (["check"], ["list"], ["get", "TARE.KEY", "-"])))
+        told += ended(self.command("put", "NEW.KEY", "/dev/null"))
+        says = [(status, found(said), refused(said)) for status, _, said in told]
         number = 40 if finding == 1 else 41
-        refused = (answers, self.bytes() == before)
-        expect(refused, ([(number, 0)] * 5, True), f"{what}: our calls refuse by {number} and alter nothing")
+        checked = (1, (finding, place), None)
+        others = (1, None if finding == 1 else (finding, place), number)
+        expect(says, [checked, others, others, others], f"{what}: our check says so, and list, get, put refuse")
+        expect(self.bytes() == before, True, f"{what}: nothing is altered")
+
+
+def found(said):
+    """The finding and its place in a sentence of our command."""
+    match = re.search(r"finding (\d+) at [a-z ]+ (\d+): ", said)
+    return match and (int(match[1]), int(match[2]))
+
+
+def refused(said):
+    """The refusal number in a sentence of our command."""
+    match = re.search(r"\(refusal (\d+)[;)]", said)
+    return match and int(match[1])
 
 
 def fields(lines, key):
     """The values of a key of a listing."""
     return [line[len(key) + 1 :] for line in lines if line.startswith(key + "=")]
-
-
-def listed_files(lines):
-    """(name, size, date, hour and minute) of each file of a listing."""
-    sizes = [int(size) for size in fields(lines, "size")]
-    times = [time[:5] for time in fields(lines, "time")]
-    return list(zip(fields(lines, "file"), sizes, fields(lines, "date"), times))

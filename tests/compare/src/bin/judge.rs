@@ -1,20 +1,17 @@
-//! judge: what check says of the image at standard input, by the archive and
-//! by the plain Rust.
+//! judge: what check says of the image at standard input.
 //!
-//! Prints two lines, the archive's first: `archive` or `plain`, then `sound`,
-//! files, free, held and aside; or `finding`, its number and its place.
+//! Prints one line: `sound`, files, free, held and aside; or `finding`, its
+//! number and its place.
 
 use std::io::Read;
 
+use compare::volume;
 use compare::volume::answer::{number, value};
-use compare::{archive, volume};
-
-type Check = fn(&[u8], &mut [u8]) -> u64;
 
 /// A verdict in words.
-fn verdict(check: Check, image: &[u8]) -> String {
+fn verdict(image: &[u8]) -> String {
     let mut out = [0; 16];
-    let answer = check(image, &mut out);
+    let answer = volume::check(image, &mut out);
     if answer != 0 {
         return format!("finding {} {}", number(answer), value(answer));
     }
@@ -30,7 +27,6 @@ fn verdict(check: Check, image: &[u8]) -> String {
 fn main() -> std::io::Result<()> {
     let mut image = Vec::new();
     std::io::stdin().read_to_end(&mut image)?;
-    println!("archive {}", verdict(archive::check, &image));
-    println!("plain {}", verdict(volume::check, &image));
+    println!("{}", verdict(&image));
     Ok(())
 }
