@@ -29,6 +29,18 @@ def skip(what):
     skipped += 1
 
 
+def begin():
+    """Nothing was tried yet: a new process has its parent's counts."""
+    global passed, failed, skipped
+    passed = failed = skipped = 0
+
+
+def add(others):
+    """Adds what another process tried."""
+    global passed, failed, skipped
+    passed, failed, skipped = passed + others[0], failed + others[1], skipped + others[2]
+
+
 def end():
     """The sums, as the gate wants them, and the exit status."""
     print(f"{skipped} skipped")

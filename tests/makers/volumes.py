@@ -5,6 +5,10 @@ from the independent implementation's verdict and from the makers' boot sectors 
 comes from the archive.
 """
 
+import contextlib
+import io
+import multiprocessing
+import os
 import shutil
 import sys
 import tempfile
@@ -17,33 +21,41 @@ import counts
 from volume import EndedBadly
 
 
-def try_maker(maker):
-    """All volumes of a maker, in a folder of their own; a program that ends badly is one failure."""
-    with tempfile.TemporaryDirectory() as folder:
-        try:
-            maker(folder)
-        except EndedBadly as what:
-            counts.expect(str(what), "", "all programs end well")
+def mkfs(folder):
+    if shutil.which("mkfs.fat"):
+        by_mkfs.try_all(folder)
+    else:
+        counts.skip("volumes of mkfs.fat: dosfstools is not here and can't be installed")
 
 
 def dosbox(folder):
-    if by_dosbox.runs(folder):
+    if not shutil.which("dosbox"):
+        counts.skip("volumes of DOSBox: it is not here and can't be installed")
+    elif by_dosbox.runs(folder):
         by_dosbox.try_all(folder)
     else:
         counts.skip("volumes of DOSBox: it does not run here without a screen")
 
 
+def tried(maker):
+    """All volumes of a maker, in a folder of their own; what was printed, and the counts. A program that ends badly is one
+    failure."""
+    counts.begin()
+    with tempfile.TemporaryDirectory() as folder, contextlib.redirect_stdout(io.StringIO()) as text:
+        try:
+            maker(folder)
+        except EndedBadly as what:
+            counts.expect(str(what), "", "all programs end well")
+    return text.getvalue(), (counts.passed, counts.failed, counts.skipped)
+
+
 def main():
-    try_maker(by_mtools.try_all)
-    try_maker(by_us.try_all)
-    if shutil.which("mkfs.fat"):
-        try_maker(by_mkfs.try_all)
-    else:
-        counts.skip("volumes of mkfs.fat: dosfstools is not here and can't be installed")
-    if shutil.which("dosbox"):
-        try_maker(dosbox)
-    else:
-        counts.skip("volumes of DOSBox: it is not here and can't be installed")
+    makers = [by_mtools.try_all, by_us.try_all, mkfs, dosbox]
+    # A process for each, as many at a time as there are processors.
+    with multiprocessing.Pool(os.cpu_count(), maxtasksperchild=1) as pool:
+        for text, tally in pool.imap(tried, makers, chunksize=1):
+            print(text, end="", flush=True)
+            counts.add(tally)
     return counts.end()
 
 
