@@ -2,6 +2,7 @@
 # shellcheck shell=bash
 passed=0
 failed=0
+skipped=0
 made=$(mktemp -d)
 trap 'rm -rf "$made"' EXIT
 
@@ -16,6 +17,12 @@ check() {
     echo "FAILED: $what"
     failed=$((failed + 1))
   fi
+}
+
+# skip WHAT: one check that is not made here.
+skip() {
+  echo "skipped: $1"
+  skipped=$((skipped + 1))
 }
 
 # ends STATUS WHAT COMMAND..: one check, that the command ends with this status, and has printed on standard error if
@@ -71,6 +78,7 @@ epoch() {
 }
 
 finish() {
+  echo "$skipped skipped"
   echo "$passed passed, $failed failed"
   [ "$failed" -eq 0 ]
 }

@@ -3,7 +3,9 @@
 # compiler and an emulator, and installs them where they are missing.
 #
 #   x86.sh PROGRAM [WORDS..]   runs a program made for x86-64
+#   x86.sh --preload LIBRARY PROGRAM [WORDS..]   runs it with this library before the C library
 #   x86.sh --cc [WORDS..]      compiles and links C for x86-64 by gcc
+#   x86.sh --sanitizers        prints gcc's words for those of its sanitizers that run here
 #   x86.sh --cargo [WORDS..]   runs cargo for x86-64; what it makes is under target/x86_64-unknown-linux-gnu/
 #   x86.sh --count PLUGIN PROGRAM [WORDS..]   runs it under the emulator, on any machine, with a plugin of the emulator
 #   x86.sh --native            says by its exit status whether x86-64 programs run here without the emulator
@@ -58,6 +60,18 @@ case ${1:-} in
   $native && exec gcc "$@"
   need_compiler
   exec x86_64-linux-gnu-gcc "$@"
+  ;;
+--sanitizers)
+  # The one for addresses wants more memory than the emulator has; the other needs no library if it traps.
+  $native && exec echo -fsanitize=address,undefined -fno-sanitize-recover=all
+  echo -fsanitize=undefined -fsanitize-undefined-trap-on-error
+  ;;
+--preload)
+  library=$2
+  shift 2
+  $native && LD_PRELOAD=$library exec "$@"
+  need_emulator
+  exec qemu-x86_64 $loader --preload "$library" --library-path /lib/x86_64-linux-gnu "$@"
   ;;
 --cargo)
   shift

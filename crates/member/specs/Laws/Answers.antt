@@ -18,7 +18,7 @@ use Rattle.directory.specs.Slots.{standingOf}
 use Rattle.directory.specs.declared.Standing.{Standing}
 use Rattle.stamps.specs.Stamps.{timeRead, dateRead}
 use Rattle.stamps.specs.Laws.Ranges.{time-out, date-out}
-use Rattle.stamps.specs.Laws.Stamps.{read-no-time, read-no-date}
+use Rattle.stamps.specs.Laws.Stamps.{read-no-time, read-no-date, time-again, date-again}
 use Rattle.stamps.specs.declared.TimeRead.{TimeRead}
 use Rattle.stamps.specs.declared.TimeRead.the-variants.{Time, NoTime}
 use Rattle.stamps.specs.declared.DateRead.{DateRead}
@@ -79,3 +79,21 @@ module _ (w : ℕ) where
   -- and an hour above 23
   pub time-too-large : 65535 < w → refusedBy 43 ≡ timeTold (timeRead w)
   time-too-large h = no-time NoTime (read-no-time w false (time-out _ _ _ (λ r. omega arith)) refl) refl
+
+-- ---- the digits give the three numbers back, and fit the lower half: no refusal is taken for a stamp
+
+abbrev Pairs : ℕ → ℕ → ℕ → ℕ → Type 0
+Pairs x a b c = (x / 10000 ≡ a) × (x / 100 % 100 ≡ b) × (x % 100 ≡ c) × (x < 4294967296)
+
+pairs : (a b c : ℕ) → a ≤ 2099 → b ≤ 99 → c ≤ 99 → Pairs (a * 10000 + b * 100 + c) a b c
+pairs a b c p q r =
+    let h : (a * 10000 + b * 100 + c) / 100 ≡ a * 100 + b = omega arith in
+    (omega arith, omega arith, omega arith, omega arith)
+
+pub date-back : (w year month day : ℕ) → dateRead w ≡ Date year month day → Pairs (dateTold (dateRead w)) (1980 + year) month day
+unfolding dateTold
+date-back w year month day e = let r = date-again w year month day e .1 in rw e (pairs (1980 + year) month day (omega arith) (omega arith) (omega arith))
+
+pub time-back : (w hour minute step : ℕ) → timeRead w ≡ Time hour minute step → Pairs (timeTold (timeRead w)) hour minute (step * 2)
+unfolding timeTold
+time-back w hour minute step e = let r = time-again w hour minute step e .1 in rw e (pairs hour minute (step * 2) (omega arith) (omega arith) (omega arith))
