@@ -90,10 +90,10 @@ pairs a b c p q r =
     let h : (a * 10000 + b * 100 + c) / 100 ≡ a * 100 + b = omega arith in
     (omega arith, omega arith, omega arith, omega arith)
 
-pub date-back : (w year month day : ℕ) → dateRead w ≡ Date year month day → Pairs (dateTold (dateRead w)) (1980 + year) month day
+pub date-digits : (w year month day : ℕ) → dateRead w ≡ Date year month day → Pairs (dateTold (dateRead w)) (1980 + year) month day
 unfolding dateTold
-date-back w year month day e = let r = date-again w year month day e .1 in rw e (pairs (1980 + year) month day (omega arith) (omega arith) (omega arith))
+date-digits w year month day e = let r = date-again w year month day e .1 in rw e (pairs (1980 + year) month day (omega arith) (omega arith) (omega arith))
 
-pub time-back : (w hour minute step : ℕ) → timeRead w ≡ Time hour minute step → Pairs (timeTold (timeRead w)) hour minute (step * 2)
+pub time-digits : (w hour minute step : ℕ) → timeRead w ≡ Time hour minute step → Pairs (timeTold (timeRead w)) hour minute (step * 2)
 unfolding timeTold
-time-back w hour minute step e = let r = time-again w hour minute step e .1 in rw e (pairs hour minute (step * 2) (omega arith) (omega arith) (omega arith))
+time-digits w hour minute step e = let r = time-again w hour minute step e .1 in rw e (pairs hour minute (step * 2) (omega arith) (omega arith) (omega arith))
