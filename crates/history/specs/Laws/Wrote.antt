@@ -25,9 +25,9 @@ use Rattle.directory.specs.Entries.{SameFields}
 use Rattle.directory.specs.Fields.{nameOf, attrOf, startOf, sizeOf}
 use Rattle.directory.specs.Slots.{PlainAt}
 use Rattle.links.specs.Linked.{newClusters}
+use Rattle.chaincheck.specs.Entries.{holderAt}
 use Rattle.sound.specs.Files.{valueOf, ChainOf}
 use Rattle.sound.specs.Holders.{rootHolders, rootChains}
-use Rattle.sound.specs.Judged.{holderAt}
 use Rattle.sound.specs.Laws.Geometry.{geometry}
 use Rattle.sound.specs.Laws.Holders.{plain-holder}
 use Rattle.sound.specs.Laws.Sound.{chain-only}
