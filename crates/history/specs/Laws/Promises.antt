@@ -10,7 +10,7 @@ use Rattle.diskette.specs.declared.Kind.{Kind}
 use Rattle.opened.specs.Records.{slotOf, pointerOf}
 use Rattle.calls.specs.Outcome.{Outcome}
 use Rattle.calls.specs.Laws.Ready.{on-kind}
-use Rattle.writing.specs.Longer.{roomOf}
+use Rattle.putting.specs.Longer.{roomOf}
 use Rattle.writing.specs.Write.{writeCount, writeRows, writeEffect, writeOutcome, writeAt}
 use Rattle.history.specs.Came.{Came}
 use Rattle.history.specs.Promises.{Given, Begins, SoundAfterEach, FilesOfHistory, AltersNoOther, TotalAfterEach, ShortOnlyWhereFull}

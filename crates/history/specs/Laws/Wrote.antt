@@ -36,11 +36,11 @@ use Rattle.calls.specs.Laws.Ready.{on-usable}
 use Rattle.holding.specs.Holding.{fileChain, FileIn}
 use Rattle.holding.specs.Laws.Clusters.{on-clusters}
 use Rattle.holding.specs.Laws.Chain.{file-owned, file-within}
-use Rattle.writing.specs.Longer.{roomOf, chainAfter, lengthened, CanGrow}
-use Rattle.writing.specs.Put.{CanPut}
-use Rattle.writing.specs.Write.{sizeAfter, writtenIn}
-use Rattle.writing.specs.Laws.Longer.{longer-length, longer-table}
-use Rattle.writing.specs.Laws.Put.{can-grow}
+use Rattle.putting.specs.Longer.{roomOf, chainAfter, lengthened, CanGrow}
+use Rattle.putting.specs.Put.{CanPut}
+use Rattle.putting.specs.Written.{sizeAfter, writtenIn}
+use Rattle.putting.specs.Laws.Longer.{longer-length, longer-table}
+use Rattle.putting.specs.Laws.Put.{can-grow}
 use Rattle.history.specs.Files.{File, file, Holds}
 use Rattle.history.specs.Changed.{Framed, SlotChanged}
 use Rattle.history.specs.Laws.Changed.{on-theory}
