@@ -16,13 +16,10 @@ target=x86_64-unknown-linux-gnu
 native=false
 [ "$(uname -m)" != x86_64 ] || native=true
 
-# install PACKAGES..: Debian packages, those for amd64 too.
+here=$(cd "$(dirname "$0")" && pwd)
+
 install() {
-  {
-    dpkg --add-architecture amd64
-    apt-get update
-    apt-get install -y --no-install-recommends "$@"
-  } >&2
+  "$here"/install.sh "$@" >&2
 }
 
 need_emulator() {

@@ -20,8 +20,6 @@ pub mod Growth
 pub mod Changes
 pub mod Marks
 pub mod Follow
-pub mod Cleared
-pub mod Grown
 pub mod StepTurns
 pub mod Content
 pub mod Touched
@@ -29,7 +27,6 @@ pub mod Splice
 pub mod Poured
 pub mod Runs
 pub mod Write
-pub mod History
 pub mod Verdict
 pub mod SearchTurns
 pub mod Check

@@ -15,7 +15,6 @@ pub mod Marks
 pub mod Steps
 pub mod Content
 pub mod Write
-pub mod History
 pub mod Verdict
 pub mod Findings
 pub mod Check

@@ -13,10 +13,10 @@ use Rattle.directory.specs.Entries.{SameBytes}
 use Rattle.directory.specs.Fields.{nameOf}
 use Rattle.directory.specs.Slots.{NeverUsedAt, LabelAt, PlainAt}
 use Rattle.table.specs.Entries.{Agree}
+use Rattle.chaincheck.specs.Entries.{holderAt}
 use Rattle.sound.specs.Files.{valueOf}
 use Rattle.sound.specs.Findings.{StrangeEntry}
 use Rattle.sound.specs.Holders.{rootChains}
-use Rattle.sound.specs.Judged.{holderAt}
 
 -- the parts of l that no change of slot s reaches are the same in m: the boot sector, the kind byte and FF FF of copy 1; every
 -- other slot; and the copies of the table go on to agree

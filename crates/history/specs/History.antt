@@ -16,7 +16,7 @@ use Rattle.calls.specs.Outcome.{Outcome}
 use Rattle.calls.specs.Refusals.{fileSlot}
 use Rattle.opening.specs.Close.{archived}
 use Rattle.history.specs.Files.{File, file, Files}
-use Rattle.history.specs.World.{World, Call, outcomeOf, step, check, freeClusters, entryAt, openFile, create, read, write, seek, close, delete, rename, mode, view}
+use Rattle.history.specs.World.{World, Call, outcomeOf, step, check, countFree, tellEntry, openFile, create, read, write, seek, close, delete, rename, mode, view}
 
 -- ---- what is done to one file, if there is one
 
@@ -28,11 +28,11 @@ each f (some x) = some (f x)
 abbrev pub withBytes : ℕ → List ℕ → File → File
 withBytes pos bs f = file (f .name) (f .attr) (written (f .bytes) pos bs)
 
-abbrev pub withName : List ℕ → File → File
-withName name f = file name (f .attr) (f .bytes)
+abbrev pub renamedTo : List ℕ → File → File
+renamedTo name f = file name (f .attr) (f .bytes)
 
-abbrev pub withAttr : ℕ → File → File
-withAttr attr f = file (f .name) attr (f .bytes)
+abbrev pub markedWith : ℕ → File → File
+markedWith attr f = file (f .name) attr (f .bytes)
 
 -- a close of a written file sets bit 20
 abbrev pub withArchiveBit : File → File
@@ -49,11 +49,11 @@ changes (create s attr stamp) w o fs = put fs (slotOf (o .table) (o .value)) (so
 changes (write h bs) w o fs = cond (eqb (o .value) 0) fs (at (slotOf (w .table) h) (each (withBytes (pointerOf (w .table) h) (take (o .value) bs))) fs)
 changes (close h stamp) w o fs = cond (writtenOf (w .table) h) (at (slotOf (w .table) h) (each withArchiveBit) fs) fs
 changes (delete s) w o fs = put fs (fileSlot (w .image) s) none
-changes (rename s n) w o fs = at (fileSlot (w .image) s) (each (withName (nameOf n .name))) fs
-changes (mode s function attr) w o fs = cond (eqb function 1) (at (fileSlot (w .image) s) (each (withAttr attr)) fs) fs
+changes (rename s n) w o fs = at (fileSlot (w .image) s) (each (renamedTo (nameOf n .name))) fs
+changes (mode s function attr) w o fs = cond (eqb function 1) (at (fileSlot (w .image) s) (each (markedWith attr)) fs) fs
 changes check w o fs = fs
-changes freeClusters w o fs = fs
-changes (entryAt slot) w o fs = fs
+changes countFree w o fs = fs
+changes (tellEntry slot) w o fs = fs
 changes (openFile s access) w o fs = fs
 changes (read h buffer) w o fs = fs
 changes (seek h method offset) w o fs = fs

@@ -15,17 +15,17 @@ use Rattle.opened.specs.Records.{slotOf, pointerOf}
 use Rattle.sound.specs.Counts.{freeOf, heldOf, asideOf}
 use Rattle.sound.specs.Judged.{isSound}
 use Rattle.calls.specs.Ready.{OnVolume}
-use Rattle.writing.specs.Longer.{roomOf}
+use Rattle.putting.specs.Longer.{roomOf}
 use Rattle.history.specs.Files.{File, Files, Shows, ShowsAt}
 use Rattle.history.specs.History.{history}
-use Rattle.history.specs.World.{World, Call, Names, outcomeOf, step, run, check, freeClusters, entryAt, openFile, create, read, write, seek, close, delete, rename, mode, view}
+use Rattle.history.specs.World.{World, Call, Names, outcomeOf, step, run, check, countFree, tellEntry, openFile, create, read, write, seek, close, delete, rename, mode, view}
 
 -- what a caller gives to be written are bytes
 abbrev pub Given : Call → Type 0
 Given (write h bs) = Bytes bs
 Given check = Unit {0}
-Given freeClusters = Unit {0}
-Given (entryAt slot) = Unit {0}
+Given countFree = Unit {0}
+Given (tellEntry slot) = Unit {0}
 Given (openFile s access) = Unit {0}
 Given (create s attr stamp) = Unit {0}
 Given (read h buffer) = Unit {0}

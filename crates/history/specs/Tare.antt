@@ -12,7 +12,7 @@ use Rattle.calls.specs.Refusals.{fileSlot, readOnly}
 use Rattle.holding.specs.Holding.{FileIn}
 use Rattle.history.specs.Files.{File, Holds}
 use Rattle.history.specs.Promises.{AllGiven, Begins}
-use Rattle.history.specs.World.{World, Call, outcomeOf, step, run, check, freeClusters, entryAt, openFile, create, read, write, seek, close, delete, rename, mode, view}
+use Rattle.history.specs.World.{World, Call, outcomeOf, step, run, check, countFree, tellEntry, openFile, create, read, write, seek, close, delete, rename, mode, view}
 
 -- when the run begins, a plain file stands in slot s, it is read-only, and no used place names its slot
 pub record Tare (k : Kind) (w : World) (s : ℕ) : Type 0 where
@@ -24,8 +24,8 @@ pub record Tare (k : Kind) (w : World) (s : ℕ) : Type 0 where
 abbrev pub SetsMode : Call → World → ℕ → Type 0
 SetsMode (mode name function attr) w s = (function ≡ 1) × (s ≡ fileSlot (w .image) name) × (outcomeOf (mode name function attr) w .number ≡ 0)
 SetsMode check w s = ⊥
-SetsMode freeClusters w s = ⊥
-SetsMode (entryAt slot) w s = ⊥
+SetsMode countFree w s = ⊥
+SetsMode (tellEntry slot) w s = ⊥
 SetsMode (openFile name access) w s = ⊥
 SetsMode (create name attr stamp) w s = ⊥
 SetsMode (read h buffer) w s = ⊥

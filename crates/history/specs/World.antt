@@ -35,8 +35,8 @@ world image table = record { image = image; table = table }
 -- names, buffers and bytes to write are lists; the numbers come in the order of the calls' own arguments
 pub data Call : Type 0 where
   check : Call
-  freeClusters : Call
-  entryAt : ℕ → Call
+  countFree : Call
+  tellEntry : ℕ → Call
   openFile : List ℕ → ℕ → Call
   create : List ℕ → ℕ → Stamp → Call
   read : ℕ → List ℕ → Call
@@ -68,8 +68,8 @@ viewedIn o w = outcome (o .number) (o .value) (o .image) (w .table) (o .buffer)
 -- what a call does: its own outcome function
 abbrev pub outcomeOf : Call → World → Outcome
 outcomeOf check w = verdictIn (checkOf (w .image)) w
-outcomeOf freeClusters w = looked (freeSpace (w .image) .number) (freeSpace (w .image) .free) w
-outcomeOf (entryAt slot) w = looked (entryTold (w .image) slot .number) (bit (entryTold (w .image) slot .found)) w
+outcomeOf countFree w = looked (freeSpace (w .image) .number) (freeSpace (w .image) .free) w
+outcomeOf (tellEntry slot) w = looked (entryTold (w .image) slot .number) (bit (entryTold (w .image) slot .found)) w
 outcomeOf (openFile s access) w = openOutcome (w .image) (w .table) s access
 outcomeOf (create s attr stamp) w = createOutcome (w .image) (w .table) s attr stamp
 outcomeOf (read h buffer) w = readOutcome (w .image) (w .table) h buffer
@@ -84,8 +84,8 @@ outcomeOf (view s offset) w = viewedIn (viewOutcome (w .image) s offset) w
 -- the file that a call names stands in slot s: by its name, by a handle's place, or, where create made it, by the place that it took
 abbrev pub Names : Call → World → ℕ → Type 0
 Names check w s = ⊥
-Names freeClusters w s = ⊥
-Names (entryAt slot) w s = s ≡ slot
+Names countFree w s = ⊥
+Names (tellEntry slot) w s = s ≡ slot
 Names (openFile name access) w s = s ≡ fileSlot (w .image) name
 Names (create name attr stamp) w s = s ≡ slotOf (outcomeOf (create name attr stamp) w .table) (outcomeOf (create name attr stamp) w .value)
 Names (read h buffer) w s = s ≡ slotOf (w .table) h

@@ -1,24 +1,12 @@
 -- The counts that check answers of a sound volume: files, free, held, aside.
 use Prim.Native.Nat.{ℕ}
-use mathlib.Core.Bool.{Bool, cond}
 use mathlib.Core.List.{List}
-use Rattle.chains.specs.Sizes.{clustersFor}
 use Rattle.chains.specs.Sums.{sum, tally}
 use Rattle.chains.specs.Values.{freeCount, asideCount}
 use Rattle.diskette.specs.Places.{clusterBytes, lastCluster, rootEntries, rootAt}
 use Rattle.diskette.specs.declared.Kind.{Kind}
-use Rattle.directory.specs.Fields.{sizeOf}
-use Rattle.directory.specs.Slots.{standingOf, isPlain}
-use Rattle.directory.specs.Search.{slotFrom}
+use Rattle.chaincheck.specs.Held.{plainSlot, heldBy}
 use Rattle.sound.specs.Files.{valueOf}
-
--- slot s of the directory that stands at byte root holds a plain file
-unfoldable pub plainSlot : List ℕ → ℕ → ℕ → Bool
-plainSlot l root s = isPlain (standingOf l (slotFrom root s))
-
--- "size divided by cluster bytes, rounded up", of the file in slot s; nothing where there is none
-unfoldable pub heldBy : ℕ → List ℕ → ℕ → ℕ → ℕ
-heldBy cb l root s = cond (plainSlot l root s) (clustersFor cb (sizeOf l (slotFrom root s))) 0
 
 -- how many plain files there are
 abbrev pub fileCount : Kind → List ℕ → ℕ

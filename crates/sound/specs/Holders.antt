@@ -10,8 +10,8 @@ use Rattle.chains.specs.Rows.{rows}
 use Rattle.diskette.specs.Places.{clusterBytes, lastCluster, rootEntries, rootAt}
 use Rattle.diskette.specs.declared.Kind.{Kind}
 use Rattle.directory.specs.Search.{slotFrom}
+use Rattle.chaincheck.specs.Entries.{holderAt, entriesOf}
 use Rattle.sound.specs.Files.{valueOf}
-use Rattle.sound.specs.Judged.{holderAt, entriesOf}
 
 -- the addresses of the root's entries
 abbrev pub rootList : Kind → List ℕ

@@ -1,8 +1,5 @@
 -- The laws of the definitions beside this folder.
-pub mod Tables
-pub mod Slots
 pub mod BadSlot
-pub mod Checksums
 pub mod Geometry
 pub mod SamePlaces
 pub mod Holders
@@ -17,14 +14,6 @@ pub mod Total
 pub mod Change
 pub mod Area
 pub mod AreaAnswer
-pub mod Searches
-pub mod Meanings
-pub mod MarkTurns
-pub mod Paths
-pub mod WalkTurns
-pub mod Tails
-pub mod SlotTurns
 pub mod Judged
-pub mod FileTurns
 pub mod Visited
 pub mod Checks

@@ -5,9 +5,6 @@ pub mod Sound
 pub mod Counts
 pub mod Answer
 pub mod Judged
-pub mod Checksums
-pub mod Walks
-pub mod Visits
 pub mod Holders
 pub mod FromFinding
 pub mod Area

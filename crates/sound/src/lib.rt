@@ -1,11 +1,9 @@
 // Check: whether a volume is sound, and if not, what is wrong with it and where.
-pub mod slots;
-pub mod tables;
-pub mod visits;
-
+use chaincheck::Chains;
 use diskette::Kind;
 use diskette::WhichKind;
 use search::Found;
+use tablecheck::Census;
 ghost use mathlib.Core.Path.{_≡_};
 ghost use Prim.Native.Nat.{_+_, _*_, _≤_, _<_};
 ghost use lib.ListN.{length};
@@ -21,38 +19,6 @@ pub enum Verdict {
     Finding(usize, usize),
 }
 
-// The lowest cluster with a value that means nothing; or how many clusters are free and how many set aside.
-pub enum Census {
-    BadValue(usize),
-    Values(usize, usize),
-}
-
-// How many clusters a chain has; or that it has no end.
-pub enum Length {
-    Of(usize),
-    NoEnd,
-}
-
-// What a walk finds: the number of clusters to the chain's end, and of how many of them, the last ones, the number left
-// need not be stored; or that there is no end.
-pub enum Walk {
-    Ends(usize, usize),
-    Endless,
-}
-
-// The lowest slot of a file with a bad chain; or how many files there are and how many clusters they hold.
-pub enum Chains {
-    BadChain(usize),
-    Held(usize, usize),
-}
-
-// What a slot of a directory holds: no file, one with a bad chain, or one with that many clusters.
-pub enum Slot {
-    NoFile,
-    Bad,
-    Clusters(usize),
-}
-
 // Findings 6 and 7, by the marks of all chains; fine where there is none.
 fn judge_marks(img: &[u8], marks: &[u8], last: usize, fine: Verdict) -> Verdict
     requires { ⌜ last ≤ 4079 ⌝ }
@@ -60,9 +26,9 @@ fn judge_marks(img: &[u8], marks: &[u8], last: usize, fine: Verdict) -> Verdict
     requires { ⌜ last < length (now marks) ⌝ }
     ensures { λ r. ⌜ r ≡ marksJudged last (tableOf last (now (img .entry))) (now (marks .entry)) fine ⌝ }
 {
-    match visits::first_in_two(marks, last) {
+    match chaincheck::marks::first_in_two(marks, last) {
         Found::At(c) => Verdict::Finding(6, c),
-        Found::Nothing => match visits::first_lost(img, marks, last) {
+        Found::Nothing => match chaincheck::marks::first_lost(img, marks, last) {
             Found::At(c) => Verdict::Finding(7, c),
             Found::Nothing => fine,
         },
@@ -81,7 +47,7 @@ fn judge_chains(img: &[u8], k: Kind, free: usize, aside: usize) -> Verdict
     let bytes = k.cluster_bytes();
     let mut marks = [0u8; 4080];
     let mut left = [0u16; 4080];
-    match visits::visit_files(img, &mut marks, &mut left, root, count, last, bytes) {
+    match chaincheck::files::visit_files(img, &mut marks, &mut left, root, count, last, bytes) {
         Chains::BadChain(slot) => Verdict::Finding(5, slot),
         Chains::Held(files, held) => {
             judge_marks(img, &marks, last, Verdict::Sound(files, free, held, aside))
@@ -95,12 +61,12 @@ fn judge(img: &[u8], k: Kind) -> Verdict
     requires { ⌜ 512 * firstData k ≤ length (now img) ⌝ }
     ensures { λ r. ⌜ r ≡ judged k (now (img .entry)) ⌝ }
 {
-    match tables::first_difference(img, k.copy_two(), 512 * k.fat) {
+    match tablecheck::first_difference(img, k.copy_two(), 512 * k.fat) {
         Found::At(offset) => Verdict::Finding(2, offset),
-        Found::Nothing => match tables::census(img, k.last_cluster()) {
+        Found::Nothing => match tablecheck::take_census(img, k.last_cluster()) {
             Census::BadValue(c) => Verdict::Finding(3, c),
             Census::Values(free, aside) => {
-                match slots::first_bad(img, k.root_at(), k.root_entries()) {
+                match slotcheck::first_bad(img, k.root_at(), k.root_entries()) {
                     Found::At(slot) => Verdict::Finding(4, slot),
                     Found::Nothing => judge_chains(img, k, free, aside),
                 }

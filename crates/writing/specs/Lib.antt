@@ -1,5 +1,3 @@
 -- Bytes put into files: write. Read Longer, then Write; the laws, and Put, are for the proofs.
-pub mod Longer
 pub mod Write
-pub mod Put
 pub mod Laws

@@ -3,35 +3,24 @@
 -- size becomes the larger of old size and pointer plus count, and each new cluster is the lowest free. Bytes past the size
 -- stay. Size and start are stored at once (group's rule)."
 -- "A read or write that ends well moves the pointer by the count."
-use Prim.Native.Nat.{ℕ, _+_, _*_, max}
+use Prim.Native.Nat.{ℕ, _+_}
 use mathlib.Core.Bool.{cond}
 use mathlib.Core.List.{List, [], _∷_}
 use mathlib.Core.Path.{_≡_}
 use lib.Dec.{eqb}
 use lib.ListN.{length, take}
-use Rattle.chains.specs.Write.{accepted, writtenImage}
-use Rattle.diskette.specs.Places.{firstData, clusterBytes, slotAt}
+use Rattle.chains.specs.Write.{accepted}
 use Rattle.diskette.specs.declared.Kind.{Kind}
-use Rattle.directory.specs.Fields.{sizeOf}
 use Rattle.opened.specs.Records.{slotOf, accessOf, pointerOf, withPointer, withWritten}
 use Rattle.calls.specs.Outcome.{Row, Outcome, outcome, decided}
 use Rattle.calls.specs.Refusals.{theKind, notOfKind, notSound, notLive}
 use Rattle.calls.specs.declared.Answer.{Answer}
-use Rattle.writing.specs.Longer.{roomOf, chainAfter, lengthened}
+use Rattle.putting.specs.Longer.{roomOf}
+use Rattle.putting.specs.Written.{writtenIn}
 
 -- "the smaller of the length and room less pointer"
 abbrev pub writeCount : Kind → List ℕ → ℕ → ℕ → ℕ → ℕ
 writeCount k img slot pointer n = accepted (roomOf k img slot) pointer n
-
--- "size becomes the larger of old size and pointer plus count"
-abbrev pub sizeAfter : Kind → List ℕ → ℕ → ℕ → ℕ → ℕ
-sizeAfter k img slot pointer n = max (sizeOf img (slotAt k slot)) (pointer + n)
-
--- the image after the bytes bs were put at the pointer, zeros before them from the old size on
-unfoldable pub writtenIn : Kind → List ℕ → ℕ → ℕ → List ℕ → List ℕ
-writtenIn k img slot pointer bs =
-    let size = sizeAfter k img slot pointer (length bs) in
-    writtenImage (512 * firstData k) (clusterBytes k) (lengthened k img slot size) (chainAfter k img slot size) (sizeOf img (slotAt k slot)) pointer bs
 
 abbrev pub writeRows : List ℕ → List ℕ → ℕ → List Row
 writeRows img t h =

@@ -1,6 +1,4 @@
 // Write.
-use crate::longer;
-use crate::put;
 use calls::Answer;
 use calls::Ready;
 use calls::files;
@@ -14,7 +12,7 @@ ghost use Rattle.opened.specs.Records.{placeCount, withPointer, withWritten};
 ghost use Rattle.sound.specs.Counts.{freeOf};
 ghost use Rattle.calls.specs.Ready.{OnVolume};
 ghost use Rattle.holding.specs.Holding.{FileIn};
-ghost use Rattle.writing.specs.Longer.{roomOf};
+ghost use Rattle.putting.specs.Longer.{roomOf};
 ghost use Rattle.writing.specs.Write.{Writes, WritesAt};
 
 // The bytes for which the file in the slot has room, where so many clusters are free.
@@ -24,7 +22,7 @@ fn room_for(img: &[u8], k: Kind, slot: usize, free: usize) -> usize
     requires { ⌜ free ≡ freeOf k (now img) ⌝ }
     ensures { λ r. ⌜ r ≡ roomOf k (now (img .entry)) slot ⌝ }
 {
-    let clusters = longer::own_clusters(img, k, slot) + free;
+    let clusters = putting::longer::own_clusters(img, k, slot) + free;
     clusters * k.cluster_bytes()
 }
 
@@ -71,7 +69,7 @@ fn write_at(
     if n == 0 {
         return Answer::well(0);
     }
-    put::put_first(img, k, slot, pointer, bytes, n);
+    putting::put::put_first(img, k, slot, pointer, bytes, n);
     move_on(t, place, pointer, n);
     Answer::well(n as u32)
 }

@@ -11,14 +11,14 @@ use lib.Seq.{length-take-le}
 use Rattle.chains.specs.Put.{put}
 use Rattle.chains.specs.Lists.{Once, occ, startOf}
 use Rattle.chains.specs.Sizes.{Geometry, clustersFor}
-use Rattle.chains.specs.Holders.{Holder, Owns, Sound, fileHolder, nobody}
+use Rattle.chains.specs.Holders.{Holder, Owns, Sound, fileHolder}
 use Rattle.chains.specs.Replace.{Replaced}
 use Rattle.chains.specs.Free.{Takable, freeClusters}
 use Rattle.chains.specs.Growth.{extended, lacking, longerChain, longerTable, released}
 use Rattle.chains.specs.Laws.Lists.{dec-mem, mem-append, mem-left, mem-right, occ-append, occ-not}
 use Rattle.chains.specs.Laws.Sizes.{clusters-hold, clusters-least, fits-empty, fits-grows}
 use Rattle.chains.specs.Laws.Values.{free-no-use}
-use Rattle.chains.specs.Laws.Holders.{file-allows, in-use, nobody-owns, once, owns-nobody}
+use Rattle.chains.specs.Laws.Holders.{file-allows, in-use, once}
 use Rattle.chains.specs.Laws.Replace.{replace}
 use Rattle.chains.specs.Laws.Free.{lowest-takable}
 use Rattle.chains.specs.Laws.Growth.{extended-chain, extended-out, released-in, released-out}
@@ -54,19 +54,9 @@ module _ (G : Geometry) (f : ℕ → ℕ) (h : ℕ → Holder) (χ : ℕ → Lis
     taken = λ c m. absurd m;
   }
 
-  -- the holder is removed
-  pub removed : Sound (G .last) (released f (χ i)) (put h i nobody) (put χ i [])
-  removed = replace G f (released f (χ i)) h χ v i nobody [] (gives-back nobody (nobody-owns G (released f (χ i))))
-
   -- the holder becomes a file without bytes
   pub emptied : Sound (G .last) (released f (χ i)) (put h i (fileHolder (G .cb) 0 0)) (put χ i [])
   emptied = replace G f (released f (χ i)) h χ v i (fileHolder (G .cb) 0 0) [] (gives-back (fileHolder (G .cb) 0 0) (record { chain = refl; long = fits-empty (G .cb) (G .wide) }))
-
-  -- nobody has no clusters, so the table stays
-  pub nobody-releases : h i ≡ nobody → (χ i ≡ []) × (released f (χ i) ≡ f)
-  nobody-releases e =
-      let n : χ i ≡ [] = owns-nobody G f (h i) (χ i) e (v .owns i) in
-      (n, rw n (unfold released in refl))
 
   -- the holder changes and keeps its clusters
   pub keeps : (holder : Holder) → Owns (G .last) f holder (χ i) → Replaced (G .last) f f holder (χ i) (χ i)

@@ -104,11 +104,6 @@ module _ (base cb : ℕ) (wide : 0 < cb) where
   unfolding byteAt clusterAt
   byte-low cs p = omega arith
 
-  pub byte-high : (G : Geometry) (cs : List ℕ) → ((c : ℕ) → c ∈ cs → Link (G .last) c) → (p : ℕ) → p < length cs * cb → byteAt base cb cs p < base + (G .last - 1) * cb
-  unfolding byteAt
-  byte-high G cs r p l =
-      omega (arith, cluster-high G (getD cs (p / cb) 0) (r (getD cs (p / cb) 0) (index-mem cs (p / cb) (index-lt cs p l))), mod-lt p wide)
-
   pub content-length : (img cs : List ℕ) (size : ℕ) → Room base cb img cs → size ≤ length cs * cb → length (content base cb img cs size) ≡ size
   unfolding content
   content-length img cs size r l = length-take-le size (chainBytes base cb img cs) (omega (arith, chain-bytes-length img cs r))

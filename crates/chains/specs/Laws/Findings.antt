@@ -1,8 +1,7 @@
 -- The answer from finding 5 on: only one fits, it is what is computed, and it is fine exactly where table and holders are sound.
 use Prim.Native.Nat.{ℕ, _<_}
 use native.Mathlib.Decide.{ℕ-discrete}
-use mathlib.Core.Path.{_≡_, refl, sym, _∙_, subst}
-use mathlib.Core.Logic.{inr}
+use mathlib.Core.Path.{_≡_, refl, sym, subst}
 use mathlib.Core.Bool.{Bool}
 use mathlib.Core.Option.{Option}
 use mathlib.Core.List.{List, []}
@@ -10,14 +9,14 @@ use lib.Dec.{ltb}
 use Rattle.chains.specs.Lists.{Once, _∈_, joined}
 use Rattle.chains.specs.Sizes.{Geometry}
 use Rattle.chains.specs.Holders.{Holder, Owns, Sound, nobody}
-use Rattle.chains.specs.Verdict.{Found, None, Orders}
+use Rattle.chains.specs.Verdict.{Found, None}
 use Rattle.chains.specs.Findings.{BadChain, BadValue, FromChains, FromLost, FromTwo, InChain, InTwo, Lost, Voice, holdersOf}
 use Rattle.chains.specs.Check.{chainMarks, chainOf, checkChains, checkLost, checkTwo, inTwo, lost}
 use Rattle.chains.specs.Laws.Tests.{says-dec}
 use Rattle.chains.specs.Laws.Lists.{dec-mem, joined-mem, mem-joined}
 use Rattle.chains.specs.Laws.Values.{says-valid}
-use Rattle.chains.specs.Laws.Holders.{nobody-owns, owns-same, sound-listed}
-use Rattle.chains.specs.Laws.Verdict.{numbers, or-else, or-else-same}
+use Rattle.chains.specs.Laws.Holders.{nobody-owns, owns-same}
+use Rattle.chains.specs.Laws.Verdict.{or-else}
 use Rattle.chains.specs.Laws.Check.{found-in-two, found-lost, holders-in, in-chain, owned-chain-of, owns-chain-of, says-owned}
 
 module _ {P A : Type 0} (before : P → P → Bool) (G : Geometry) (f : ℕ → ℕ) (h : ℕ → Holder) (es : List (P × ℕ)) (W : Voice P A) where
@@ -26,11 +25,6 @@ module _ {P A : Type 0} (before : P → P → Bool) (G : Geometry) (f : ℕ → 
 
   abbrev χ : ℕ → List ℕ
   χ i = chainOf (G .last) f (h i)
-
-  pub from-chains-same : Orders before → (a b : A) → FromChains before (G .last) f h es W a → FromChains before (G .last) f h es W b → a ≡ b
-  from-chains-same O = or-else-same before O (BadChain (G .last) f h es) (W .badChain) (FromTwo (G .last) f h es W)
-      (or-else-same ltb numbers (InTwo (G .last) f h is) (W .inTwo) (FromLost (G .last) f h es W)
-      (or-else-same ltb numbers (Lost (G .last) f h is) (W .lost) (λ a. a ≡ W .fine) (λ a b x y. x ∙ sym y)))
 
   -- none of finding 5: each holder has its chain
   pub good-all : None (BadChain (G .last) f h es) → (i : ℕ) → i ∈ is → Owns (G .last) f (h i) (χ i)
@@ -85,18 +79,3 @@ module _ {P A : Type 0} (before : P → P → Bool) (G : Geometry) (f : ℕ → 
     module _ (χ′ : ℕ → List ℕ) (v : Sound (G .last) f h χ′) where
       of : (i c : ℕ) → InChain (G .last) f h i c → c ∈ χ′ i
       of i c r = subst (λ (ds : List ℕ). c ∈ ds) (owns-same G f (h i) (r .0) (χ′ i) (r .1) (v .owns i)) (r .2)
-
-      pub no-bad-value : None (BadValue (G .last) f)
-      no-bad-value c b = b .1 (v .valid c (b .0))
-
-      pub no-bad-chain : None (BadChain (G .last) f h es)
-      no-bad-chain p b = b .2 (χ′ (b .0)) (v .owns (b .0))
-
-      pub no-in-two : None (InTwo (G .last) f h is)
-      no-in-two c b = b .2 (v .apart (b .0) (b .1) c (of (b .0) c (b .5)) (of (b .1) c (b .6)))
-
-      pub no-lost : None (Lost (G .last) f h is)
-      no-lost c b = let o = v .cover c (b .0) (b .1) in b .2 (o .0) (sound-listed G f h χ′ v is out (o .0) c (o .1)) (χ′ (o .0), v .owns (o .0), o .1)
-
-      pub sound-fine : FromChains before (G .last) f h es W (W .fine)
-      sound-fine = inr (no-bad-chain, inr (no-in-two, inr (no-lost, refl)))

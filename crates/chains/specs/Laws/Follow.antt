@@ -7,8 +7,8 @@ use lib.ListN.{length, getD}
 use Rattle.chains.specs.Lists.{joined, lastOf}
 use Rattle.chains.specs.Sizes.{Geometry}
 use Rattle.chains.specs.Chain.{After, Chain}
-use Rattle.chains.specs.Marks.{mark, marks}
-use Rattle.chains.specs.Steps.{followed, marked}
+use Rattle.chains.specs.Marks.{marks}
+use Rattle.chains.specs.Steps.{followed}
 use Rattle.chains.specs.Laws.Marks.{marks-append}
 
 after-followed : (G : Geometry) (f : ℕ → ℕ) (c : ℕ) (cs : List ℕ) → After (G .last) f c cs → (k : ℕ) → k ≤ length cs → followed f k c ≡ getD (c ∷ cs) k 0
@@ -29,15 +29,6 @@ last-followed G f c [] p = refl
 last-followed G f c (d ∷ ds) p = ap (followed f (length ds)) (p .0) ∙ last-followed G f d ds (p .2)
 
 -- ---- marks
-
-after-marked : (G : Geometry) (f : ℕ → ℕ) (m : List ℕ) (c : ℕ) (cs : List ℕ) → After (G .last) f c cs → marked f m (suc (length cs)) c ≡ marks m (c ∷ cs)
-unfolding marked marks
-after-marked G f m c [] p = refl
-after-marked G f m c (d ∷ ds) p = ap (marked f (mark m c) (suc (length ds))) (p .0) ∙ after-marked G f (mark m c) d ds (p .2)
-
-pub chain-marked : (G : Geometry) (f : ℕ → ℕ) (m : List ℕ) (c : ℕ) (cs : List ℕ) → Chain (G .last) f c cs → marked f m (length cs) c ≡ marks m cs
-chain-marked G f m c [] p = unfold marked marks in refl
-chain-marked G f m c (x ∷ xs) p = ap (marked f m (suc (length xs))) (p .0) ∙ after-marked G f m x xs (p .2)
 
 -- chain after chain
 pub marks-joined : (m : List ℕ) (χ : ℕ → List ℕ) (i : ℕ) (is : List ℕ) → marks m (joined χ (i ∷ is)) ≡ marks (marks m (χ i)) (joined χ is)

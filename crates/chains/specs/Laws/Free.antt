@@ -5,16 +5,14 @@ use native.Mathlib.Decide.{ℕ-discrete}
 use mathlib.Core.Path.{_≡_, refl, sym, ap, _∙_}
 use mathlib.Core.Logic.{_↔_, _≢_, inl, inr}
 use mathlib.Core.List.{List, [], _∷_}
-use lib.Dec.{ltb}
 use lib.ListN.{length, take}
-use borrow.Author.Tests.{eq-eqb, ne-eqb, ltb-true}
+use borrow.Author.Tests.{eq-eqb, ne-eqb}
 use Rattle.chains.specs.Put.{put}
-use Rattle.chains.specs.Lists.{Once, _∈_, occ, startOf}
+use Rattle.chains.specs.Lists.{Once, _∈_, occ}
 use Rattle.chains.specs.Sums.{tally}
 use Rattle.chains.specs.Sizes.{Geometry}
 use Rattle.chains.specs.Values.{Link, freeAt, freeCount}
 use Rattle.chains.specs.Free.{Takable, freeClusters, freeFrom}
-use Rattle.chains.specs.Verdict.{Lowest}
 use Rattle.chains.specs.Laws.Put.{put-other, put-same}
 use Rattle.chains.specs.Laws.Lists.{hit-cases, mem-take, occ-not, occ-take}
 use Rattle.chains.specs.Laws.Values.{free-none, free-one}
@@ -64,10 +62,6 @@ pub free-mem : (G : Geometry) (f : ℕ → ℕ) (a : ℕ) → a ∈ freeClusters
 unfolding freeClusters
 free-mem G f a m = let r = from-mem f (G .last - 1) 2 a m in ((r .0, omega arith), r .2)
 
-pub mem-free : (G : Geometry) (f : ℕ → ℕ) (a : ℕ) → Link (G .last) a → f a ≡ 0 → a ∈ freeClusters (G .last) f
-unfolding freeClusters
-mem-free G f a l e = mem-from f (G .last - 1) 2 a (l .0) (omega arith) e
-
 pub free-once : (G : Geometry) (f : ℕ → ℕ) → Once (freeClusters (G .last) f)
 unfolding freeClusters
 free-once G f a = from-once f (G .last - 1) 2 a
@@ -114,10 +108,6 @@ from-next f (suc n) c d v ds nv e = elim (ℕ-discrete (f c) 0) [
       free-no (put f d v) n c (λ k. nz (sym (put-other f d v c (omega arith)) ∙ k)) ∙ from-next f n (suc c) d v ds nv p
 ]
 
-pub free-next : (G : Geometry) (f : ℕ → ℕ) (d v : ℕ) (ds : List ℕ) → v ≢ 0 → freeClusters (G .last) f ≡ d ∷ ds → freeClusters (G .last) (put f d v) ≡ ds
-unfolding freeClusters
-free-next G f d v ds nv e = from-next f (G .last - 1) 2 d v ds nv e
-
 -- ---- the head is the lowest
 
 from-head : (f : ℕ → ℕ) (n c d : ℕ) (ds : List ℕ) → freeFrom f n c ≡ d ∷ ds → (a : ℕ) → c ≤ a → a < d → f a ≢ 0
@@ -132,22 +122,6 @@ from-head f (suc n) c d ds e a k l = elim (ℕ-discrete (f c) 0) [
     | no q ↦ from-head f n (suc c) d ds (sym (free-no f n c nz) ∙ e) a (omega arith) l
   ]
 ]
-
-pub free-lowest : (G : Geometry) (f : ℕ → ℕ) → 0 < length (freeClusters (G .last) f) → Lowest ltb (λ c. Link (G .last) c × (f c ≡ 0)) (startOf (freeClusters (G .last) f))
-unfolding freeClusters
-free-lowest G f k = go (freeClusters (G .last) f) refl
-  where
-    go : (ds : List ℕ) → freeClusters (G .last) f ≡ ds → Lowest ltb (λ c. Link (G .last) c × (f c ≡ 0)) (startOf ds)
-    go [] e = absurd (omega (arith, ap length e))
-    go (d ∷ ds) e = (free-mem G f d (rw e (inl refl)), λ a l b. from-head f (G .last - 1) 2 d ds e a (b .0 .0) (ltb-true a d l) (b .1))
-
--- no cluster has the number 0: where that is found, none is free
-pub free-none-left : (G : Geometry) (f : ℕ → ℕ) → startOf (freeClusters (G .last) f) ≡ 0 → freeClusters (G .last) f ≡ []
-free-none-left G f = go (freeClusters (G .last) f) refl
-  where
-    go : (ds : List ℕ) → freeClusters (G .last) f ≡ ds → startOf ds ≡ 0 → ds ≡ []
-    go [] e z = refl
-    go (d ∷ ds) e z = absurd (let m : Link (G .last) d × (f d ≡ 0) = free-mem G f d (rw e (inl refl)) in omega arith)
 
 -- ---- what may be taken
 

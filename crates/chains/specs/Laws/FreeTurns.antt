@@ -1,11 +1,11 @@
 -- The loop that finds the lowest free cluster, 0 where there is none: it stands at cluster c, and last + 1 - c clusters are left.
 use Prim.Native.Nat.{ℕ, suc, _+_, _-_, _≤_, _<_}
 use native.Mathlib.Omega.{arith}
-use mathlib.Core.Path.{_≡_, refl, sym, ap, _∙_}
+use mathlib.Core.Path.{_≡_, sym, ap, _∙_}
 use mathlib.Core.Logic.{_≢_}
 use mathlib.Core.List.{[], _∷_}
 use Rattle.chains.specs.Lists.{startOf}
-use Rattle.chains.specs.Free.{freeClusters, freeFrom}
+use Rattle.chains.specs.Free.{freeFrom}
 use Rattle.chains.specs.Laws.Free.{free-nil, free-no, free-yes}
 
 left-suc : (last c : ℕ) → c ≤ last → last + 1 - c ≡ suc (last + 1 - (c + 1))
@@ -19,10 +19,6 @@ left-hit f last c h e = let z : suc c ≡ c + 1 = omega arith in rw (left-suc la
 
 left-miss : (f : ℕ → ℕ) (last c : ℕ) → c ≤ last → f c ≢ 0 → freeFrom f (last + 1 - c) c ≡ freeFrom f (last + 1 - (c + 1)) (c + 1)
 left-miss f last c h e = let z : suc c ≡ c + 1 = omega arith in rw (left-suc last c h, sym z) (free-no f (last + 1 - (suc c)) c e)
-
-pub lowest-start : (f : ℕ → ℕ) (last : ℕ) → startOf (freeFrom f (last + 1 - 2) 2) ≡ startOf (freeClusters last f)
-unfolding freeClusters
-lowest-start f last = let z : last + 1 - 2 ≡ last - 1 = omega arith in rw z refl
 
 pub lowest-hit : (f : ℕ → ℕ) (last c v : ℕ) (whole : ℕ) → c ≤ last → v ≡ f c → v ≡ 0 → startOf (freeFrom f (last + 1 - c) c) ≡ whole → c ≡ whole
 lowest-hit f last c v whole h e z w = sym (ap startOf (left-hit f last c h (sym e ∙ z))) ∙ w

@@ -24,10 +24,6 @@ nobody-owns G f = record { chain = refl; long = eq-eqb 0 0 refl }
 pub owns-nobody : (G : Geometry) (f : ℕ → ℕ) (h : Holder) (cs : List ℕ) → h ≡ nobody → Owns (G .last) f h cs → cs ≡ []
 owns-nobody G f h cs e o = owns-same G f nobody cs [] (subst (λ (x : Holder). Owns (G .last) f x cs) e o) (nobody-owns G f)
 
--- one family of lists only
-pub sound-same : (G : Geometry) (f : ℕ → ℕ) (h : ℕ → Holder) (χ ψ : ℕ → List ℕ) → Sound (G .last) f h χ → Sound (G .last) f h ψ → χ ≡ ψ
-sound-same G f h χ ψ v w = λ k i. owns-same G f (h i) (χ i) (ψ i) (v .owns i) (w .owns i) k
-
 -- ---- a file
 
 pub file-allows : (last cb : ℕ) (f : ℕ → ℕ) (h : Holder) (cs : List ℕ) (st sz : ℕ) → h ≡ fileHolder cb st sz → Owns last f h cs → fits cb sz (length cs) ≡ true

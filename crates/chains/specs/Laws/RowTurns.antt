@@ -4,7 +4,6 @@ use native.Mathlib.Omega.{arith}
 use mathlib.Core.Path.{_≡_, refl, sym, ap, _∙_}
 use mathlib.Core.List.{List, [], _∷_}
 use Rattle.chains.specs.Lists.{joined}
-use Rattle.chains.specs.Sums.{sumOver}
 use Rattle.chains.specs.Marks.{marks}
 use Rattle.chains.specs.Findings.{holdersOf}
 use Rattle.chains.specs.Rows.{rows}
@@ -19,16 +18,6 @@ rows-one way end s l =
 
 rows-none : (way : ℕ → ℕ) (end s : ℕ) → end ≤ s → holdersOf (rows way s (end - s)) ≡ []
 rows-none way end s l = let z : end - s ≡ 0 = omega arith in rw z (unfold rows holdersOf in refl)
-
--- ---- a sum: n was added up
-
-pub sum-turn : (g way : ℕ → ℕ) (end s n m whole : ℕ) → s < end → m ≡ n + g (way s) → n + sumOver (holdersOf (rows way s (end - s))) g ≡ whole → m + sumOver (holdersOf (rows way (s + 1) (end - (s + 1)))) g ≡ whole
-unfolding sumOver
-sum-turn g way end s n m whole l e w = omega (arith, ap (λ (is : List ℕ). sumOver is g) (rows-one way end s l))
-
-pub sum-end : (g way : ℕ → ℕ) (end s n whole : ℕ) → end ≤ s → n + sumOver (holdersOf (rows way s (end - s))) g ≡ whole → n ≡ whole
-unfolding sumOver
-sum-end g way end s n whole l w = omega (arith, ap (λ (is : List ℕ). sumOver is g) (rows-none way end s l))
 
 -- ---- marks: m are those of the slots before s
 

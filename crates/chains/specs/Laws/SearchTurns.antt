@@ -32,12 +32,3 @@ slots-start t n = let z : n - 0 ≡ n = omega arith in rw z refl
 
 pub clusters-start : (t : ℕ → Bool) (last : ℕ) → first t (last + 1 - 2) 2 ≡ first t (last - 1) 2
 clusters-start t last = let z : last + 1 - 2 ≡ last - 1 = omega arith in rw z refl
-
-pub clusters-hit : (t : ℕ → Bool) (last c : ℕ) (whole : Option ℕ) → c ≤ last → t c ≡ true → first t (last + 1 - c) c ≡ whole → some c ≡ whole
-clusters-hit t last c whole l e w = first-hit t (last + 1) c whole (omega arith) e w
-
-pub clusters-miss : (t : ℕ → Bool) (last c : ℕ) (whole : Option ℕ) → c ≤ last → t c ≡ false → first t (last + 1 - c) c ≡ whole → first t (last + 1 - (c + 1)) (c + 1) ≡ whole
-clusters-miss t last c whole l e w = first-miss t (last + 1) c whole (omega arith) e w
-
-pub clusters-end : (t : ℕ → Bool) (last c : ℕ) (whole : Option ℕ) → last < c → first t (last + 1 - c) c ≡ whole → none ≡ whole
-clusters-end t last c whole l w = first-end t (last + 1) c whole (omega arith) w

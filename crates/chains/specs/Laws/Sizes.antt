@@ -1,10 +1,9 @@
 -- How many clusters a size asks for, and the laws through which the test of a chain's length is used.
-use Prim.Native.Nat.{ℕ, suc, _+_, _-_, _*_, _/_, _%_, _≤_, _<_, max}
+use Prim.Native.Nat.{ℕ, suc, _+_, _-_, _*_, _/_, _≤_, _<_, max}
 use native.Mathlib.Omega.{arith}
-use native.Mathlib.Nat.{div-lt-iff-lt-mul, div-add-mod', mod-lt, mul-le-mul-right}
-use native.Mathlib.Decide.{ℕ-discrete, decLt}
+use native.Mathlib.Nat.{div-lt-iff-lt-mul}
+use native.Mathlib.Decide.{ℕ-discrete}
 use mathlib.Core.Path.{_≡_, sym, ap}
-use mathlib.Core.Logic.{_≢_}
 use mathlib.Core.Bool.{true}
 use borrow.Author.Tests.{eqb-true, eq-eqb}
 use Rattle.chains.specs.Sizes.{clustersFor, fits}
@@ -30,28 +29,6 @@ clusters-some cb p n h = elim (ℕ-discrete (clustersFor cb n) 0) [
 ]
 
 -- without the sum, which may not fit a word
-
-pub clusters-even : (cb : ℕ) → 0 < cb → (n : ℕ) → n % cb ≡ 0 → clustersFor cb n ≡ n / cb
-clusters-even cb p n e =
-    let least : clustersFor cb n ≤ n / cb = clusters-least cb p n (n / cb) (omega (arith, div-add-mod' n cb)) in
-    elim (decLt (clustersFor cb n) (n / cb)) [
-      | no h ↦ omega arith
-      | yes h ↦ absurd (omega (arith, p, div-add-mod' n cb, clusters-hold cb p n, mul-le-mul-right cb (next (clustersFor cb n) (n / cb) h)))
-    ]
-  where
-    next : (a b : ℕ) → a < b → a + 1 ≤ b
-    next a b h = omega arith
-
-pub clusters-odd : (cb : ℕ) → 0 < cb → (n : ℕ) → n % cb ≢ 0 → clustersFor cb n ≡ n / cb + 1
-clusters-odd cb p n e =
-    let least : clustersFor cb n ≤ n / cb + 1 = clusters-least cb p n (n / cb + 1) (omega (arith, div-add-mod' n cb, mod-lt n p)) in
-    elim (decLt (n / cb) (clustersFor cb n)) [
-      | yes h ↦ omega arith
-      | no h ↦ absurd (omega (arith, div-add-mod' n cb, clusters-hold cb p n, mul-le-mul-right cb (back (n / cb) (clustersFor cb n) h)))
-    ]
-  where
-    back : (a b : ℕ) → ¬ (a < b) → b ≤ a
-    back a b h = omega arith
 
 -- ---- the test of a chain's length against the size
 

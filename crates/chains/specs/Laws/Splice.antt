@@ -1,11 +1,11 @@
 -- What is read of a splice.
-use Prim.Native.Nat.{ℕ, _+_, _-_, _≤_, _<_, max}
+use Prim.Native.Nat.{ℕ, _+_, _-_, _≤_, _<_}
 use native.Mathlib.Omega.{arith}
 use mathlib.Core.Path.{_≡_, ap, ap₂, _∙_}
 use mathlib.Core.List.{List, _++_, append-nil}
-use lib.ListN.{length, getD, take, drop, replicate, length-append, length-drop, length-replicate, List·getD-append, drop-of-length-le}
+use lib.ListN.{length, getD, take, drop, length-append, length-drop, List·getD-append, drop-of-length-le}
 use lib.Seq.{getD-take, getD-drop, getD-append-add, length-take-le, take-all}
-use Rattle.chains.specs.Write.{splice, written}
+use Rattle.chains.specs.Write.{splice}
 
 pub splice-length : (xs : List ℕ) (pos : ℕ) (bs : List ℕ) → pos ≤ length xs → length (splice xs pos bs) ≡ pos + (length bs + (length xs - (pos + length bs)))
 unfolding splice
@@ -43,18 +43,3 @@ unfolding splice
 splice-end xs zs n e =
     ap₂ (λ (a b : List ℕ). a ++ (zs ++ b)) (take-all n xs (omega arith)) (drop-of-length-le xs {i = n + length zs} (omega arith))
     ∙ ap (λ (b : List ℕ). xs ++ b) (append-nil zs)
-
--- ---- the bytes of a file after a write
-
-pub written-length : (xs : List ℕ) (pos : ℕ) (bs : List ℕ) → length (written xs pos bs) ≡ max (length xs) (pos + length bs)
-unfolding written
-written-length xs pos bs =
-    let l : length (xs ++ replicate (pos - length xs) 0) ≡ length xs + (pos - length xs) = length-append xs (replicate (pos - length xs) 0) ∙ ap (λ (n : ℕ). length xs + n) (length-replicate (pos - length xs) 0) in
-    splice-length (xs ++ replicate (pos - length xs) 0) pos bs (omega arith) ∙ omega arith
-
-pub written-in : (xs : List ℕ) (pos : ℕ) (bs : List ℕ) (i : ℕ) → i < length bs → getD (written xs pos bs) (pos + i) 0 ≡ getD bs i 0
-unfolding written
-written-in xs pos bs i h =
-    let l : length (xs ++ replicate (pos - length xs) 0) ≡ length xs + (pos - length xs) = length-append xs (replicate (pos - length xs) 0) ∙ ap (λ (n : ℕ). length xs + n) (length-replicate (pos - length xs) 0) in
-    let z : pos + i - pos ≡ i = omega arith in
-    splice-in (xs ++ replicate (pos - length xs) 0) pos bs (pos + i) (omega arith) (omega arith) (omega arith) ∙ ap (λ (n : ℕ). getD bs n 0) z

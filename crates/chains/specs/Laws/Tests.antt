@@ -1,19 +1,16 @@
 -- A test with its meaning, put together from the meanings of its parts.
-use Prim.Native.Nat.{ℕ, _≤_, _<_}
+use Prim.Native.Nat.{ℕ, _≤_}
 use native.Mathlib.Omega.{arith}
-use native.Mathlib.Decide.{ℕ-discrete, decLe, decLt}
+use native.Mathlib.Decide.{ℕ-discrete, decLe}
 use mathlib.Core.Path.{_≡_, refl}
 use mathlib.Core.Logic.{_⊎_, inl, inr}
 use mathlib.Core.Bool.{Bool, true, false, _&&_, _||_, not}
-use lib.Dec.{leb, ltb, eqb}
-use borrow.Author.Tests.{le-leb, lt-leb, eq-eqb, ne-eqb, lt-ltb, le-ltb}
+use lib.Dec.{leb, eqb}
+use borrow.Author.Tests.{le-leb, lt-leb, eq-eqb, ne-eqb}
 use Rattle.chains.specs.Tests.{Says, aye, nay}
 
 pub says-le : (m n : ℕ) → Says (leb m n) (m ≤ n)
 says-le m n = elim (decLe m n) [ yes h ↦ aye (le-leb m n h) h | no h ↦ nay (lt-leb m n (omega arith)) h ]
-
-pub says-lt : (m n : ℕ) → Says (ltb m n) (m < n)
-says-lt m n = elim (decLt m n) [ yes h ↦ aye (lt-ltb m n h) h | no h ↦ nay (le-ltb m n (omega arith)) h ]
 
 pub says-eq : (m n : ℕ) → Says (eqb m n) (m ≡ n)
 says-eq m n = elim (ℕ-discrete m n) [ yes h ↦ aye (eq-eqb m n h) h | no h ↦ nay (ne-eqb m n h) h ]

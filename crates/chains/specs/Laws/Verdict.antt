@@ -32,13 +32,6 @@ unfolding orElse
 or-else before B say Rest o a (found p e l) r = inl (p, l, rw e refl)
 or-else before B say Rest o a (nowhere e n) r = inr (n, rw e (r n))
 
--- one search finds what another finds
-pub found-same : {P : Type 0} (before : P → P → Bool) → Orders before → (B : P → Type 0) (o q : Option P) → Found before B o → Found before B q → o ≡ q
-found-same before O B o q (found p e l) (found r d k) = e ∙ ap some (lowest-same before O B p r l k) ∙ sym d
-found-same before O B o q (found p e l) (nowhere d n) = absurd (n p (l .0))
-found-same before O B o q (nowhere e n) (found r d k) = absurd (n r (k .0))
-found-same before O B o q (nowhere e n) (nowhere d m) = e ∙ sym d
-
 -- ---- numbers in order, searched from below
 
 pub numbers : Orders ltb

@@ -37,7 +37,8 @@ use Rattle.filing.specs.Create.{made, madeBy, createRows, createEffect, createO
 use Rattle.filing.specs.Delete.{erasedIn, deleteRows, deleteEffect, deleteOutcome}
 use Rattle.filing.specs.Freed.{chainFreed}
 use Rattle.filing.specs.Laws.Create.{open-below}
-use Rattle.writing.specs.Write.{writeCount, writtenIn, writeRows, writeEffect, writeOutcome, writeAt}
+use Rattle.putting.specs.Written.{writtenIn}
+use Rattle.writing.specs.Write.{writeCount, writeRows, writeEffect, writeOutcome, writeAt}
 use Rattle.history.specs.Came.{Came, stays}
 use Rattle.history.specs.Changed.{SlotChanged}
 use Rattle.history.specs.Files.{file, Holds}

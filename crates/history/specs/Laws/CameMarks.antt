@@ -59,7 +59,7 @@ module _ (k : Kind) (w : World) (b : Begins k w) where
           came-at k w (rename s n) (fileSlot l s) _ _ (ap (λ (o : Outcome). o .number) e) m refl
           (rename-changed k l (b .on) (fileSlot l s) i n fits free)
           (rename-bytes k l (b .on) (fileSlot l s) i n fits (b .bytes))
-          i (history.withName (nameOf n .name)) (λ fs. refl)
+          i (history.renamedTo (nameOf n .name)) (λ fs. refl)
           (rename-holds k l (b .on) (fileSlot l s) i n fits)
 
   -- ---- file mode
@@ -83,7 +83,7 @@ module _ (k : Kind) (w : World) (b : Begins k w) where
           came-at k w (mode s function attr) (fileSlot l s) _ _ (ap (λ (o : Outcome). o .number) e ∙ rw q) m refl
           (mode-changed k l (b .on) (fileSlot l s) i attr may)
           (mode-bytes k l (b .on) (fileSlot l s) i attr may (b .bytes))
-          i (history.withAttr attr) (λ fs. rw q)
+          i (history.markedWith attr) (λ fs. rw q)
           (mode-holds k l (b .on) (fileSlot l s) i attr may)
 
   -- ---- close

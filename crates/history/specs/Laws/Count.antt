@@ -11,8 +11,8 @@ use Rattle.chains.specs.Write.{accepted}
 use Rattle.diskette.specs.declared.Kind.{Kind}
 use Rattle.calls.specs.Ready.{OnVolume}
 use Rattle.holding.specs.Holding.{FileIn}
-use Rattle.writing.specs.Longer.{roomOf}
-use Rattle.writing.specs.Put.{CanPut}
+use Rattle.putting.specs.Longer.{roomOf}
+use Rattle.putting.specs.Put.{CanPut}
 use Rattle.writing.specs.Write.{writeCount}
 use Rattle.writing.specs.Laws.Write.{count-within, count-reaches}
 

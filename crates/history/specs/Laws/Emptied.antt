@@ -21,9 +21,9 @@ use Rattle.directory.specs.Slots.{PlainAt}
 use Rattle.links.specs.Leaves.{Leaves, Holds}
 use Rattle.links.specs.Laws.Freed.{table-freed}
 use Rattle.links.specs.Laws.Leaves.{leaves-freed}
+use Rattle.chaincheck.specs.Entries.{holderAt}
 use Rattle.sound.specs.Files.{valueOf}
 use Rattle.sound.specs.Holders.{rootHolders, rootChains}
-use Rattle.sound.specs.Judged.{holderAt}
 use Rattle.sound.specs.Laws.Geometry.{geometry}
 use Rattle.calls.specs.Ready.{OnVolume}
 use Rattle.calls.specs.Laws.Ready.{on-usable}

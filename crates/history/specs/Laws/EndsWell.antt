@@ -29,8 +29,9 @@ use Rattle.calls.specs.Refusals.{badAttr, fileFound, slotForNew, notLive}
 use Rattle.calls.specs.Laws.Ready.{on-kind}
 use Rattle.filing.specs.Create.{made, createOutcome}
 use Rattle.opening.specs.Close.{closeEffect, closeOutcome}
-use Rattle.writing.specs.Longer.{roomOf}
-use Rattle.writing.specs.Write.{writeCount, writtenIn, writeOutcome, writeAt}
+use Rattle.putting.specs.Longer.{roomOf}
+use Rattle.putting.specs.Written.{writtenIn}
+use Rattle.writing.specs.Write.{writeCount, writeOutcome, writeAt}
 use Rattle.history.specs.World.{World, outcomeOf, create, write, close}
 
 -- the one place of the table is taken for the file in slot n

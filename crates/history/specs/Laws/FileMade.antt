@@ -31,7 +31,7 @@ use Rattle.calls.specs.Laws.Files.{slot-within}
 use Rattle.opening.specs.Close.{archived, stamped, closeEffect}
 use Rattle.holding.specs.Laws.Clusters.{on-clusters}
 use Rattle.filing.specs.Create.{made}
-use Rattle.writing.specs.Write.{writtenIn}
+use Rattle.putting.specs.Written.{writtenIn}
 use Rattle.history.specs.Files.{File, file, Files, ShowsAt}
 use Rattle.history.specs.History as history
 use Rattle.history.specs.ListingCase.{fileCalls, HasStamp, answered}

@@ -31,9 +31,9 @@ use Rattle.calls.specs.Laws.Ready.{on-usable}
 use Rattle.holding.specs.Holding.{fileChain, FileIn}
 use Rattle.holding.specs.Laws.Clusters.{on-clusters}
 use Rattle.holding.specs.Laws.Chain.{file-chain, file-holds, file-within}
-use Rattle.writing.specs.Longer.{chainAfter, withClusters, lengthened, CanGrow}
-use Rattle.writing.specs.Laws.Longer.{linked-leaves, start-small}
-use Rattle.writing.specs.Laws.Room.{room-fits}
+use Rattle.putting.specs.Longer.{chainAfter, withClusters, lengthened, CanGrow}
+use Rattle.putting.specs.Laws.Longer.{linked-leaves, start-small}
+use Rattle.putting.specs.Laws.Room.{room-fits}
 use Rattle.history.specs.Changed.{Framed}
 use Rattle.history.specs.Laws.Frames.{entry-frame, entry-touches, frame-then, links-frame, links-touch}
 

@@ -19,7 +19,7 @@ use Rattle.reading.specs.View.{viewRows, viewOutcome}
 use Rattle.history.specs.Came.{Came, stays}
 use Rattle.history.specs.Files.{Files}
 use Rattle.history.specs.History.{changes, after}
-use Rattle.history.specs.World.{World, Call, verdictIn, outcomeOf, step, check, freeClusters, entryAt, openFile, read, seek, view}
+use Rattle.history.specs.World.{World, Call, verdictIn, outcomeOf, step, check, countFree, tellEntry, openFile, read, seek, view}
 use Rattle.history.specs.Laws.Rows.{image-stays}
 
 either-same : {A : Type 0} (b : Bool) (x : A) → cond b x x ≡ x
@@ -34,11 +34,11 @@ module _ (k : Kind) (w : World) where
       image (Sound files free held aside) = refl
       image (Finding number place) = refl
 
-  pub came-free : Came k w freeClusters
-  came-free = stays refl (λ fs. either-same (eqb (outcomeOf freeClusters w .number) 0) fs)
+  pub came-free : Came k w countFree
+  came-free = stays refl (λ fs. either-same (eqb (outcomeOf countFree w .number) 0) fs)
 
-  pub came-entry : (slot : ℕ) → Came k w (entryAt slot)
-  came-entry slot = stays refl (λ fs. either-same (eqb (outcomeOf (entryAt slot) w .number) 0) fs)
+  pub came-entry : (slot : ℕ) → Came k w (tellEntry slot)
+  came-entry slot = stays refl (λ fs. either-same (eqb (outcomeOf (tellEntry slot) w .number) 0) fs)
 
   pub came-open : (s : List ℕ) (access : ℕ) → Came k w (openFile s access)
   unfolding openOutcome

@@ -41,10 +41,10 @@ use Rattle.names.specs.Spelling.{Proper}
 use Rattle.names.specs.Laws.Proper.{proper}
 use Rattle.search.specs.Search.{Answers}
 use Rattle.search.specs.declared.Found.the-variants.{Nothing}
+use Rattle.chaincheck.specs.Entries.{holderAt}
 use Rattle.sound.specs.Files.{valueOf, ChainOf}
 use Rattle.sound.specs.Findings.{StrangeEntry}
 use Rattle.sound.specs.Holders.{rootHolders, rootChains}
-use Rattle.sound.specs.Judged.{holderAt}
 use Rattle.sound.specs.Laws.Geometry.{geometry}
 use Rattle.sound.specs.Laws.Holders.{root-holder, plain-holder}
 use Rattle.calls.specs.Ready.{OnVolume}

@@ -10,12 +10,12 @@ use Rattle.diskette.specs.declared.Kind.{Kind}
 use Rattle.opened.specs.Records.{slotOf, pointerOf}
 use Rattle.calls.specs.Outcome.{Outcome}
 use Rattle.calls.specs.Laws.Ready.{on-kind}
-use Rattle.writing.specs.Longer.{roomOf}
+use Rattle.putting.specs.Longer.{roomOf}
 use Rattle.writing.specs.Write.{writeCount, writeRows, writeEffect, writeOutcome, writeAt}
 use Rattle.history.specs.Came.{Came}
 use Rattle.history.specs.Promises.{Given, Begins, SoundAfterEach, FilesOfHistory, AltersNoOther, TotalAfterEach, ShortOnlyWhereFull}
 use Rattle.history.specs.Tare.{TareStays}
-use Rattle.history.specs.World.{World, Call, outcomeOf, run, check, freeClusters, entryAt, openFile, create, read, write, seek, close, delete, rename, mode, view}
+use Rattle.history.specs.World.{World, Call, outcomeOf, run, check, countFree, tellEntry, openFile, create, read, write, seek, close, delete, rename, mode, view}
 use Rattle.history.specs.Laws.Came.{came-entries, came-others}
 use Rattle.history.specs.Laws.CameFiles.{came-delete, came-create, came-write}
 use Rattle.history.specs.Laws.CameMarks.{came-rename, came-mode, came-close}
@@ -28,8 +28,8 @@ use Rattle.history.specs.Laws.Runs.{begins-each, shows-run, total-of}
 -- every call
 pub came : (k : Kind) (w : World) (c : Call) → Begins k w → Given c → Came k w c
 came k w check b g = came-check k w
-came k w freeClusters b g = came-free k w
-came k w (entryAt slot) b g = came-entry k w slot
+came k w countFree b g = came-free k w
+came k w (tellEntry slot) b g = came-entry k w slot
 came k w (openFile s access) b g = came-open k w s access
 came k w (create s attr stamp) b g = came-create k w b s attr stamp
 came k w (read h buffer) b g = came-read k w h buffer

@@ -30,7 +30,7 @@ use Rattle.filing.specs.Delete.{deleteEffect, deleteOutcome}
 use Rattle.opened.specs.Records.{pointerOf}
 use Rattle.writing.specs.Write.{writeCount, writeEffect, writeOutcome, writeAt}
 use Rattle.history.specs.Promises.{RefusalsLeaveAll, RefusedReadsLeaveBuffer}
-use Rattle.history.specs.World.{World, Call, world, verdictIn, outcomeOf, step, check, freeClusters, entryAt, openFile, create, read, write, seek, close, delete, rename, mode, view}
+use Rattle.history.specs.World.{World, Call, world, verdictIn, outcomeOf, step, check, countFree, tellEntry, openFile, create, read, write, seek, close, delete, rename, mode, view}
 use Rattle.history.specs.Laws.Rows.{decided-cases, refused-leaves, image-stays}
 
 -- one of two that end well
@@ -62,8 +62,8 @@ refusals-leave-all w check n = go (checkOf (w .image))
     go : (v : Verdict) → world (verdictIn v w .image) (verdictIn v w .table) ≡ w
     go (Sound files free held aside) = refl
     go (Finding number place) = refl
-refusals-leave-all w freeClusters n = refl
-refusals-leave-all w (entryAt slot) n = refl
+refusals-leave-all w countFree n = refl
+refusals-leave-all w (tellEntry slot) n = refl
 refusals-leave-all w (openFile s access) n = both (refused-leaves _ (openEffect (w .image) (w .table) s access) _ _ _ refl n)
 refusals-leave-all w (create s attr stamp) n =
     both (refused-leaves _ (createEffect (w .image) (w .table) s attr stamp) _ _ _ (well-create (w .image) (w .table) s attr stamp) n)

@@ -13,10 +13,10 @@ use Rattle.contents.specs.Laws.Chain.{chain-room}
 use Rattle.diskette.specs.Places.{firstData, clusterBytes, lastCluster, rootEntries, slotAt}
 use Rattle.diskette.specs.declared.Kind.{Kind}
 use Rattle.directory.specs.Fields.{startOf, sizeOf}
+use Rattle.chaincheck.specs.Entries.{holderAt}
 use Rattle.sound.specs.Counts.{freeOf, asideOf}
 use Rattle.sound.specs.Files.{valueOf}
 use Rattle.sound.specs.Holders.{rootHolders, rootChains}
-use Rattle.sound.specs.Judged.{holderAt}
 use Rattle.sound.specs.Laws.Geometry.{geometry}
 use Rattle.sound.specs.Laws.Holders.{root-holder}
 use Rattle.calls.specs.Ready.{OnVolume}

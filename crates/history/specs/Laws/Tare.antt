@@ -23,7 +23,7 @@ use Rattle.history.specs.Came.{Came}
 use Rattle.history.specs.Files.{File, Holds}
 use Rattle.history.specs.Promises.{Given, AllGiven, Begins}
 use Rattle.history.specs.Tare.{Tare, SetsMode, NoModeSet, SameFile}
-use Rattle.history.specs.World.{World, Call, Names, verdictIn, outcomeOf, step, run, check, freeClusters, entryAt, openFile, create, read, write, seek, close, delete, rename, mode, view}
+use Rattle.history.specs.World.{World, Call, Names, verdictIn, outcomeOf, step, run, check, countFree, tellEntry, openFile, create, read, write, seek, close, delete, rename, mode, view}
 use Rattle.history.specs.Laws.Came.{came-on, came-bytes, came-entries, came-others}
 use Rattle.history.specs.Laws.Refused.{refusals-leave-all}
 use Rattle.history.specs.Laws.Rows.{image-stays}
@@ -51,8 +51,8 @@ module _ (k : Kind) (w : World) (b : Begins k w) (s : ℕ) (g : Guarded k w s) w
       same : (v : Verdict) → Watched (verdictIn v w .table) s
       same (Sound files free held aside) = g .places
       same (Finding number place) = g .places
-  spared freeClusters u = record { image = inl refl; places = g .places }
-  spared (entryAt slot) u = record { image = inl refl; places = g .places }
+  spared countFree u = record { image = inl refl; places = g .places }
+  spared (tellEntry slot) u = record { image = inl refl; places = g .places }
   spared (openFile name access) u = open-spares k w (b .on) s g name access
   spared (create name attr stamp) u =
       let x = create-spares k w (b .on) s g name attr stamp in

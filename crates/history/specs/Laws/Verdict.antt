@@ -13,8 +13,9 @@ use Rattle.diskette.specs.declared.Kind.{Kind}
 use Rattle.diskette.specs.declared.WhichKind.{WhichKind}
 use Rattle.directory.specs.Slots.{standingOf, isPlain}
 use Rattle.directory.specs.Laws.Slots.{plain-is}
+use Rattle.chaincheck.specs.Held.{plainSlot}
 use Rattle.sound.specs.Answer.{AnswersBy}
-use Rattle.sound.specs.Counts.{plainSlot, fileCount, freeOf, heldOf, asideOf}
+use Rattle.sound.specs.Counts.{fileCount, freeOf, heldOf, asideOf}
 use Rattle.sound.specs.Files.{IsFile}
 use Rattle.sound.specs.Judged.{checkOf}
 use Rattle.sound.specs.Laws.OneAnswer.{checked-is}

@@ -22,8 +22,8 @@ use Rattle.diskette.specs.Laws.Kinds.{OfKnown, of-cond}
 use Rattle.diskette.specs.declared.Kind.{Kind}
 use Rattle.diskette.specs.declared.WhichKind.{WhichKind}
 use Rattle.diskette.specs.declared.WhichKind.the-variants.{Known, Unknown}
+use Rattle.chaincheck.specs.Held.{plainSlot}
 use Rattle.sound.specs.Answer.{AnswersOf, AnswersBy, Checked, CheckedArea}
-use Rattle.sound.specs.Counts.{plainSlot}
 use Rattle.sound.specs.Files.{ChainOf}
 use Rattle.sound.specs.Findings.{TablesDiffer, BadValue, BadSlot, BadChain, InTwoChains, Lost}
 use Rattle.sound.specs.FromFinding.{FromLost, FromTwo, FromChains, FromSlots, FromValues, Counted, NoFinding}

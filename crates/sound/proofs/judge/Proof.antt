@@ -22,8 +22,8 @@ enum-told c = search needs
 last-cluster-requires : tie.Need-last-cluster-requires
 last-cluster-requires c κs = search needs
 
-census-requires : tie.Need-census-requires
-census-requires c κs = search needs
+take-census-requires : tie.Need-take-census-requires
+take-census-requires c κs = search needs
 
 enum-known-c : tie.Need-enum-known-c
 enum-known-c c = search needs
@@ -71,7 +71,7 @@ judge-spec =
     enum-known-offset
     enum-told
     last-cluster-requires
-    census-requires
+    take-census-requires
     enum-known-c
     enum-known-free
     root-at-requires

@@ -17,12 +17,13 @@ use Rattle.diskette.specs.declared.WhichKind.{WhichKind}
 use Rattle.diskette.specs.declared.WhichKind.the-variants.{Known, Unknown}
 use Rattle.diskette.specs.Laws.Images.{image-of-kind, area-of-kind, image-usable, area-usable, image-has-area}
 use Rattle.directory.specs.Search.{slotFrom}
+use Rattle.chaincheck.specs.Entries.{badChainSlot, holderAt}
 use Rattle.sound.specs.Answer.{AnswersOf, AnswersBy, Checked, CheckedArea}
 use Rattle.sound.specs.Files.{valueOf}
 use Rattle.sound.specs.FromFinding.{Counted, FromLost, FromTwo, FromChains, FromSlots, FromValues}
 use Rattle.sound.specs.Findings.{TablesDiffer, BadValue, BadSlot, BadChain, InTwoChains, Lost}
 use Rattle.sound.specs.Holders.{rootRows}
-use Rattle.sound.specs.Judged.{judged, judgedBy, checkOf, checkOfArea, badChainSlot, holderAt, marksOfFiles, voice}
+use Rattle.sound.specs.Judged.{judged, judgedBy, checkOf, checkOfArea, marksOfFiles, voice}
 use Rattle.sound.specs.Laws.BadSlot.{found-bad-slot}
 use Rattle.sound.specs.Laws.Chains.{bad-chain-as, in-two-as, lost-as}
 use Rattle.sound.specs.Laws.Geometry.{geometry}

@@ -14,8 +14,9 @@ use Rattle.directory.specs.Entries.{SameFields}
 use Rattle.directory.specs.Slots.{NeverUsedAt, LiveAt, LabelAt, PlainAt, isPlain}
 use Rattle.directory.specs.Laws.Entries.{same-fields}
 use Rattle.table.specs.Laws.View.{table-same}
+use Rattle.chaincheck.specs.Held.{plainSlot, heldBy}
 use Rattle.sound.specs.Area.{SameArea}
-use Rattle.sound.specs.Counts.{plainSlot, heldBy, fileCount, heldOf}
+use Rattle.sound.specs.Counts.{fileCount, heldOf}
 use Rattle.sound.specs.Files.{valueOf, IsFile, ChainOf}
 use Rattle.sound.specs.Findings.{TablesDiffer, BadValue, BadSlot, AfterNeverUsed, StrangeEntry, SecondLabel, NameTwice, BadChain, InChain, InTwoChains, Lost}
 use Rattle.sound.specs.FromFinding.{Counted}

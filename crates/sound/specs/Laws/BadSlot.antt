@@ -22,11 +22,10 @@ use Rattle.directory.specs.Laws.Slots.{standing-label, live-is, plain-is}
 use Rattle.directory.specs.Laws.Search.{slot-named-answers}
 use Rattle.directory.specs.declared.Standing.{Standing}
 use Rattle.directory.specs.declared.Standing.the-variants.{NeverUsed, Erased, Label, Plain}
-use Rattle.search.specs.Search.{Answers}
-use Rattle.search.specs.declared.Found.the-variants.{At, Nothing}
 use Rattle.search.specs.declared.Found as answer
+use Rattle.slotcheck.specs.Laws.Slots.{says-found}
+use Rattle.slotcheck.specs.Slots.{anyBelow, isLabel, isLive, neverUsedSlot, labelSlot, strange, strangeSlot, nameTwiceSlot, badSlotBy, badSlotAt}
 use Rattle.sound.specs.Findings.{AfterNeverUsed, StrangeEntry, SecondLabel, NameTwice, BadSlot}
-use Rattle.sound.specs.Judged.{anyBelow, isLabel, isLive, isFound, neverUsedSlot, labelSlot, strange, strangeSlot, nameTwiceSlot, badSlotBy, badSlotAt}
 
 -- ---- tests
 
@@ -84,11 +83,6 @@ module _ (l : List ℕ) (root s : ℕ) where
   says-plain = says-iff (isPlain (standingOf l (slotFrom root s))) (plain-is l (slotFrom root s))
 
 -- ---- the four parts
-
--- the search below s found a plain file of that name
-pub says-found : (P : ℕ → Type 0) (count : ℕ) (f : answer.Found) → Answers P count f → Says (isFound f) ((t : ℕ) × (t < count) × P t)
-says-found P count (At t) a = aye refl (t, a .below, a .passes)
-says-found P count Nothing a = nay refl (λ x. a (x .0) (x .1) (x .2))
 
 module _ (k : Kind) (l : List ℕ) (s : ℕ) where
   says-after : Says (not (neverUsedSlot l (rootAt k) s) && anyBelow (neverUsedSlot l (rootAt k)) s) (AfterNeverUsed k l s)

@@ -18,10 +18,10 @@ use Rattle.directory.specs.Fields.{startOf, sizeOf}
 use Rattle.directory.specs.Search.{slotFrom}
 use Rattle.directory.specs.Slots.{PlainAt, standingOf, isPlain}
 use Rattle.directory.specs.Laws.Slots.{plain-is}
+use Rattle.chaincheck.specs.Entries.{holderAt}
 use Rattle.sound.specs.Files.{valueOf, IsFile, ChainOf}
 use Rattle.sound.specs.Findings.{BadChain, InChain, InTwoChains, Lost}
 use Rattle.sound.specs.Holders.{rootList, rootRows}
-use Rattle.sound.specs.Judged.{holderAt}
 use Rattle.sound.specs.Laws.Geometry.{geometry}
 use Rattle.sound.specs.Laws.Holders.{plain-holder, no-holder, listed-slot, slot-listed, slot-same}
 use Rattle.chains.specs.Findings as Theory

@@ -11,9 +11,9 @@ use Rattle.chains.specs.Laws.Replace.{replaced}
 use Rattle.diskette.specs.Kinds.{Usable}
 use Rattle.diskette.specs.Places.{clusterBytes, lastCluster, rootEntries, slotAt}
 use Rattle.diskette.specs.declared.Kind.{Kind}
+use Rattle.chaincheck.specs.Entries.{holderAt}
 use Rattle.sound.specs.Files.{valueOf}
 use Rattle.sound.specs.Holders.{rootHolders}
-use Rattle.sound.specs.Judged.{holderAt}
 use Rattle.sound.specs.Laws.Geometry.{geometry}
 use Rattle.sound.specs.Laws.Holders.{root-holder, root-holders-as}
 use Rattle.chains.specs.Holders as Theory

@@ -16,8 +16,8 @@ use Rattle.diskette.specs.Kinds.{Usable}
 use Rattle.diskette.specs.Places.{copyOne, copyTwo}
 use Rattle.diskette.specs.declared.Kind.{Kind}
 use Rattle.table.specs.Entries.{Agree}
+use Rattle.tablecheck.specs.Copies.{differsAt}
 use Rattle.sound.specs.Findings.{TablesDiffer}
-use Rattle.sound.specs.Judged.{differsAt}
 
 pub says-differs : (k : Kind) (l : List ℕ) (j : ℕ) → j < 512 * k .fat → Says (differsAt (copyTwo k) l j) (TablesDiffer k l j)
 unfolding differsAt

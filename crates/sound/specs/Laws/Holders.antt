@@ -17,7 +17,7 @@ use Rattle.directory.specs.Slots.{PlainAt, standingOf}
 use Rattle.directory.specs.Laws.Slots.{standing-plain}
 use Rattle.directory.specs.declared.Standing.{Standing}
 use Rattle.directory.specs.declared.Standing.the-variants.{NeverUsed, Erased, Label, Plain}
-use Rattle.sound.specs.Judged.{holderBy, holderAt}
+use Rattle.chaincheck.specs.Entries.{holderBy, holderAt}
 use Rattle.sound.specs.Holders.{rootList, among, rootHolders}
 
 -- ---- at one address

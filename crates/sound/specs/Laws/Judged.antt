@@ -12,17 +12,21 @@ use Rattle.search.specs.declared.Found.the-variants.{At, Nothing}
 use Rattle.diskette.specs.Places.{clusterBytes, lastCluster, rootEntries, rootAt, copyTwo}
 use Rattle.diskette.specs.declared.Kind.{Kind}
 use Rattle.table.specs.Entries.{tableOf}
+use Rattle.tablecheck.specs.Copies.{differsAt}
+use Rattle.tablecheck.specs.Values.{censusBy, censusOf}
+use Rattle.tablecheck.specs.declared.Census.{Census}
+use Rattle.tablecheck.specs.declared.Census.the-variants.{BadValue, Values}
+use Rattle.slotcheck.specs.Slots.{badSlotAt}
+use Rattle.chaincheck.specs.Entries.{badChainSlot}
+use Rattle.chaincheck.specs.Visits.{chainsBy, chainsFound, FilesVisited}
+use Rattle.chaincheck.specs.declared.Chains.{Chains}
+use Rattle.chaincheck.specs.declared.Chains.the-variants.{BadChain, Held}
 use Rattle.sound.specs.Files.{valueOf}
 use Rattle.sound.specs.Counts.{fileCount, freeOf, heldOf, asideOf}
-use Rattle.sound.specs.Judged.{differsAt, badSlotAt, badChainSlot, marksOfFiles, voice, marksJudged, chainsJudged, judged}
-use Rattle.sound.specs.Visits.{censusBy, censusOf, chainsBy, chainsFound, FilesVisited}
+use Rattle.sound.specs.Judged.{marksOfFiles, voice, marksJudged, chainsJudged, judged}
 use Rattle.sound.specs.Laws.Visited.{files-visited-marks}
 use Rattle.sound.specs.declared.Verdict.{Verdict}
 use Rattle.sound.specs.declared.Verdict.the-variants.{Sound, Finding}
-use Rattle.sound.specs.declared.Census.{Census}
-use Rattle.sound.specs.declared.Census.the-variants.{BadValue, Values}
-use Rattle.sound.specs.declared.Chains.{Chains}
-use Rattle.sound.specs.declared.Chains.the-variants.{BadChain, Held}
 
 -- ---- one finding in front of the rest
 

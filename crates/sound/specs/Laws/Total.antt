@@ -20,7 +20,8 @@ use Rattle.directory.specs.Fields.{startOf, sizeOf}
 use Rattle.directory.specs.Search.{slotFrom}
 use Rattle.directory.specs.Slots.{standingOf, isPlain}
 use Rattle.directory.specs.Laws.Slots.{plain-is}
-use Rattle.sound.specs.Counts.{plainSlot, heldBy, freeOf, heldOf, asideOf}
+use Rattle.chaincheck.specs.Held.{plainSlot, heldBy}
+use Rattle.sound.specs.Counts.{freeOf, heldOf, asideOf}
 use Rattle.sound.specs.Files.{valueOf}
 use Rattle.sound.specs.Holders.{rootList, rootHolders, rootChains}
 use Rattle.sound.specs.Sound.{Sound}

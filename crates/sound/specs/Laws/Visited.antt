@@ -10,11 +10,12 @@ use Rattle.chains.specs.Marks.{marks, marksOf}
 use Rattle.chains.specs.Verdict.{first}
 use Rattle.diskette.specs.Places.{clusterBytes, lastCluster, rootEntries, rootAt}
 use Rattle.diskette.specs.declared.Kind.{Kind}
+use Rattle.chaincheck.specs.Entries.{badChainSlot, chainsOf}
+use Rattle.chaincheck.specs.Visits.{chainsBy, chainsFound, marksIf, FilesVisited}
+use Rattle.chaincheck.specs.declared.Chains.{Chains}
+use Rattle.chaincheck.specs.declared.Chains.the-variants.{BadChain, Held}
 use Rattle.sound.specs.Counts.{fileCount, heldOf}
-use Rattle.sound.specs.Judged.{badChainSlot, chainsOf, marksOfFiles}
-use Rattle.sound.specs.Visits.{chainsBy, chainsFound, marksIf, FilesVisited}
-use Rattle.sound.specs.declared.Chains.{Chains}
-use Rattle.sound.specs.declared.Chains.the-variants.{BadChain, Held}
+use Rattle.sound.specs.Judged.{marksOfFiles}
 
 bad-of : (o : Option ℕ) (files held s : ℕ) → BadChain s ≡ chainsBy o files held → o ≡ some s
 bad-of none files held s e = absurd (let z : _≡_ {A = ℕ} 0 1 = cc in omega arith)

@@ -22,9 +22,10 @@ use Rattle.calls.specs.declared.Answer.{Answer}
 use Rattle.calls.specs.declared.Ready.{Ready}
 use Rattle.calls.specs.declared.Ready.the-variants.{Refused}
 use Rattle.holding.specs.Holding.{fileChain, FileIn}
-use Rattle.writing.specs.Longer.{roomOf}
-use Rattle.writing.specs.Write.{writtenIn, writeAt, writeOutcome, Writes, WritesAt}
-use Rattle.writing.specs.Laws.Room.{room-clusters, room-fits}
+use Rattle.putting.specs.Longer.{roomOf}
+use Rattle.putting.specs.Written.{writtenIn}
+use Rattle.writing.specs.Write.{writeAt, writeOutcome, Writes, WritesAt}
+use Rattle.putting.specs.Laws.Room.{room-clusters, room-fits}
 
 pub writes-only : {img t : List ℕ} {h : ℕ} {bs : List ℕ} {r r′ : Answer} {l l′ m m′ : List ℕ} → Writes img t h bs r l m → Writes img t h bs r′ l′ m′
     → (r .number ≡ r′ .number) × (r .value ≡ r′ .value) × (l ≡ l′) × (m ≡ m′)

@@ -1,0 +1,56 @@
+-- The lowest from here on is the lowest of all.
+use borrow.Author.Needs.{needs}
+use Prim.Native.Nat.{_-_, _≤_}
+use mathlib.Core.Path.{_≡_}
+use Rattle.chains.specs.Check.{inTwo}
+use Rattle.chains.specs.Verdict.{first}
+use Rattle.chains.specs.Laws.SearchTurns.{clusters-start}
+use Rattle.chaincheck.specs.Laws.MarkTurns.{two-hit, two-miss}
+use Rattle.chaincheck.specs.Laws.Searches.{search-done}
+use Rattle.chaincheck.proofs.marks.first_in_two.Statement.{statement}
+use Rattle.chaincheck.proofs.marks.first_in_two.Tie as tie
+
+abbrev Inv-loop : tie.InvT-loop
+Inv-loop marks last after twice₀ twice = (2 ≤ twice) × (first (inTwo marks) (after - twice) twice ≡ first (inTwo marks) (last - 1) 2)
+
+abbrev μ-loop : tie.MeasureT-loop
+μ-loop marks last after twice₀ twice = after - twice
+
+add-after : tie.Need-add-after Inv-loop μ-loop
+add-after c = search needs
+
+loop-holds : tie.Need-loop-holds Inv-loop μ-loop
+loop-holds c = search (needs, clusters-start)
+
+shared-slice-read-if1 : tie.Need-shared-slice-read-if1 Inv-loop μ-loop
+shared-slice-read-if1 c = search needs
+
+returns : tie.Need-returns Inv-loop μ-loop
+returns c = search two-hit
+
+add-twice : tie.Need-add-twice Inv-loop μ-loop
+add-twice c = search needs
+
+loop-less : tie.Need-loop-less Inv-loop μ-loop
+loop-less c = search needs
+
+loop-again : tie.Need-loop-again Inv-loop μ-loop
+loop-again c = search (needs, two-miss)
+
+returns-2 : tie.Need-returns-2 Inv-loop μ-loop
+returns-2 c = search search-done
+
+pub first-in-two-spec : {M : Type 1} → statement M
+first-in-two-spec =
+    tie.close
+    (tie.spec
+    Inv-loop
+    μ-loop
+    add-after
+    loop-holds
+    shared-slice-read-if1
+    returns
+    add-twice
+    loop-less
+    loop-again
+    returns-2)

@@ -1,0 +1,197 @@
+-- The loop over the slots of a directory, turn by turn.
+use Prim.Native.Nat.{ℕ, suc, _+_, _*_, _-_, _≤_, _<_}
+use native.Mathlib.Omega.{arith}
+use mathlib.Core.Bool.{Bool, true, false, cond, not}
+use mathlib.Core.List.{List, []}
+use mathlib.Core.Path.{_≡_, refl, sym, ap, subst, _∙_}
+use lib.ListN.{length}
+use mir.Syntax.{w64}
+use mir.Val.{Fits}
+use Rattle.chains.specs.Check.{ownsb}
+use Rattle.chains.specs.Holders.{nobody}
+use Rattle.chains.specs.Marks.{marks}
+use Rattle.chains.specs.Sizes.{Geometry, clustersFor}
+use Rattle.chains.specs.Sums.{sum, tally}
+use Rattle.chains.specs.Verdict.{first}
+use Rattle.chains.specs.Laws.Check.{says-owned}
+use Rattle.chains.specs.Laws.Chain.{chain-length}
+use Rattle.chains.specs.Laws.Holders.{file-allows, nobody-owns}
+use Rattle.chains.specs.Laws.Marks.{marks-length}
+use Rattle.chains.specs.Laws.RowTurns.{marks-turn, marks-end}
+use Rattle.chains.specs.Laws.SearchTurns.{first-hit, first-miss, first-end, slots-start}
+use Rattle.chains.specs.Laws.Sizes.{fits-exact}
+use Rattle.chains.specs.Laws.TallyTurns.{tally-hit, tally-miss, tally-end}
+use Rattle.chains.specs.Laws.Tests.{says-true, true-says}
+use Rattle.table.specs.Entries.{tableOf}
+use Rattle.directory.specs.Fields.{startOf, sizeOf}
+use Rattle.directory.specs.Search.{slotFrom}
+use Rattle.directory.specs.Slots.{standingOf, isPlain}
+use Rattle.chaincheck.specs.Held.{plainSlot, heldBy}
+use Rattle.chaincheck.specs.Entries.{holderAt, badChainSlot, chainsOf}
+use Rattle.chaincheck.specs.Walks.{Tails}
+use Rattle.chaincheck.specs.Visits.{chainsFound, slotBy, slotFound, chainAt, SlotMarked, markedUnlessBad, SlotVisited, Underway, FilesVisited}
+use Rattle.chaincheck.specs.Laws.SlotTurns.{holder-none, holder-file}
+use Rattle.chaincheck.specs.declared.Slot.{Slot}
+use Rattle.chaincheck.specs.declared.Slot.the-variants.{NoFile, Bad, Clusters}
+use Rattle.chaincheck.specs.declared.Chains.the-variants.{BadChain, Held}
+
+-- ---- what an answer for a slot says of it
+
+abbrev isFile : Slot → Bool
+isFile NoFile = false
+isFile Bad = true
+isFile (Clusters n) = true
+
+abbrev isBad : Slot → Bool
+isBad NoFile = false
+isBad Bad = true
+isBad (Clusters n) = false
+
+abbrev holds : Slot → ℕ
+holds NoFile = 0
+holds Bad = 0
+holds (Clusters n) = n
+
+-- by the two tests that decide it: is there a plain file, does it own a chain that fits
+file-by : (p o : Bool) (n : ℕ) → p ≡ isFile (slotBy p o n)
+file-by false o n = refl
+file-by true false n = refl
+file-by true true n = refl
+
+bad-by : (p o : Bool) (n : ℕ) → (p ≡ false → o ≡ true) → not o ≡ isBad (slotBy p o n)
+bad-by false o n h = ap not (h refl)
+bad-by true false n h = refl
+bad-by true true n h = refl
+
+held-by : (p o : Bool) (n : ℕ) → isBad (slotBy p o n) ≡ false → cond p n 0 ≡ holds (slotBy p o n)
+held-by false o n h = refl
+held-by true false n h = absurd (let z : _≡_ {A = ℕ} 0 1 = cc in omega arith)
+held-by true true n h = refl
+
+few-by : (p o : Bool) (n : ℕ) → (p ≡ true → o ≡ true → n ≤ 4096) → holds (slotBy p o n) ≤ 4096
+few-by false o n h = omega arith
+few-by true false n h = omega arith
+few-by true true n h = h refl refl
+
+module _ (last cb : ℕ) (l : List ℕ) (root s : ℕ) (low : last ≤ 4079) (wide : 0 < cb) (g : Slot) (r : g ≡ slotFound last cb l (slotFrom root s)) where
+  abbrev G : Geometry
+  G = record { last = last; cb = cb; small = low; wide = wide }
+
+  abbrev f : ℕ → ℕ
+  f = tableOf last l
+
+  abbrev a : ℕ
+  a = slotFrom root s
+
+  abbrev p : Bool
+  p = isPlain (standingOf l a)
+
+  abbrev o : Bool
+  o = ownsb last f (holderAt cb l a)
+
+  abbrev n : ℕ
+  n = clustersFor cb (sizeOf l a)
+
+  slot-is : slotBy p o n ≡ g
+  unfolding slotFound
+  slot-is = sym r
+
+  -- nobody's chain is good
+  nobody-good : p ≡ false → o ≡ true
+  nobody-good x = rw (holder-none cb (startOf l a) (sizeOf l a) (standingOf l a) x) (true-says (says-owned G f nobody) ([], nobody-owns G f))
+
+  -- a good chain is no longer than the volume
+  good-few : p ≡ true → o ≡ true → n ≤ 4096
+  good-few x y =
+      let w = says-true (says-owned G f (holderAt cb l a)) y in
+      let is = holder-file cb (startOf l a) (sizeOf l a) (standingOf l a) x in
+      let e : length (w .0) ≡ n = fits-exact cb (sizeOf l a) (length (w .0)) (file-allows last cb f (holderAt cb l a) (w .0) (startOf l a) (sizeOf l a) is (w .1)) in
+      omega (arith, e, chain-length G f (holderAt cb l a .start) (w .0) (w .1 .chain))
+
+  plain-said : plainSlot l root s ≡ isFile g
+  unfolding plainSlot
+  plain-said = file-by p o n ∙ ap isFile slot-is
+
+  bad-said : badChainSlot last cb l root s ≡ isBad g
+  unfolding badChainSlot
+  bad-said = bad-by p o n nobody-good ∙ ap isBad slot-is
+
+  held-said : isBad g ≡ false → heldBy cb l root s ≡ holds g
+  unfolding heldBy plainSlot
+  held-said h = held-by p o n (ap isBad slot-is ∙ h) ∙ ap holds slot-is
+
+  few-said : holds g ≤ 4096
+  few-said = rw (sym slot-is) (few-by p o n good-few)
+
+-- ---- the loop
+
+pub files-begin : (last cb : ℕ) (l : List ℕ) (root count : ℕ) (m t : List ℕ) → Tails last (tableOf last l) m t → Underway last cb l root count m 0 0 0 m t
+unfolding sum chainsOf chainAt
+files-begin last cb l root count m t T =
+    let z : count - 0 ≡ count = omega arith in
+    record {
+      within = omega arith;
+      long = refl;
+      few = omega arith;
+      bounded = omega arith;
+      none-bad = slots-start (badChainSlot last cb l root) count;
+      files-are = rw z (omega arith);
+      held-is = refl;
+      marks-are = rw z;
+      tails = T;
+    }
+
+module _ (last cb : ℕ) (l : List ℕ) (root count : ℕ) (m₀ : List ℕ) (s files held : ℕ) (m t : List ℕ) (u : Underway last cb l root count m₀ s files held m t) where
+  pub files-done : count ≤ s → FilesVisited last cb l root count m₀ (Held files held) m
+  unfolding chainsFound chainsOf chainAt
+  files-done h =
+      let e : s ≡ count = omega (arith, u .within) in
+      let x = first-end (badChainSlot last cb l root) count s (first (badChainSlot last cb l root) count 0) h (u .none-bad) in
+      let y = tally-end (plainSlot l root) count s files (tally (plainSlot l root) count 0) h (u .files-are) in
+      let z : held ≡ sum count (heldBy cb l root) = u .held-is ∙ ap (λ (k : ℕ). sum k (heldBy cb l root)) e in
+      record {
+        is = rw (sym x, sym y, sym z);
+        marks-are = marks-end (chainAt last cb l) (slotFrom root) count s m (marks m₀ (chainsOf last cb l root count)) h (u .marks-are);
+      }
+
+  -- g is the answer for slot s, m′ and t′ are the buffers then
+  module _ (g : Slot) (m′ t′ : List ℕ) (low : last ≤ 4079) (wide : 0 < cb) (h : s < count) (v : SlotVisited last cb l (root + 32 * s) m g m′ t′) where
+    pub files-bad : g ≡ Bad → FilesVisited last cb l root count m₀ (BadChain s) m′
+    unfolding chainsFound
+    files-bad t =
+        let b : badChainSlot last cb l root s ≡ true = bad-said last cb l root s low wide g (v .is) ∙ ap isBad t in
+        let x = first-hit (badChainSlot last cb l root) count s (first (badChainSlot last cb l root) count 0) h b (u .none-bad) in
+        record { is = rw (sym x); marks-are = tt }
+
+    pub held-fits : (n : ℕ) → count ≤ 65536 → g ≡ Clusters n → Fits w64 (held + n)
+    held-fits n k t = record { fits = omega (arith, u .bounded, ap holds t, few-said last cb l root s low wide g (v .is)) }
+
+    next : (files′ held′ : ℕ) → isBad g ≡ false → SlotMarked last cb l (slotFrom root s) m m′ t′ → files′ ≤ files + 1 → held′ ≡ held + holds g
+        → files′ + tally (plainSlot l root) (count - (s + 1)) (s + 1) ≡ tally (plainSlot l root) count 0 → Underway last cb l root count m₀ (s + 1) files′ held′ m′ t′
+    next files′ held′ b x y z w = record {
+      within = omega arith;
+      long = ap length (x .marks-are) ∙ marks-length m (chainAt last cb l (slotFrom root s)) ∙ u .long;
+      few = omega (arith, u .few);
+      bounded = omega (arith, z, u .bounded, few-said last cb l root s low wide g (v .is));
+      none-bad = first-miss (badChainSlot last cb l root) count s (first (badChainSlot last cb l root) count 0) h (bad-said last cb l root s low wide g (v .is) ∙ b) (u .none-bad);
+      files-are = w;
+      held-is =
+          let e : s + 1 ≡ suc s = omega arith in
+          let q : sum (suc s) (heldBy cb l root) ≡ sum s (heldBy cb l root) + heldBy cb l root s = unfold sum in refl in
+          rw e (omega (arith, z, q, u .held-is, held-said last cb l root s low wide g (v .is) b));
+      marks-are = marks-turn (chainAt last cb l) (slotFrom root) count s m m′ (marks m₀ (chainsOf last cb l root count)) h (x .marks-are) (u .marks-are);
+      tails = x .tails;
+    }
+
+    module _ (files′ held′ : ℕ) where
+      pub files-skip : g ≡ NoFile → files′ ≡ files → held′ ≡ held → Underway last cb l root count m₀ (s + 1) files′ held′ m′ t′
+      files-skip e x y =
+          let d : plainSlot l root s ≡ false = plain-said last cb l root s low wide g (v .is) ∙ ap isFile e in
+          next files′ held′ (ap isBad e) (subst (λ (k : Slot). markedUnlessBad last cb l (slotFrom root s) m k m′ t′) e (v .marked)) (omega arith) (omega (arith, ap holds e))
+          (tally-miss (plainSlot l root) count s files files′ (tally (plainSlot l root) count 0) h d x (u .files-are))
+
+      pub files-add : (n : ℕ) → g ≡ Clusters n → files′ ≡ files + 1 → held′ ≡ held + n → Underway last cb l root count m₀ (s + 1) files′ held′ m′ t′
+      files-add n e x y =
+          let d : plainSlot l root s ≡ true = plain-said last cb l root s low wide g (v .is) ∙ ap isFile e in
+          next files′ held′ (ap isBad e) (subst (λ (k : Slot). markedUnlessBad last cb l (slotFrom root s) m k m′ t′) e (v .marked)) (omega arith) (omega (arith, ap holds e))
+          (tally-hit (plainSlot l root) count s files files′ (tally (plainSlot l root) count 0) h d x (u .files-are))

@@ -1,0 +1,62 @@
+-- The searches over the marks: finding 6 and finding 7 at cluster c.
+use Prim.Native.Nat.{ℕ, _+_, _-_, _≤_, _<_}
+use mathlib.Core.Bool.{Bool, true, false, _&&_, _||_}
+use mathlib.Core.List.{List}
+use mathlib.Core.Logic.{_≢_}
+use mathlib.Core.Option.{Option}
+use mathlib.Core.Path.{_≡_, refl, sym, ap}
+use lib.ListN.{getD}
+use borrow.Author.Tests.{eq-eqb, ne-eqb}
+use Rattle.chains.specs.Check.{inTwo, lost}
+use Rattle.chains.specs.Values.{endb, linkb}
+use Rattle.chains.specs.Verdict.{first}
+use Rattle.search.specs.Laws.Theory.{optional}
+use Rattle.search.specs.declared.Found.the-variants.{At}
+use Rattle.table.specs.Entries.{tableOf}
+use Rattle.table.specs.Values.{meaningOf}
+use Rattle.table.specs.declared.Meaning.{Meaning}
+use Rattle.table.specs.declared.Meaning.the-variants.{Free, Next, Aside, End, NoneOfThese}
+use Rattle.chaincheck.specs.Laws.Searches.{search-hit, search-miss}
+use Rattle.chaincheck.specs.Laws.Meanings.{isEnd, isNext, end-said, link-said}
+
+-- ---- finding 6
+
+module _ (m : List ℕ) (end c : ℕ) (whole : Option ℕ) (inv : first (inTwo m) (end - c) c ≡ whole) (h : c < end) where
+  pub two-hit : getD m c 0 ≡ 2 → optional (At c) ≡ whole
+  unfolding inTwo
+  two-hit e = search-hit (inTwo m) end c whole inv true h (sym (eq-eqb (getD m c 0) 2 e)) refl
+
+  pub two-miss : getD m c 0 ≢ 2 → first (inTwo m) (end - (c + 1)) (c + 1) ≡ whole
+  unfolding inTwo
+  two-miss d = search-miss (inTwo m) end c whole inv false h (sym (ne-eqb (getD m c 0) 2 d)) refl
+
+-- ---- finding 7, at one cluster: v is its value, g what that means
+
+module _ (last : ℕ) (l m : List ℕ) (c : ℕ) where
+  pub met-before : getD m c 0 ≢ 0 → false ≡ lost last (tableOf last l) m c
+  unfolding lost
+  met-before d = rw (ne-eqb (getD m c 0) 0 d) (sym (no (linkb last (tableOf last l c) || endb (tableOf last l c))))
+    where
+      no : (b : Bool) → (b && false) ≡ false
+      no true = refl
+      no false = refl
+
+  module _ (v : ℕ) (g : Meaning) (z : getD m c 0 ≡ 0) (low : last ≤ 4079) (r : v ≡ tableOf last l c) (small : v < 4096) (e : g ≡ meaningOf last v) where
+    by : (a b : Bool) → isNext g ≡ a → isEnd g ≡ b → ((a || b) && true) ≡ lost last (tableOf last l) m c
+    unfolding lost
+    by a b x y = rw (sym r, eq-eqb (getD m c 0) 0 z, link-said last v low small g e, end-said last v low small g e, x, y)
+
+    pub lost-free : g ≡ Free → false ≡ lost last (tableOf last l) m c
+    lost-free t = by false false (ap isNext t) (ap isEnd t)
+
+    pub lost-next : (n : ℕ) → g ≡ Next n → true ≡ lost last (tableOf last l) m c
+    lost-next n t = by true false (ap isNext t) (ap isEnd t)
+
+    pub lost-aside : g ≡ Aside → false ≡ lost last (tableOf last l) m c
+    lost-aside t = by false false (ap isNext t) (ap isEnd t)
+
+    pub lost-end : g ≡ End → true ≡ lost last (tableOf last l) m c
+    lost-end t = by false true (ap isNext t) (ap isEnd t)
+
+    pub lost-bad : g ≡ NoneOfThese → false ≡ lost last (tableOf last l) m c
+    lost-bad t = by false false (ap isNext t) (ap isEnd t)

@@ -1,0 +1,105 @@
+-- One slot: the chain of a plain file has the length that its size asks for, or it is bad.
+use Prim.Native.Nat.{ℕ, _+_, _-_, _/_, _≤_, _<_}
+use native.Mathlib.Omega.{arith}
+use mathlib.Core.Bool.{Bool, true, false, not}
+use mathlib.Core.List.{List, []}
+use mathlib.Core.Logic.{_≢_}
+use mathlib.Core.Path.{_≡_, refl, sym, ap, subst, _∙_}
+use lib.ListN.{length}
+use borrow.Author.Tests.{eq-eqb}
+use Rattle.chains.specs.Chain.{Chain}
+use Rattle.chains.specs.Check.{chainOf, ownsb}
+use Rattle.chains.specs.Holders.{Holder, Owns, nobody, fileHolder}
+use Rattle.chains.specs.Marks.{marks}
+use Rattle.chains.specs.Sizes.{Geometry, clustersFor, fits}
+use Rattle.chains.specs.Laws.Chain.{chain-same}
+use Rattle.chains.specs.Laws.Check.{says-owned}
+use Rattle.chains.specs.Laws.Sizes.{fits-exact}
+use Rattle.chains.specs.Laws.Tests.{false-says, not-false, not-true, true-says}
+use Rattle.chains.specs.Laws.Walk.{chain-walk}
+use Rattle.table.specs.Entries.{tableOf}
+use Rattle.directory.specs.Fields.{startOf, sizeOf}
+use Rattle.directory.specs.Slots.{standingOf, isPlain}
+use Rattle.directory.specs.declared.Standing.{Standing}
+use Rattle.directory.specs.declared.Standing.the-variants.{NeverUsed, Erased, Label, Plain}
+use Rattle.chaincheck.specs.Entries.{holderBy, holderAt}
+use Rattle.chaincheck.specs.Walks.{Tails, Chained, visitedBy, Visited}
+use Rattle.chaincheck.specs.Visits.{slotFound, chainAt, SlotVisited}
+use Rattle.chaincheck.specs.declared.Length.{Length}
+use Rattle.chaincheck.specs.declared.Length.the-variants.{Of, NoEnd}
+use Rattle.chaincheck.specs.declared.Slot.the-variants.{NoFile, Bad, Clusters}
+
+-- ---- who holds the chain
+
+pub holder-none : (cb start size : ℕ) (st : Standing) → isPlain st ≡ false → holderBy cb start size st ≡ nobody
+holder-none cb start size NeverUsed e = refl
+holder-none cb start size Erased e = refl
+holder-none cb start size Label e = refl
+holder-none cb start size Plain e = absurd (let z : _≡_ {A = ℕ} 0 1 = cc in omega arith)
+
+pub holder-file : (cb start size : ℕ) (st : Standing) → isPlain st ≡ true → holderBy cb start size st ≡ fileHolder cb start size
+holder-file cb start size Plain e = refl
+holder-file cb start size NeverUsed e = absurd (let z : _≡_ {A = ℕ} 0 1 = cc in omega arith)
+holder-file cb start size Erased e = absurd (let z : _≡_ {A = ℕ} 0 1 = cc in omega arith)
+holder-file cb start size Label e = absurd (let z : _≡_ {A = ℕ} 0 1 = cc in omega arith)
+
+-- ---- the clusters of a holder
+
+chain-of : (G : Geometry) (f : ℕ → ℕ) (h : Holder) (cs : List ℕ) → Chain (G .last) f (h .start) cs → chainOf (G .last) f h ≡ cs
+unfolding chainOf
+chain-of G f h cs p = rw (chain-walk G f (h .start) cs p, chainOf)
+
+-- ---- the slot, in the form of the code's needs
+
+module _ (last cb : ℕ) (l : List ℕ) (a : ℕ) (m : List ℕ) (low : last ≤ 4079) (wide : 0 < cb) where
+  abbrev G : Geometry
+  G = record { last = last; cb = cb; small = low; wide = wide }
+
+  abbrev f : ℕ → ℕ
+  f = tableOf last l
+
+  pub slot-no-file : (t : List ℕ) → Tails last f m t → (b : Bool) → b ≡ isPlain (standingOf l a) → not b ≡ true → SlotVisited last cb l a m NoFile m t
+  unfolding slotFound chainAt marks
+  slot-no-file t T b p x =
+      let e : isPlain (standingOf l a) ≡ false = sym p ∙ not-true b x in
+      record {
+        is = rw e;
+        marked = record { marks-are = rw (holder-none cb (startOf l a) (sizeOf l a) (standingOf l a) e, chain-of G f nobody [] refl); tails = T };
+      }
+
+  -- the file's chain was visited
+  module _ (start : ℕ) (g : Length) (after t : List ℕ) (v : Visited last (tableOf last l) start m g after t) (s : start ≡ startOf l a)
+      (size : ℕ) (z : size ≡ sizeOf l a) (b : Bool) (p : b ≡ isPlain (standingOf l a)) (x : not b ≡ false) where
+    plain : isPlain (standingOf l a) ≡ true
+    plain = sym p ∙ not-false b x
+
+    holder : holderAt cb l a ≡ fileHolder cb start size
+    holder = rw (z, s) (holder-file cb (startOf l a) (sizeOf l a) (standingOf l a) plain)
+
+    bad : ((cs : List ℕ) → ¬ Owns last f (fileHolder cb start size) cs) → SlotVisited last cb l a m Bad after t
+    unfolding slotFound
+    bad never =
+        let o : ownsb last f (holderAt cb l a) ≡ false = rw holder (false-says (says-owned G f (fileHolder cb start size)) (λ r. never (r .0) (r .1))) in
+        record { is = rw (plain, o); marked = tt }
+
+    pub slot-endless : g ≡ NoEnd → SlotVisited last cb l a m Bad after t
+    slot-endless e = bad (λ cs o. subst (λ (r : Length). visitedBy last f start m r after t) e (v .is) cs (o .chain))
+
+    module _ (n : ℕ) (e : g ≡ Of n) where
+      has : Chained last f start m n after t
+      has = subst (λ (r : Length). visitedBy last f start m r after t) e (v .is)
+
+      pub slot-other : n ≢ (size + (cb - 1)) / cb → SlotVisited last cb l a m Bad after t
+      unfolding clustersFor
+      slot-other d = bad (λ cs o. d (sym (has .long) ∙ ap length (chain-same G f start (has .clusters) cs (has .chain) (o .chain)) ∙ fits-exact cb size (length cs) (o .long)))
+
+      pub slot-clusters : n ≡ (size + (cb - 1)) / cb → SlotVisited last cb l a m (Clusters n) after t
+      unfolding slotFound fits clustersFor chainAt
+      slot-clusters q =
+          let w : Owns last f (fileHolder cb start size) (has .clusters) = record { chain = has .chain; long = eq-eqb (length (has .clusters)) ((size + (cb - 1)) / cb) (has .long ∙ q) } in
+          let o : ownsb last f (holderAt cb l a) ≡ true = rw holder (true-says (says-owned G f (fileHolder cb start size)) (has .clusters, w)) in
+          let c : chainOf last f (holderAt cb l a) ≡ has .clusters = rw holder (chain-of G f (fileHolder cb start size) (has .clusters) (has .chain)) in
+          record {
+            is = rw (plain, o, q, z);
+            marked = record { marks-are = has .marks-are ∙ ap (marks m) (sym c); tails = has .tails };
+          }

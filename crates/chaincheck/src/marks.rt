@@ -1,0 +1,66 @@
+// Findings 6 and 7, by the marks of all chains.
+use crate::walks;
+use search::Found;
+use table::Meaning;
+ghost use mathlib.Core.Path.{_≡_};
+ghost use Prim.Native.Nat.{_+_, _-_, _≤_, _<_};
+ghost use lib.ListN.{length};
+ghost use Rattle.chains.specs.Check.{inTwo, lost};
+ghost use Rattle.chains.specs.Verdict.{first};
+ghost use Rattle.search.specs.Laws.Theory.{optional};
+ghost use Rattle.table.specs.Entries.{wordAt, tableOf};
+
+// The lowest cluster that was met twice.
+pub fn first_in_two(marks: &[u8], last: usize) -> Found
+    requires { ⌜ last ≤ 4079 ⌝ }
+    requires { ⌜ last < length (now marks) ⌝ }
+    ensures { λ r. ⌜ optional r ≡ first (inTwo (now (marks .entry))) (last - 1) 2 ⌝ }
+{
+    let after = last + 1;
+    let mut twice: usize = 2;
+    while twice < after {
+        if marks[twice] == 2 {
+            return Found::At(twice);
+        }
+        twice += 1;
+    }
+    Found::Nothing
+}
+
+// Whether cluster c was not met and its value is a link or an end.
+fn is_lost(img: &[u8], marks: &[u8], last: usize, c: usize) -> bool
+    requires { ⌜ last ≤ 4079 ⌝ }
+    requires { ⌜ wordAt 512 last + 2 ≤ length (now img) ⌝ }
+    requires { ⌜ last < length (now marks) ⌝ }
+    requires { ⌜ (2 ≤ c) × (c ≤ last) ⌝ }
+    ensures { λ r. ⌜ r ≡ lost last (tableOf last (now (img .entry))) (now (marks .entry)) c ⌝ }
+{
+    if marks[c] != 0 {
+        return false;
+    }
+    match table::meaning_of(walks::value_of(img, last, c), last) {
+        Meaning::Free => false,
+        Meaning::Next(_) => true,
+        Meaning::Aside => false,
+        Meaning::End => true,
+        Meaning::NoneOfThese => false,
+    }
+}
+
+// The lowest such cluster.
+pub fn first_lost(img: &[u8], marks: &[u8], last: usize) -> Found
+    requires { ⌜ last ≤ 4079 ⌝ }
+    requires { ⌜ wordAt 512 last + 2 ≤ length (now img) ⌝ }
+    requires { ⌜ last < length (now marks) ⌝ }
+    ensures { λ r. ⌜ optional r ≡ first (lost last (tableOf last (now (img .entry))) (now (marks .entry))) (last - 1) 2 ⌝ }
+{
+    let after = last + 1;
+    let mut c: usize = 2;
+    while c < after {
+        if is_lost(img, marks, last, c) {
+            return Found::At(c);
+        }
+        c += 1;
+    }
+    Found::Nothing
+}

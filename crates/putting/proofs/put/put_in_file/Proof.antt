@@ -1,0 +1,48 @@
+-- The longer chain holds every byte up to the new size.
+use Rattle.calls.specs.Laws.Ready.{on-usable}
+use Rattle.holding.specs.Laws.Chain.{file-below, file-within}
+use Rattle.putting.specs.Laws.Put.{count-fits, reach-fits, can-grow, has-room, written-is}
+use borrow.Author.Needs.{needs}
+use Rattle.putting.proofs.put.put_in_file.Statement.{statement}
+use Rattle.putting.proofs.put.put_in_file.Tie as tie
+
+slot-at-requires : tie.Need-slot-at-requires
+slot-at-requires c κs = (search on-usable, search file-below)
+
+size-at-requires : tie.Need-size-at-requires
+size-at-requires c κs = search file-within
+
+cast-larger : tie.Need-cast-larger
+cast-larger c = search (needs, count-fits)
+
+add-larger : tie.Need-add-larger
+add-larger c = search (needs, reach-fits)
+
+larger-requires : tie.Need-larger-requires
+larger-requires c κs = search needs
+
+lengthen-requires : tie.Need-lengthen-requires
+lengthen-requires c κs = search can-grow
+
+put-along-requires : tie.Need-put-along-requires
+put-along-requires c κs = (search on-usable, search has-room)
+
+same-length : tie.Need-same-length
+same-length c = search needs
+
+returns : tie.Need-returns
+returns c = search written-is
+
+pub put-in-file-spec : {M : Type 1} → statement M
+put-in-file-spec =
+    tie.close
+    (tie.spec
+    slot-at-requires
+    size-at-requires
+    cast-larger
+    add-larger
+    larger-requires
+    lengthen-requires
+    put-along-requires
+    same-length
+    returns)

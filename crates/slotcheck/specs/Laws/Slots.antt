@@ -1,0 +1,114 @@
+-- What the search of the slots for finding 4 needs, turn by turn and test by test.
+use Prim.Native.Nat.{ℕ, suc, _+_, _-_, _<_}
+use native.Mathlib.Omega.{arith}
+use mathlib.Core.Bool.{Bool, true, false, _&&_, _||_, not}
+use mathlib.Core.List.{List}
+use mathlib.Core.Logic.{_≢_}
+use mathlib.Core.Option.{Option, some}
+use mathlib.Core.Path.{_≡_, refl, sym, _∙_, ap}
+use lib.ListN.{getD}
+use borrow.Author.Tests.{eq-eqb, ne-eqb}
+use Rattle.chains.specs.Tests.{Says, aye, nay}
+use Rattle.chains.specs.Verdict.{first}
+use Rattle.chains.specs.Laws.SearchTurns.{first-hit, first-miss}
+use Rattle.directory.specs.Fields.{nameOf, attrOf}
+use Rattle.directory.specs.Slots.{hasBit, standingOf, isPlain}
+use Rattle.directory.specs.Search.{slotFrom, slotNamed}
+use Rattle.directory.specs.declared.Standing.{Standing}
+use Rattle.search.specs.Search.{Answers}
+use Rattle.search.specs.declared.Found.{Found}
+use Rattle.search.specs.declared.Found.the-variants.{At, Nothing}
+use Rattle.slotcheck.specs.Slots.{anyBelow, isLabel, isLive, isFound, neverUsedSlot, labelSlot, strange, strangeSlot, nameTwiceSlot, badSlotBy, badSlotAt}
+
+-- ---- a first byte or an attribute that is strange, bit by bit
+
+module _ (first attr : ℕ) where
+  pub strange-first : first ≡ 0x2E → true ≡ strange first attr
+  unfolding strange
+  strange-first e = rw (eq-eqb first 0x2E e)
+
+  module _ (other : first ≢ 0x2E) (b10 : Bool) (is10 : b10 ≡ hasBit attr 0x10) where
+    pub strange-10 : b10 ≡ true → true ≡ strange first attr
+    unfolding strange
+    strange-10 e = rw (ne-eqb first 0x2E other, ← is10, e)
+
+    module _ (not10 : b10 ≡ false) (b40 : Bool) (is40 : b40 ≡ hasBit attr 0x40) where
+      pub strange-40 : b40 ≡ true → true ≡ strange first attr
+      unfolding strange
+      strange-40 e = rw (ne-eqb first 0x2E other, ← is10, not10, ← is40, e)
+
+      pub strange-80 : b40 ≡ false → (b80 : Bool) → b80 ≡ hasBit attr 0x80 → b80 ≡ strange first attr
+      unfolding strange
+      strange-80 e b80 is80 = rw (ne-eqb first 0x2E other, ← is10, not10, ← is40, e, is80)
+
+-- ---- slot s of a directory that stands at byte root
+
+module _ (l : List ℕ) (root s : ℕ) where
+  pub label-tested : (st : Standing) → st ≡ standingOf l (slotFrom root s) → (r : Bool) → r ≡ isLabel st → r ≡ labelSlot l root s
+  unfolding labelSlot
+  label-tested st e r p = p ∙ ap isLabel e
+
+  module _ (st : Standing) (is : st ≡ standingOf l (slotFrom root s)) (live : Bool) (lives : live ≡ isLive st) where
+    pub strange-open : live ≡ false → false ≡ strangeSlot l root s
+    unfolding strangeSlot
+    strange-open f = rw (← is, ← lives, f)
+
+    pub strange-live : live ≡ true → (v : ℕ) → v ≡ attrOf l (slotFrom root s) → (r : Bool) → r ≡ strange (getD l (slotFrom root s) 0) v → r ≡ strangeSlot l root s
+    unfolding strangeSlot
+    strange-live t v e r p = rw (← is, ← lives, t, ← e) p
+
+  module _ (plain : Bool) (is : plain ≡ isPlain (standingOf l (slotFrom root s))) where
+    pub twice-other : plain ≡ false → false ≡ nameTwiceSlot l root s
+    unfolding nameTwiceSlot
+    twice-other f = rw (← is, f)
+
+    pub twice-plain : plain ≡ true → (name : List ℕ) → name ≡ nameOf l (slotFrom root s) → (f : Found) → f ≡ slotNamed l root s name
+        → (r : Bool) → r ≡ isFound f → r ≡ nameTwiceSlot l root s
+    unfolding nameTwiceSlot
+    twice-plain t name e f q r p = rw (← is, t, ← e, ← q) p
+
+  module _ (never label unused : Bool) (is : unused ≡ neverUsedSlot l root s) (after : Bool) (afters : after ≡ (not unused && never)) where
+    pub bad-after : after ≡ true → true ≡ badSlotBy l root s never label
+    unfolding badSlotBy
+    bad-after t = rw (← is, ← afters, t)
+
+    module _ (before : after ≡ false) (odd : Bool) (odds : odd ≡ strangeSlot l root s) where
+      pub bad-strange : odd ≡ true → true ≡ badSlotBy l root s never label
+      unfolding badSlotBy
+      bad-strange t = rw (← is, ← afters, before, ← odds, t)
+
+      module _ (even : odd ≡ false) (labels : Bool) (isl : labels ≡ labelSlot l root s) (second : Bool) (seconds : second ≡ (labels && label)) where
+        pub bad-label : second ≡ true → true ≡ badSlotBy l root s never label
+        unfolding badSlotBy
+        bad-label t = rw (← is, ← afters, before, ← odds, even, ← isl, ← seconds, t)
+
+        pub bad-name : second ≡ false → (r : Bool) → r ≡ nameTwiceSlot l root s → r ≡ badSlotBy l root s never label
+        unfolding badSlotBy
+        bad-name f r p = rw (← is, ← afters, before, ← odds, even, ← isl, ← seconds, f) p
+
+-- ---- the search: it stands at s, and count - s slots are left
+
+-- what was met below s, and at s
+pub any-more : (p : ℕ → Bool) (s : ℕ) (seen here r : Bool) → r ≡ (seen || here) → seen ≡ anyBelow p s → here ≡ p s → r ≡ anyBelow p (s + 1)
+unfolding anyBelow
+any-more p s seen here r q e g = let z : s + 1 ≡ suc s = omega arith in rw (z, anyBelow, ← e, ← g) q
+
+module _ (l : List ℕ) (root s : ℕ) (never label r : Bool) (is : r ≡ badSlotBy l root s never label)
+    (nevers : never ≡ anyBelow (neverUsedSlot l root) s) (labels : label ≡ anyBelow (labelSlot l root) s) where
+  here : r ≡ badSlotAt l root s
+  unfolding badSlotAt
+  here = is ∙ rw (nevers, labels)
+
+  module _ (count : ℕ) (whole : Option ℕ) (left : s < count) (inv : first (badSlotAt l root) (count - s) s ≡ whole) where
+    pub bad-found : r ≡ true → some s ≡ whole
+    bad-found t = first-hit (badSlotAt l root) count s whole left (sym here ∙ t) inv
+
+    pub bad-not-here : r ≡ false → first (badSlotAt l root) (count - (s + 1)) (s + 1) ≡ whole
+    bad-not-here f = first-miss (badSlotAt l root) count s whole left (sym here ∙ f) inv
+
+-- ---- a search
+
+-- the search below s found a plain file of that name
+pub says-found : (P : ℕ → Type 0) (count : ℕ) (f : Found) → Answers P count f → Says (isFound f) ((t : ℕ) × (t < count) × P t)
+says-found P count (At t) a = aye refl (t, a .below, a .passes)
+says-found P count Nothing a = nay refl (λ x. a (x .0) (x .1) (x .2))

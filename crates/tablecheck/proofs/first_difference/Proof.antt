@@ -1,0 +1,51 @@
+-- The lowest difference from here on is the lowest of all.
+use borrow.Author.Needs.{needs}
+use Prim.Native.Nat.{_-_}
+use mathlib.Core.Path.{_≡_}
+use Rattle.chains.specs.Verdict.{first}
+use Rattle.chains.specs.Laws.SearchTurns.{slots-start}
+use Rattle.tablecheck.specs.Copies.{differsAt}
+use Rattle.tablecheck.specs.Laws.Tables.{difference-hit, difference-miss, difference-end}
+use Rattle.tablecheck.proofs.first_difference.Statement.{statement}
+use Rattle.tablecheck.proofs.first_difference.Tie as tie
+
+abbrev Inv-loop : tie.InvT-loop
+Inv-loop img second size j₀ j = first (differsAt second img) (size - j) j ≡ first (differsAt second img) size 0
+
+abbrev μ-loop : tie.MeasureT-loop
+μ-loop img second size j₀ j = size - j
+
+loop-holds : tie.Need-loop-holds Inv-loop μ-loop
+loop-holds c = search (needs, slots-start)
+
+alike-requires : tie.Need-alike-requires Inv-loop μ-loop
+alike-requires c κs = search needs
+
+returns : tie.Need-returns Inv-loop μ-loop
+returns c = search difference-hit
+
+add-j : tie.Need-add-j Inv-loop μ-loop
+add-j c = search needs
+
+loop-less : tie.Need-loop-less Inv-loop μ-loop
+loop-less c = search needs
+
+loop-again : tie.Need-loop-again Inv-loop μ-loop
+loop-again c = search (needs, difference-miss)
+
+returns-2 : tie.Need-returns-2 Inv-loop μ-loop
+returns-2 c = search difference-end
+
+pub first-difference-spec : {M : Type 1} → statement M
+first-difference-spec =
+    tie.close
+    (tie.spec
+    Inv-loop
+    μ-loop
+    loop-holds
+    alike-requires
+    returns
+    add-j
+    loop-less
+    loop-again
+    returns-2)

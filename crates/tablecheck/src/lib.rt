@@ -1,0 +1,103 @@
+// Findings 2 and 3: the copies of the table, and the values of its entries.
+use search::Found;
+use table::Meaning;
+ghost use mathlib.Core.Path.{_≡_};
+ghost use Prim.Native.Nat.{_+_, _≤_, _<_};
+ghost use lib.ListN.{length};
+ghost use Rattle.chains.specs.Verdict.{first};
+ghost use Rattle.search.specs.Laws.Theory.{optional};
+ghost use Rattle.table.specs.Entries.{wordAt};
+ghost use Rattle.tablecheck.specs.Copies.{differsAt, FourAlike, Alike};
+ghost use Rattle.tablecheck.specs.Values.{censusOf};
+
+// The lowest cluster with a value that means nothing; or how many clusters are free and how many set aside.
+pub enum Census {
+    BadValue(usize),
+    Values(usize, usize),
+}
+
+// Whether the copies are not as they must be at offset j.
+fn differs(img: &[u8], second: usize, j: usize) -> bool
+    requires { ⌜ 512 + j < length (now img) ⌝ }
+    requires { ⌜ second + j < length (now img) ⌝ }
+    ensures { λ r. ⌜ r ≡ differsAt second (now (img .entry)) j ⌝ }
+{
+    let byte = img[512 + j];
+    if byte != img[second + j] {
+        return true;
+    }
+    if j == 1 {
+        return byte != 0xFF;
+    }
+    if j == 2 {
+        return byte != 0xFF;
+    }
+    false
+}
+
+// Whether the four bytes from offset j on, none of them byte 1 or 2, are there and the same in both copies.
+fn four_alike(img: &[u8], second: usize, size: usize, j: usize) -> bool
+    requires { ⌜ (512 + size ≤ second) × (second + size ≤ length (now img)) ⌝ }
+    requires { ⌜ j < size ⌝ }
+    ensures { λ r. ⌜ FourAlike second (now (img .entry)) size j r ⌝ }
+{
+    if j < 3 {
+        return false;
+    }
+    if size - j < 4 {
+        return false;
+    }
+    image::get32(img, 512 + j) == image::get32(img, second + j)
+}
+
+// For how many bytes from offset j on, 4 or 1, the copies are as they must be; 0 where they are not at j.
+fn alike(img: &[u8], second: usize, size: usize, j: usize) -> usize
+    requires { ⌜ (512 + size ≤ second) × (second + size ≤ length (now img)) ⌝ }
+    requires { ⌜ j < size ⌝ }
+    ensures { λ r. ⌜ Alike second (now (img .entry)) size j r ⌝ }
+{
+    if four_alike(img, second, size, j) {
+        return 4;
+    }
+    if differs(img, second, j) { 0 } else { 1 }
+}
+
+// The lowest offset at which the copies, of size bytes each, are not as they must be.
+pub fn first_difference(img: &[u8], second: usize, size: usize) -> Found
+    requires { ⌜ 512 + size ≤ second ⌝ }
+    requires { ⌜ second + size ≤ length (now img) ⌝ }
+    ensures { λ r. ⌜ optional r ≡ first (differsAt second (now (img .entry))) size 0 ⌝ }
+{
+    let mut j: usize = 0;
+    while j < size {
+        let n = alike(img, second, size, j);
+        if n == 0 {
+            return Found::At(j);
+        }
+        j += n;
+    }
+    Found::Nothing
+}
+
+// The lowest cluster whose value means nothing; or how many are free and how many set aside.
+pub fn take_census(img: &[u8], last: usize) -> Census
+    requires { ⌜ last ≤ 4079 ⌝ }
+    requires { ⌜ wordAt 512 last + 2 ≤ length (now img) ⌝ }
+    ensures { λ r. ⌜ r ≡ censusOf last (now (img .entry)) ⌝ }
+{
+    let after = last + 1;
+    let mut free: usize = 0;
+    let mut aside: usize = 0;
+    let mut c: usize = 2;
+    while c < after {
+        match table::meaning_of(table::entry(img, c), last) {
+            Meaning::Free => free += 1,
+            Meaning::Aside => aside += 1,
+            Meaning::NoneOfThese => return Census::BadValue(c),
+            Meaning::Next(_) => (),
+            Meaning::End => (),
+        }
+        c += 1;
+    }
+    Census::Values(free, aside)
+}
