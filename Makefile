@@ -33,15 +33,17 @@ ARCHIVE = target/staticlib/libscale.a
 MEMBER = target/staticlib/libmember.a
 OUT = target/c
 
-archives:
+archive:
 	tests/product.sh archive
-	tests/product.sh member
 	mkdir -p $(OUT)
 
-balladmoor: archives
+member:
+	tests/product.sh member
+
+balladmoor: archive member
 	$(COMPILE) tools/balladmoor.c tools/print.c $(SHARED) $(ARCHIVE) $(MEMBER) -o $(OUT)/balladmoor
 
-example: archives
+example: archive
 	$(COMPILE) examples/scale.c $(SHARED) $(ARCHIVE) -o $(OUT)/scale
 
 PREFIX = /usr/local
@@ -54,4 +56,4 @@ install: balladmoor
 clean:
 	rm -rf target tests/compare/target
 
-.PHONY: all test compare bench archives balladmoor example install clean
+.PHONY: all test compare bench archive member balladmoor example install clean

@@ -5,7 +5,8 @@
 
 #include <stdio.h>
 
-enum { LINE = 16, DIGITS_MOST = 32 };
+/* The bytes in a line of hex; room for the digits of a number in groups. */
+enum { LINE = 16, DIGITS_ROOM = 32 };
 
 static const struct {
     uint32_t bit;
@@ -47,7 +48,7 @@ static void print_name(const uint8_t *entry)
     }
 }
 
-/* One that is out of its ranges prints as none. */
+/* Date and time; one that is out of its ranges prints as none. */
 static void print_stamp(const uint8_t *entry)
 {
     uint64_t date = member_date(number_at(entry + BM_ENTRY_DATE, 2));
@@ -112,7 +113,7 @@ static void print_files(const struct bytes *image)
 {
     uint8_t entry[BM_ENTRY_SIZE];
     unsigned long files = 0, bytes = 0;
-    char digits[DIGITS_MOST];
+    char digits[DIGITS_ROOM];
     uint32_t slot;
     for (slot = 0; next_slot(image, &slot, MEMBER_FILE, entry); slot++) {
         print_file(entry);
@@ -130,7 +131,7 @@ uint32_t print_list(const char *path, const struct bytes *image)
 {
     uint8_t space[BM_SPACE_SIZE];
     uint64_t answer = member_slot(image->at, image->length, 0);
-    char digits[DIGITS_MOST];
+    char digits[DIGITS_ROOM];
     if (BM_NUMBER(answer) != 0)
         return BM_NUMBER(answer);
     print_label(path, image);

@@ -51,7 +51,7 @@ def started(command):
 
 
 def ended(*commands):
-    """Runs programs at once, for under the emulator a start takes long; the status of each, what it printed and said."""
+    """Runs programs at once, as under the emulator a start takes long; each one's status, what it printed and said."""
     running = [started(command) for command in commands]
     told = [program.communicate() for program in running]
     return [(program.returncode, out, said.decode()) for program, (out, said) in zip(running, told)]
@@ -187,7 +187,7 @@ class Volume:
         return lines.decode().splitlines()
 
     def expect_sound(self, what, label=None):
-        """Sound, with mdir's files and free clusters, and listed as mdir lists them, with this label if one is given."""
+        """Sound, with mdir's files and free clusters, and listed as mdir lists them, but for a label that is given."""
         what = f"{self.title}, {what}"
         shown = self.mdir()
         files = files_of(shown)

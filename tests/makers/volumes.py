@@ -38,8 +38,8 @@ def dosbox(folder):
 
 
 def tried(maker):
-    """All volumes of a maker, in a folder of their own; what was printed, and the counts. A program that ends badly is one
-    failure."""
+    """All volumes of a maker, in a folder of their own; what was printed, and the counts. A program that ends badly is
+    one failure."""
     counts.begin()
     with tempfile.TemporaryDirectory() as folder, contextlib.redirect_stdout(io.StringIO()) as text:
         try:
