@@ -1,0 +1,3 @@
+-- The calls over a row of open records: the calls over bytes, read through the row.
+pub mod Rows
+pub mod Laws

@@ -1,0 +1,2 @@
+// The calls over a lent row of open records, beside those over a table of bytes.
+pub mod held;
