@@ -1,17 +1,20 @@
 -- The bytes that a row says, read as a row again.
 use Prim.Native.Nat.{ℕ, zero, suc, _+_, _*_, _/_, _≤_, _<_}
 use native.Mathlib.Omega.{arith}
-use mathlib.Core.Bool.{Bool, true, false, not}
+use mathlib.Core.Bool.{Bool, true, false, cond, not}
 use mathlib.Core.List.{List, [], _∷_, _++_, append-assoc}
 use mathlib.Core.Path.{_≡_, refl, sym, ap, _∙_}
-use lib.Dec.{eqb}
+use lib.Dec.{eqb, ltb}
+use borrow.Author.Tests.{ltb-true}
 use lib.ListN.{length, getD, length-append, List·getD-append}
 use lib.Seq.{getD-append-add}
+use Rattle.image.specs.Bytes.{Bytes}
 use Rattle.image.specs.Numbers.{number, digits}
 use Rattle.image.specs.Laws.Numbers.{number-same}
 use Rattle.opened.specs.Records.{placeAt, mark, numberBytes, usedOf, slotOf, accessOf, pointerOf, writtenOf}
-use Rattle.lent.specs.Row.{recordOf, rowFrom, rowOf}
-use Rattle.lent.specs.Laws.Alike.{record-of}
+use Rattle.opened.specs.Laws.Records.{slot-small, pointer-small}
+use Rattle.lent.specs.Row.{unused, recordAt, recordOf, rowFrom, rowOf}
+use Rattle.lent.specs.Laws.Alike.{row-length, row-reads, record-of}
 use Rattle.lent.specs.declared.OpenRecord.{OpenRecord}
 use Rattle.lending.specs.Rows.{placeBytes, bytesOf}
 
@@ -21,8 +24,24 @@ pub record FitsIn (r : OpenRecord) : Type 0 where
   pub pointer : r .pointer < 4294967296
 
 abbrev pub AllFit : List OpenRecord → Type 0
-AllFit [] = Unit
-AllFit (r ∷ row) = FitsIn r × AllFit row
+AllFit row = (i : ℕ) → i < length row → FitsIn (getD row i unused)
+
+pub fits-at : (row : List OpenRecord) → AllFit row → (p : ℕ) → FitsIn (recordAt row p)
+unfolding recordAt
+fits-at row fits p = by-tests (ltb p 16) (ltb p (length row)) refl
+  where
+    none : FitsIn unused
+    none = record { slot = omega arith; pointer = omega arith }
+
+    by-tests : (a b : Bool) → ltb p (length row) ≡ b → FitsIn (cond a (cond b (getD row p unused) unused) unused)
+    by-tests true true e = fits p (ltb-true p (length row) e)
+    by-tests true false e = none
+    by-tests false b e = none
+
+-- bytes say records that fit
+pub says-fit : (t : List ℕ) → Bytes t → AllFit (rowOf t)
+unfolding recordOf
+says-fit t b i h = let e = row-length t in rw (row-reads t i (omega arith)) record { slot = slot-small t i b; pointer = pointer-small t i b }
 
 length-place : (r : OpenRecord) → length (placeBytes r) ≡ 16
 unfolding placeBytes numberBytes digits
@@ -66,11 +85,11 @@ reads-from : (before : List ℕ) (p : ℕ) → length before ≡ 16 * p → (row
 unfolding rowFrom bytesOf
 reads-from before p long [] fits = refl
 reads-from before p long (r ∷ row) fits =
-    let a = place-reads before p long r (bytesOf row) (fits .0) in
+    let a = place-reads before p long r (bytesOf row) (fits 0 (omega arith)) in
     let l = length-place r in
     let k = length-append before (placeBytes r) in
     let e : length (before ++ placeBytes r) ≡ 16 * (p + 1) = omega arith in
-    let b = reads-from (before ++ placeBytes r) (p + 1) e row (fits .1) in
+    let b = reads-from (before ++ placeBytes r) (p + 1) e row (λ i h. fits (suc i) (omega arith)) in
     rw (a, ← append-assoc before (placeBytes r) (bytesOf row), b)
 
 length-bytes : (row : List OpenRecord) → length (bytesOf row) ≡ 16 * length row
