@@ -3,4 +3,5 @@ pub mod Bytes
 pub mod Held
 pub mod Same
 pub mod SameCalls
+pub mod OpenAt
 pub mod Through

@@ -6,6 +6,7 @@ ghost use mathlib.Core.List.{[], _∷_};
 ghost use mathlib.Core.Path.{_≡_};
 ghost use Rattle.opened.specs.Records.{mark};
 ghost use Rattle.opening.specs.Close.{closeOutcome};
+ghost use Rattle.opening.specs.Open.{openOutcome};
 ghost use Rattle.opening.specs.Seek.{seekOutcome};
 ghost use Rattle.reading.specs.Read.{readOutcome};
 ghost use Rattle.writing.specs.Write.{writeOutcome};
@@ -76,6 +77,18 @@ pub fn close(img: &mut [u8], held: OpenRecord, stamp: Stamp) -> Done
 {
     let mut t = table_of(held);
     let answer = opening::close::close(img, &mut t, 0, stamp);
+    let after = lent::from_bytes(&t, 0);
+    Done {
+        answer,
+        held: after,
+    }
+}
+
+pub fn open(img: &[u8], held: OpenRecord, s: &[u8], access: u32) -> Done
+    ensures { λ r. ⌜ LeavesRow (openOutcome (now (img .entry)) (bytesOf (held ∷ [])) (now (s .entry)) access) (r .answer) (now (img .entry)) (r .held ∷ []) [] ⌝ }
+{
+    let mut t = table_of(held);
+    let answer = opening::open::open(img, &mut t, s, access);
     let after = lent::from_bytes(&t, 0);
     Done {
         answer,

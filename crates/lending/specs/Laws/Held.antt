@@ -15,6 +15,7 @@ use Rattle.opened.specs.Records.{mark, markBytes, numberBytes, recordBytes, wit
 use Rattle.stamps.specs.declared.Stamp.{Stamp}
 use Rattle.calls.specs.Outcome.{Outcome, outcome}
 use Rattle.calls.specs.declared.Answer.{Answer}
+use Rattle.opening.specs.Open.{openOutcome, Opens}
 use Rattle.opening.specs.Seek.{seekOutcome, Seeks}
 use Rattle.opening.specs.Close.{closeOutcome, Closes}
 use Rattle.reading.specs.Read.{readOutcome, Reads}
@@ -61,3 +62,6 @@ module _ (img t : List ℕ) (held : OpenRecord) (made : t ≡ bytesOf (held ∷ 
 
   pub close-held : (stamp : Stamp) (image : List ℕ) → Closes img t 0 stamp a image m → LeavesRow (closeOutcome img (bytesOf (held ∷ [])) 0 stamp) a image (r ∷ []) []
   close-held stamp image s = left _ a image m [] (s .is ∙ rw made) long r read
+
+  pub open-held : (s : List ℕ) (access : ℕ) → Opens img t s access a m → LeavesRow (openOutcome img (bytesOf (held ∷ [])) s access) a img (r ∷ []) []
+  open-held s access w = left _ a img m [] (w .is ∙ rw made) long r read
