@@ -35,11 +35,14 @@ use denote.Triple.Statement.{Contract}
 use denote.Triple.Spec.{tripleOf}
 use denote.Triple.Clauses.{ensured, lasts}
 use Rattle.lent.specs.declared.OpenRecord.{OpenRecord}
-use Rattle.lent.specs.Row.{unused, recordAt, withRecordAt}
+use Rattle.lent.specs.Row.{unused, recordAt, withRecordAt, lowestUnusedIn}
+use Rattle.search.specs.declared.Found.{Found}
+use Rattle.search.proofs.Found as Fnd
 use Rattle.lent.proofs.OpenRecord as Rec
 use Rattle.lent.proofs.OpenRecord.Laws as RecLaws
 use Rattle.lent.proofs.record_at as getter
 use Rattle.lent.proofs.put_record as putter
+use Rattle.lent.proofs.lowest_unused as finder
 use Rattle.lending.specs.Laws.Bytes.{FitsIn, AllFit}
 
 -- a record's machine values, and that it has no others
@@ -55,10 +58,13 @@ as-spelled r v is = subst (Is Rec.the-row r) (spelled r _ is) is
 fits-in : (r : OpenRecord) → Is Rec.the-row r (spelling r) → FitsIn r
 fits-in r is = let owed = structs.owed Rec.the-type RecLaws.the-laws r _ is in record { slot = owed .1 .0 .1; pointer = owed .1 .1 .1 .0 .1 }
 
--- the two functions' contracts
+-- the three functions' contracts
 module _ {M : Type 1} (𝓤 : URA M) (H : Heap 𝓤) (A : Atoms 𝓤) (at-mem : Memory → SProp 𝓤) (run : Routine → Fun 𝓤) where
   abbrev pub RecordAt : Contract 𝓤
   RecordAt = tripleOf 𝓤 H A getter.signature (getter.spec 𝓤 H A at-mem run)
+
+  abbrev pub LowestUnused : Contract 𝓤
+  LowestUnused = tripleOf 𝓤 H A finder.signature (finder.spec 𝓤 H A at-mem run)
 
   abbrev pub PutRecord : Contract 𝓤
   PutRecord = tripleOf 𝓤 H A putter.signature (putter.spec 𝓤 H A at-mem run)
@@ -95,6 +101,34 @@ module _ {M : Type 1} (𝓤 : URA M) (H : Heap 𝓤) (A : Atoms 𝓤) (W : Given
 
     pub all-fit : (AllFit rows → Sq W (‵ (The-row rows) ∷ Γ) G) → Sq W (‵ (The-row rows) ∷ Γ) G
     all-fit = upto (length rows) (omega arith)
+
+  -- ---- lent by `&` to lowest_unused
+
+  abbrev pub to-lowest : ℕ → GName → LowestUnused 𝓤 H A at-mem run .Ghost
+  to-lowest ν δ = (((ν ∷ [], tt), (fullShare, tt), tt, (lent-row δ, tt), (row-val ∷ [], tt)), tt)
+
+  goes-lowest : (ν : ℕ) (δ : GName) → ent 𝓤 (sep 𝓤 (A .lft (ν ∷ []) fullShare) (sem 𝓤 H A (ShrSlice (named 0) (ν ∷ []) Rec.the-row .own (lent-row δ) (row-val ∷ [])))) (LowestUnused 𝓤 H A at-mem run .pre (to-lowest ν δ))
+  goes-lowest ν δ =
+      qed W (‵ (flft (ν ∷ []) fullShare) ∷ ‵ (ShrSlice (named 0) (ν ∷ []) Rec.the-row .own (lent-row δ) (row-val ∷ [])) ∷ []) ∵ nothing ! $ move ! (1 ∷ 0 ∷ []) $ join ! $
+      nothing ! $ move ! (2 ∷ 0 ∷ []) $ fjoin ! $ move ! (1 ∷ 0 ∷ []) $ join ! $ nothing ! $ move ! (1 ∷ 0 ∷ []) $ done !
+
+  said-lowest : (ν : ℕ) (δ : GName) (f : Found) → ent 𝓤 (ensured 𝓤 H A finder.ended (finder.clauses 𝓤 H A at-mem run) (ν ∷ [], tt) (lent-row δ, tt) tt f) (fact 𝓤 (f ≡ lowestUnusedIn rows))
+  said-lowest ν δ f = exE 𝓤 _ (λ ws. snd∗ 𝓤 (sem 𝓤 H A (lasts finder.ended (ν ∷ [], tt) (lent-row δ, tt) ws)) (fact 𝓤 (f ≡ lowestUnusedIn rows)))
+
+  module _ {Γ : List (Item 𝓤)} {G : Goal 𝓤 H} (soaks : Soaks G) where
+    pub lends-lowest : ((ν : ℕ) (δ : GName) → Sq W (raw (LowestUnused 𝓤 H A at-mem run .pre (to-lowest ν δ)) ∷ ‵ (Lender ν) ∷ Γ) G) → Sq W (‵ (The-row rows) ∷ Γ) G
+    lends-lowest k =
+        feqI ! ℕ (length rows) (length rows) refl $ fjoin ! $ lft-new ! soaks (λ ν. move ! (1 ∷ []) $
+        use1 W (later (some (λ (δ : GName). ‵ (ShrSlice (named 0) (ν ∷ []) Rec.the-row .own (lent-row δ) (row-val ∷ [])) ⊛ ‵ (Lender ν)))) (lends-shr-slice 𝓤 H A W Rec.the-row (named 0) (ν ∷ []) fullShare rows b o room-fits) $ await ! soaks $ pick ! (λ δ. split ! $
+        move ! (2 ∷ 0 ∷ []) $ use2 W (raw (LowestUnused 𝓤 H A at-mem run .pre (to-lowest ν δ))) (goes-lowest ν δ) $ k ν δ))
+
+    pub lowest-came : (ν : ℕ) (δ : GName) (w : Val) → ((f : Found) → f ≡ lowestUnusedIn rows → Is Fnd.the-row f (w ∷ []) → Sq W (‵ (The-row rows) ∷ Γ) G)
+        → Sq W (raw (LowestUnused 𝓤 H A at-mem run .post (to-lowest ν δ) w) ∷ ‵ (Lender ν) ∷ Γ) G
+    lowest-came ν δ w k =
+        use1 W (later (some (λ (f : Found). ((‵ (flft (ν ∷ []) fullShare) ⊛ ‵ ftrue) ⊛ ‵ (Fnd.the-row .own f (w ∷ []))) ⊛ raw (ensured 𝓤 H A finder.ended (finder.clauses 𝓤 H A at-mem run) (ν ∷ [], tt) (lent-row δ, tt) tt f)))) (id⊢ 𝓤 _) $ await ! soaks $ pick ! (λ f.
+        split ! $ move ! (1 ∷ []) $ use1 W (raw (fact 𝓤 (f ≡ lowestUnusedIn rows))) (said-lowest ν δ f) $ heard ! (f ≡ lowestUnusedIn rows) (λ e. split ! $ move ! (1 ∷ []) $
+        facts ! Fnd.the-row (Is Fnd.the-row) (shows 𝓤 H A Fnd.the-row) f (w ∷ []) (λ is.
+        split ! $ lft-end ! soaks $ move ! (0 ∷ 2 ∷ []) $ lent-back ! soaks $ fsplit ! $ drop ! $ move ! (1 ∷ []) $ drop ! $ k f e is)))
 
   module _ (place : ℕ) (place-fits : place < 2 ^ 64) where
     -- ---- lent by `&` to record_at

@@ -5,3 +5,4 @@ pub mod Same
 pub mod SameCalls
 pub mod OpenAt
 pub mod Through
+pub mod OpenThrough

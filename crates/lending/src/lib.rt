@@ -8,6 +8,7 @@ use lent::OpenRecord;
 use stamps::Stamp;
 ghost use mathlib.Core.List.{[]};
 ghost use Rattle.opening.specs.Close.{closeOutcome};
+ghost use Rattle.opening.specs.Open.{openOutcome};
 ghost use Rattle.opening.specs.Seek.{seekOutcome};
 ghost use Rattle.reading.specs.Read.{readOutcome};
 ghost use Rattle.writing.specs.Write.{writeOutcome};
@@ -50,5 +51,14 @@ pub fn close(img: &mut [u8], row: &mut [OpenRecord], handle: u32, stamp: Stamp) 
     let record = lent::record_at(row, place);
     let done = held::close(img, record, stamp);
     lent::put_record(row, place, done.held);
+    done.answer
+}
+
+pub fn open(img: &[u8], row: &mut [OpenRecord], s: &[u8], access: u32) -> Answer
+    ensures { λ r. ⌜ LeavesRow (openOutcome (now (img .entry)) (bytesOf (now (row .entry))) (now (s .entry)) access) r (now (img .entry)) (now (row .exit)) [] ⌝ }
+{
+    let free = lent::lowest_unused(row);
+    let done = place::open_at(img, free, s, access);
+    lent::put_record(row, done.place, done.held);
     done.answer
 }

@@ -37,7 +37,7 @@ first : (r : OpenRecord) → r ≡ recordAt (r ∷ []) 0
 unfolding recordAt
 first r = refl
 
-stored-first : (r r′ : OpenRecord) → withRecordAt (r ∷ []) 0 r′ ≡ r′ ∷ []
+pub stored-first : (r r′ : OpenRecord) → withRecordAt (r ∷ []) 0 r′ ≡ r′ ∷ []
 unfolding withRecordAt
 stored-first r r′ = refl
 
@@ -45,7 +45,7 @@ one-fits : (r : OpenRecord) → FitsIn r → AllFit (r ∷ [])
 one-fits r fits zero l = fits
 one-fits r fits (suc i) l = absurd (omega arith)
 
-one-back : (r : OpenRecord) → FitsIn r → rowOf (bytesOf (r ∷ [])) ≡ r ∷ []
+pub one-back : (r : OpenRecord) → FitsIn r → rowOf (bytesOf (r ∷ [])) ≡ r ∷ []
 one-back r fits = bytes-back (r ∷ []) (one-fits r fits)
 
 module _ (row : List OpenRecord) (fits : AllFit row) (h : ℕ) where
