@@ -3,6 +3,8 @@ pub mod Bytes
 pub mod Held
 pub mod Same
 pub mod SameCalls
-pub mod OpenAt
 pub mod Through
+pub mod OpenAt
+pub mod OpenView
 pub mod OpenThrough
+pub mod Alike

@@ -67,7 +67,7 @@ use Rattle.lending.proofs.read.Key.{name as #lending·read}
 use Rattle.lending.proofs.read as f
 use Rattle.lending.proofs.read.Statement as stated
 use Rattle.lending.proofs.read.Code as code
-use Rattle.lending.proofs.Walks.{spelling, spelled, as-spelled, RecordAt, PutRecord, lent-row, row-val, all-fit, to-record, to-put, lends-record, record-came, lends-put, put-came}
+use Rattle.lending.proofs.Walks.{spelling, spelled, as-spelled, typed, RecordAt, PutRecord, lent-row, row-val, all-fit, to-record, to-put, lends-record, record-came, lends-put, put-came}
 
 abbrev Arg : Type 0
 Arg = RefT (List ℕ) × (RefT (List OpenRecord) × (ℕ × (RefT (List ℕ) × Unit {0})))
@@ -93,10 +93,10 @@ module _ {M : Type 1} (𝓤 : URA M) (H : Heap 𝓤) (A : Atoms 𝓤) (W : Given
   buf-val = sliceVal (buf-b, buf-o) (length buf-list)
 
   abbrev args : Arg
-  args = (img-ref, (lent-row 𝓤 H A W at-mem run b o rows room-fits γ, (handle, (buf-ref, tt))))
+  args = (img-ref, (lent-row b o rows γ, (handle, (buf-ref, tt))))
 
   abbrev vals : List Val × (List Val × (List Val × (List Val × Unit {0})))
-  vals = (img-val ∷ [], (row-val 𝓤 H A W at-mem run b o rows room-fits ∷ [], (vint w32 handle ∷ [], (buf-val ∷ [], tt))))
+  vals = (img-val ∷ [], (row-val b o rows ∷ [], (vint w32 handle ∷ [], (buf-val ∷ [], tt))))
 
   abbrev bound : walkOf 𝓤 H A f.ended stayed (f.clauses 𝓤 H A at-mem run) .Ghost
   bound = (((κ₀, (κ₁, (κ₂, tt))), (q₀, (q₁, (q₂, tt))), tt, args, vals), tt)
@@ -111,9 +111,6 @@ module _ {M : Type 1} (𝓤 : URA M) (H : Heap 𝓤) (A : Atoms 𝓤) (W : Given
   abbrev Says : OpenRecord → Done → List ℕ → Type 0
   Says r d zs = LeavesRow (readOutcome img-list (bytesOf (r ∷ [])) 0 buf-list) (d .answer) img-list (d .held ∷ []) zs
 
-  typed : (a : Answer) → Is Ans.the-row a (structs.vals Ans.the-type AnsLaws.the-laws a) → T (hasTy AnsLaws.mir (structs.val Ans.the-type AnsLaws.the-laws a)) × WT (structs.val Ans.the-type AnsLaws.the-laws a)
-  typed a g = structs.lawful Ans.the-type AnsLaws.the-laws 𝓤 H A W .typed a _ g .0
-
   exits : (a : Answer) (after : List OpenRecord) (len : length after ≡ length rows) (zs : List ℕ) (last-len : length zs ≡ length buf-list) → LeavesRow (readOutcome img-list (bytesOf rows) handle buf-list) a img-list after zs → Is Ans.the-row a (structs.vals Ans.the-type AnsLaws.the-laws a)
       → ent 𝓤 (⋆ 𝓤 H A (‵ (fobs γ (codedHoleys Rec.the-row .code (heres Rec.the-row after))) ∷ ‵ (fbor κ₁ (Held Rec.the-row (length after) b o γ)) ∷ ‵ (flft κ₁ q₁) ∷ ‵ (flft κ₀ q₀) ∷ ‵ (flft κ₂ q₂) ∷ ‵ (ShrSlice (named 0) κ₀ u8 .own img-ref (img-val ∷ [])) ∷ ‵ (finally u8 buf-γ zs) ∷ [])) (Ends (structs.val Ans.the-type AnsLaws.the-laws a))
   exits a after len zs last-len e g =
@@ -121,7 +118,7 @@ module _ {M : Type 1} (𝓤 : URA M) (H : Heap 𝓤) (A : Atoms 𝓤) (W : Given
       suffices ! _ (ends-at 𝓤 H A f.ended stayed (f.clauses 𝓤 H A at-mem run) W bound (structs.val Ans.the-type AnsLaws.the-laws a) a (tt, (after, (tt, (zs, tt)))) (tt, (len, (tt, (last-len, tt))))) $ says ! e $
       nothing ! $ move ! (5 ∷ 0 ∷ []) $ join ! $ move ! (3 ∷ 0 ∷ []) $ join ! $ move ! (3 ∷ 0 ∷ []) $ join ! $
       nothing ! $ move ! (5 ∷ 0 ∷ []) $ fjoin ! $ owned ! u32 (Is u32) (uint-makes 𝓤 H A W w32) handle _ (refl, handle-fits) $ fjoin ! $ move ! (2 ∷ 3 ∷ []) $ fjoin ! $
-      pureI ! (at-slice Rec.the-row (record { ptr = (b, o); name = γ; now = after }) (row-val 𝓤 H A W at-mem run b o rows room-fits ∷ [])) (tt, (tt, tt)) (ap (λ (m : ℕ). sliceVal (b, o) m ∷ []) (sym len), subst (Room Rec.the-row) (sym len) room-fits) $ fjoin ! $ move ! (0 ∷ 1 ∷ []) $ fjoin ! $
+      pureI ! (at-slice Rec.the-row (record { ptr = (b, o); name = γ; now = after }) (row-val b o rows ∷ [])) (tt, (tt, tt)) (ap (λ (m : ℕ). sliceVal (b, o) m ∷ []) (sym len), subst (Room Rec.the-row) (sym len) room-fits) $ fjoin ! $ fjoin ! $
       move ! (2 ∷ 0 ∷ []) $ fjoin ! $ move ! (1 ∷ 0 ∷ []) $ frame ! $ frame ! $ owned ! Ans.the-row (Is Ans.the-row) (structs.makes Ans.the-type AnsLaws.the-plain 𝓤 H A) a _ g $ done !
 
   abbrev to-callee : OpenRecord → Callee 𝓤 H A at-mem run .Ghost
@@ -139,33 +136,40 @@ module _ {M : Type 1} (𝓤 : URA M) (H : Heap 𝓤) (A : Atoms 𝓤) (W : Given
   held-is d v is = structs.owed Dn.the-type DnLaws.the-laws d _ is .1 .0
 
   module _ (C : Calls 𝓤 H) (Λ : Loops 𝓤 H) (fm : FmC 𝓤 H (W .laws) C) (known-record : Triple 𝓤 (C #lent·record-at) (RecordAt 𝓤 H A at-mem run)) (known-callee : Triple 𝓤 (C #lending·held·read) (Callee 𝓤 H A at-mem run)) (known-put : Triple 𝓤 (C #lent·put-record) (PutRecord 𝓤 H A at-mem run)) where
-    walk : ent 𝓤 (onEntry 𝓤 H A f.signature (κ₀, (κ₁, (κ₂, tt))) (q₀, (q₁, (q₂, tt))) args vals) (WpFn 𝓤 H C Λ code.function (img-val ∷ row-val 𝓤 H A W at-mem run b o rows room-fits ∷ vint w32 handle ∷ buf-val ∷ []) Ends)
+    walk : ent 𝓤 (onEntry 𝓤 H A f.signature (κ₀, (κ₁, (κ₂, tt))) (q₀, (q₁, (q₂, tt))) args vals) (WpFn 𝓤 H C Λ code.function (img-val ∷ row-val b o rows ∷ vint w32 handle ∷ buf-val ∷ []) Ends)
     walk =
-        qed W ((‵ (flft κ₀ q₀) ⊛ ‵ (flft κ₁ q₁) ⊛ ‵ (flft κ₂ q₂) ⊛ ‵ ftrue) ∷ ‵ (owns (ShrSlice (named 0) κ₀ u8 ∷ MutSlice (named 1) κ₁ Rec.the-row ∷ u32 ∷ MutSlice (named 2) κ₂ u8 ∷ []) args vals) ∷ []) ∵ enter ! C Λ code.function (img-val ∷ row-val 𝓤 H A W at-mem run b o rows room-fits ∷ vint w32 handle ∷ buf-val ∷ []) _ $
+        qed W ((‵ (flft κ₀ q₀) ⊛ ‵ (flft κ₁ q₁) ⊛ ‵ (flft κ₂ q₂) ⊛ ‵ ftrue) ∷ ‵ (owns (ShrSlice (named 0) κ₀ u8 ∷ MutSlice (named 1) κ₁ Rec.the-row ∷ u32 ∷ MutSlice (named 2) κ₂ u8 ∷ []) args vals) ∷ []) ∵ enter ! C Λ code.function (img-val ∷ row-val b o rows ∷ vint w32 handle ∷ buf-val ∷ []) _ $
         alloc1 ! (λ l₀. alloc1 ! (λ l₁. alloc1 ! (λ l₂. alloc1 ! (λ l₃. alloc1 ! (λ l₄. alloc1 ! (λ l₅. alloc1 ! (λ l₆. alloc1 ! (λ l₇. alloc1 ! (λ l₈. alloc1 ! (λ l₉. alloc1 ! (λ l₁₀. alloc1 ! (λ l₁₁. alloc1 ! (λ l₁₂. alloc1 ! (λ l₁₃. alloc1 ! (λ l₁₄. alloc0 ! $ params1 ! $ pass1 ! (init ! 26 refl (tt, (tt, (record { fits = img-room .0 }, tt)))) $ pass1 ! (init ! 24 refl (tt, (tt, (record { fits = room-fits .0 }, tt)))) $ pass1 ! (init ! 22 refl (tt, record { fits = handle-fits })) $ pass1 ! (init ! 20 refl (tt, (tt, (record { fits = buf-room .0 }, tt)))) $ pass0 ! $
         assigns ! (un ! (load ! (from ! (stop !)) (look ! 22 refl)) (record { fits = place-fits })) (from ! (stop !)) (init ! 18 refl (tt, record { fits = place-fits })) $
         assigns ! (addr ! (from ! (fld ! refl (hop ! (look-in ! 24 (sub ! 0 refl (whole !))) (stop !))))) (from ! (stop !)) (init ! 12 refl (tt, tt)) $
         assigns ! (agg ! (and-then ! (load ! (from ! (stop !)) (look ! 12 refl)) (and-then ! (load ! (from ! (fld ! refl (stop !))) (look-in ! 24 (sub ! 1 refl (whole !)))) (no-more !)))) (from ! (stop !)) (init ! 10 refl (tt, (tt, (record { fits = room-fits .0 }, tt)))) $
         -- what is lent is taken apart, and the row opened
         move ! (31 ∷ []) $ fsplit ! $ use1 W (‵ (ShrSlice (named 0) κ₀ u8 .own img-ref (img-val ∷ [])) ⊛ ‵ (ShrSlice (named 0) κ₀ u8 .own img-ref (img-val ∷ []))) (shr-slice-copy 𝓤 H A W (named 0) κ₀ u8 .twice img-ref (img-val ∷ [])) $ split ! $ move ! (2 ∷ []) $ fsplit ! $ fsplit ! $ move ! (1 ∷ []) $ fsplit ! $ move ! (3 ∷ []) $ fsplit ! $ drop ! $ fsplit ! $ move ! (1 ∷ []) $ drop ! $ move ! (3 ∷ []) $ drop ! $
-        move ! (35 ∷ []) $ split ! $ move ! (1 ∷ []) $ split ! $ move ! (1 ∷ []) $ split ! $ move ! (1 ∷ []) $ drop ! $ move ! (4 ∷ 5 ∷ 1 ∷ []) $ opens-slice ! tt Rec.the-row rows b o $ all-fit 𝓤 H A W at-mem run b o rows room-fits (λ fits.
+        move ! (35 ∷ []) $ split ! $ move ! (1 ∷ []) $ split ! $ move ! (1 ∷ []) $ split ! $ move ! (1 ∷ []) $ drop ! $ move ! (4 ∷ 5 ∷ 1 ∷ []) $ opens-slice ! tt Rec.the-row rows b o $
+        -- [0 the row; 1 the open borrow; 2 obs; 3 auth; 4 buf's token; 5 img's token; 6 what buf owns; 7 what img owns; 8 what img owns, for the exit; 9 the locals, the last first]
+        all-fit 𝓤 H A W at-mem run b o rows room-fits (λ fits.
         -- record_at(&*row, place)
         lends-record 𝓤 H A W at-mem run b o rows room-fits handle place-fits tt (λ ν δ. calls-at ! fm (RecordAt 𝓤 H A at-mem run) known-record (to-record 𝓤 H A W at-mem run b o rows room-fits handle place-fits ν δ) (and-then ! (load ! (from ! (stop !)) (look ! 20 refl)) (and-then ! (load ! (from ! (stop !)) (look ! 28 refl)) (no-more !))) (λ w.
         record-came 𝓤 H A W at-mem run b o rows room-fits handle place-fits tt ν δ w (λ r e₁ is. land ! (from ! (stop !)) (init ! 25 refl (structs.lawful Rec.the-type RecLaws.the-laws 𝓤 H A W .typed r _ is .0)) $ rewrite ! 25 (λ (u : Val). ‵ (fat fullShare RecLaws.mir l₆ 0 u)) (ap only (spelled r _ is)) refl $
         -- the covered call
         assigns ! (addr ! (from ! (fld ! refl (hop ! (look-in ! 29 (sub ! 0 refl (whole !))) (stop !))))) (from ! (stop !)) (init ! 17 refl (tt, tt)) $
         assigns ! (agg ! (and-then ! (load ! (from ! (stop !)) (look ! 17 refl)) (and-then ! (load ! (from ! (fld ! refl (stop !))) (look-in ! 29 (sub ! 1 refl (whole !)))) (no-more !)))) (from ! (stop !)) (init ! 15 refl (tt, (tt, (record { fits = buf-room .0 }, tt)))) $
-        move ! (5 ∷ 4 ∷ 7 ∷ 6 ∷ []) $ move ! (2 ∷ 3 ∷ []) $ join ! $ move ! (2 ∷ 0 ∷ []) $ join ! $ move ! (1 ∷ 0 ∷ []) $ use2 W (raw (Callee 𝓤 H A at-mem run .pre (to-callee r))) (goes-callee r (as-spelled r w is)) $ calls-at ! fm (Callee 𝓤 H A at-mem run) known-callee (to-callee r) (and-then ! (load ! (from ! (stop !)) (look ! 32 refl)) (and-then ! (load ! (from ! (stop !)) (look ! 22 refl)) (and-then ! (load ! (from ! (stop !)) (look ! 12 refl)) (no-more !)))) (λ w₂.
+        move ! (5 ∷ 4 ∷ 7 ∷ 6 ∷ []) $ move ! (2 ∷ 3 ∷ []) $ join ! $ move ! (2 ∷ 0 ∷ []) $ join ! $ move ! (1 ∷ 0 ∷ []) $ use2 W (raw (Callee 𝓤 H A at-mem run .pre (to-callee r))) (goes-callee r (as-spelled r w is)) $
+        -- [0 pre; 1 the row; 2 the open borrow; 3 obs; 4 auth; 5 what img owns, for the exit; 6 the locals, the last first]
+        calls-at ! fm (Callee 𝓤 H A at-mem run) known-callee (to-callee r) (and-then ! (load ! (from ! (stop !)) (look ! 32 refl)) (and-then ! (load ! (from ! (stop !)) (look ! 22 refl)) (and-then ! (load ! (from ! (stop !)) (look ! 12 refl)) (no-more !)))) (λ w₂.
         use1 W (later (some (λ (d : Done). ((‵ (flft κ₀ q₀) ⊛ (‵ (flft κ₂ q₂) ⊛ ‵ ftrue)) ⊛ ‵ (Dn.the-row .own d (w₂ ∷ []))) ⊛ raw (ensured 𝓤 H A callee.ended (callee.clauses 𝓤 H A at-mem run) (κ₀, (κ₂, tt)) (img-ref, (r, (buf-ref, tt))) tt d)))) (id⊢ 𝓤 _) $ await ! tt $ pick ! (λ d.
         split ! $ move ! (1 ∷ []) $ use1 W (some (λ (ws : Unit {0} × (Unit {0} × (List ℕ × Unit {0}))). ‵ (lasts callee.ended (κ₀, (κ₂, tt)) (img-ref, (r, (buf-ref, tt))) ws) ⊛ raw (fact 𝓤 (Says r d (ws .1 .1 .0))))) (id⊢ 𝓤 _) $ pick ! (λ ws. split ! $ move ! (1 ∷ []) $ heard ! (Says r d (ws .1 .1 .0)) (λ e₂. fsplit ! $ drop ! $ fsplit ! $ drop ! $ fsplit ! $ fsplit ! $ move ! (1 ∷ []) $ feqL ! (λ last-len. move ! (1 ∷ []) $ drop ! $ move ! (1 ∷ []) $ split ! $ move ! (1 ∷ []) $ facts ! Dn.the-row (Is Dn.the-row) (shows 𝓤 H A Dn.the-row) d (w₂ ∷ []) (λ is₂.
-        split ! $ move ! (1 ∷ []) $ split ! $ move ! (1 ∷ []) $ drop ! $ land ! (from ! (stop !)) (init ! 22 refl (structs.lawful Dn.the-type DnLaws.the-laws 𝓤 H A W .typed d _ is₂ .0)) $ rewrite ! 22 (λ (u : Val). ‵ (fat fullShare DnLaws.mir l₇ 0 u)) (ap only (structs.tells Dn.the-type DnLaws.the-laws d _ is₂)) refl $
+        split ! $ move ! (1 ∷ []) $ split ! $ move ! (1 ∷ []) $ drop ! $
+        -- [0 buf's token; 1 img's token; 2 buf at last; 3 the row; 4 the open borrow; 5 obs; 6 auth; 7 what img owns, for the exit; 8 the locals, the last first]
+        land ! (from ! (stop !)) (init ! 22 refl (structs.lawful Dn.the-type DnLaws.the-laws 𝓤 H A W .typed d _ is₂ .0)) $ rewrite ! 22 (λ (u : Val). ‵ (fat fullShare DnLaws.mir l₇ 0 u)) (ap only (structs.tells Dn.the-type DnLaws.the-laws d _ is₂)) refl $
         -- put_record(&mut *row, .., done.held)
         assigns ! (addr ! (from ! (fld ! refl (hop ! (look-in ! 32 (sub ! 0 refl (whole !))) (stop !))))) (from ! (stop !)) (init ! 10 refl (tt, tt)) $
         assigns ! (agg ! (and-then ! (load ! (from ! (stop !)) (look ! 10 refl)) (and-then ! (load ! (from ! (fld ! refl (stop !))) (look-in ! 32 (sub ! 1 refl (whole !)))) (no-more !)))) (from ! (stop !)) (init ! 8 refl (tt, (tt, (record { fits = room-fits .0 }, tt)))) $
         move ! (3 ∷ []) $ lends-put 𝓤 H A W at-mem run b o rows room-fits handle place-fits tt (d .held) (held-is d w₂ is₂) (λ ν₂ δ₂. calls-at ! fm (PutRecord 𝓤 H A at-mem run) known-put (to-put 𝓤 H A W at-mem run b o rows room-fits handle place-fits ν₂ δ₂ (d .held)) (and-then ! (load ! (from ! (stop !)) (look ! 9 refl)) (and-then ! (load ! (from ! (stop !)) (look ! 27 refl)) (and-then ! (load ! (from ! (fld ! refl (stop !))) (look-in ! 23 (sub ! 1 refl (whole !)))) (no-more !)))) (λ w₃.
         put-came 𝓤 H A W at-mem run b o rows room-fits handle place-fits tt (d .held) ν₂ δ₂ w₃ (λ after len e₃ eu. land ! (from ! (stop !)) (init ! 12 refl (subst (λ (y : Val). T (hasTy tyUnit y) × WT y) eu (tt, tt))) $
         move ! (0 ∷ 4 ∷ 5 ∷ 6 ∷ []) $ closes-slice ! tt Rec.the-row rows after len b o $
-        assigns ! (of-opd ! (load ! (from ! (fld ! refl (stop !))) (look-in ! 21 (sub ! 0 refl (whole !))))) (from ! (stop !)) (init ! 35 refl (typed (d .answer) (answer-is d w₂ is₂))) $
+        -- [0 obs; 1 the borrow; 2 row's token; 3 buf's token; 4 img's token; 5 buf at last; 6 what img owns, for the exit; 7 the locals, the last first]
+        assigns ! (of-opd ! (load ! (from ! (fld ! refl (stop !))) (look-in ! 21 (sub ! 0 refl (whole !))))) (from ! (stop !)) (init ! 35 refl (typed 𝓤 H A W (d .answer) (answer-is d w₂ is₂))) $
         returns ! (look ! 35 refl) $ forget ! 35 refl $ forget ! 33 refl $ forget ! 31 refl $ forget ! 29 refl $ forget ! 27 refl $ forget ! 25 refl $ forget ! 23 refl $ forget ! 21 refl $ forget ! 19 refl $ forget ! 17 refl $ forget ! 15 refl $ forget ! 13 refl $ forget ! 11 refl $ forget ! 9 refl $ forget ! 7 refl $
         move ! (35 ∷ 36 ∷ []) $ free1 ! $ move ! (33 ∷ 34 ∷ []) $ free1 ! $ move ! (31 ∷ 32 ∷ []) $ free1 ! $ move ! (29 ∷ 30 ∷ []) $ free1 ! $ move ! (27 ∷ 28 ∷ []) $ free1 ! $ move ! (25 ∷ 26 ∷ []) $ free1 ! $ move ! (23 ∷ 24 ∷ []) $ free1 ! $ move ! (21 ∷ 22 ∷ []) $ free1 ! $ move ! (19 ∷ 20 ∷ []) $ free1 ! $ move ! (17 ∷ 18 ∷ []) $ free1 ! $ move ! (15 ∷ 16 ∷ []) $ free1 ! $ move ! (13 ∷ 14 ∷ []) $ free1 ! $ move ! (11 ∷ 12 ∷ []) $ free1 ! $ move ! (9 ∷ 10 ∷ []) $ free1 ! $ move ! (7 ∷ 8 ∷ []) $ free1 ! $ free0 ! $ keep ! (0 ∷ 1 ∷ 2 ∷ 4 ∷ 3 ∷ 6 ∷ 5 ∷ []) $ by ! (exits (d .answer) after len (ws .1 .1 .0) last-len (read-through rows fits handle img-list (d .answer) (d .held) after e₃ buf-list (ws .1 .1 .0) (subst (λ (r′ : OpenRecord). Says r′ d (ws .1 .1 .0)) e₁ e₂)) (answer-is d w₂ is₂))))))))))))))))))))))))))))))
 

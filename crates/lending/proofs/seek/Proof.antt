@@ -71,7 +71,7 @@ use Rattle.lending.proofs.seek.Key.{name as #lending·seek}
 use Rattle.lending.proofs.seek as f
 use Rattle.lending.proofs.seek.Statement as stated
 use Rattle.lending.proofs.seek.Code as code
-use Rattle.lending.proofs.Walks.{spelling, spelled, as-spelled, RecordAt, PutRecord, lent-row, row-val, all-fit, to-record, to-put, lends-record, record-came, lends-put, put-came}
+use Rattle.lending.proofs.Walks.{spelling, spelled, as-spelled, typed, RecordAt, PutRecord, lent-row, row-val, all-fit, to-record, to-put, lends-record, record-came, lends-put, put-came}
 
 abbrev Arg : Type 0
 Arg = RefT (List ℕ) × (RefT (List OpenRecord) × (ℕ × (ℕ × (ℤ × Unit {0}))))
@@ -91,10 +91,10 @@ module _ {M : Type 1} (𝓤 : URA M) (H : Heap 𝓤) (A : Atoms 𝓤) (W : Given
   img-val = sliceVal (img-b, img-o) (length img-list)
 
   abbrev args : Arg
-  args = (img-ref, (lent-row 𝓤 H A W at-mem run b o rows room-fits γ, (handle, (method, (offset, tt)))))
+  args = (img-ref, (lent-row b o rows γ, (handle, (method, (offset, tt)))))
 
   abbrev vals : List Val × (List Val × (List Val × (List Val × (List Val × Unit {0}))))
-  vals = (img-val ∷ [], (row-val 𝓤 H A W at-mem run b o rows room-fits ∷ [], (vint w32 handle ∷ [], (vint w32 method ∷ [], (vint w32 (ofZ w32 offset) ∷ [], tt)))))
+  vals = (img-val ∷ [], (row-val b o rows ∷ [], (vint w32 handle ∷ [], (vint w32 method ∷ [], (vint w32 (ofZ w32 offset) ∷ [], tt)))))
 
   abbrev bound : walkOf 𝓤 H A f.ended stayed (f.clauses 𝓤 H A at-mem run) .Ghost
   bound = (((κ₀, (κ₁, tt)), (q₀, (q₁, tt)), tt, args, vals), tt)
@@ -109,9 +109,6 @@ module _ {M : Type 1} (𝓤 : URA M) (H : Heap 𝓤) (A : Atoms 𝓤) (W : Given
   abbrev Says : OpenRecord → Done → Type 0
   Says r d = LeavesRow (seekOutcome img-list (bytesOf (r ∷ [])) 0 method offset) (d .answer) img-list (d .held ∷ []) []
 
-  typed : (a : Answer) → Is Ans.the-row a (structs.vals Ans.the-type AnsLaws.the-laws a) → T (hasTy AnsLaws.mir (structs.val Ans.the-type AnsLaws.the-laws a)) × WT (structs.val Ans.the-type AnsLaws.the-laws a)
-  typed a g = structs.lawful Ans.the-type AnsLaws.the-laws 𝓤 H A W .typed a _ g .0
-
   exits : (a : Answer) (after : List OpenRecord) (len : length after ≡ length rows) → LeavesRow (seekOutcome img-list (bytesOf rows) handle method offset) a img-list after [] → Is Ans.the-row a (structs.vals Ans.the-type AnsLaws.the-laws a)
       → ent 𝓤 (⋆ 𝓤 H A (‵ (fobs γ (codedHoleys Rec.the-row .code (heres Rec.the-row after))) ∷ ‵ (fbor κ₁ (Held Rec.the-row (length after) b o γ)) ∷ ‵ (flft κ₁ q₁) ∷ ‵ (flft κ₀ q₀) ∷ ‵ (ShrSlice (named 0) κ₀ u8 .own img-ref (img-val ∷ [])) ∷ [])) (Ends (structs.val Ans.the-type AnsLaws.the-laws a))
   exits a after len e g =
@@ -119,7 +116,7 @@ module _ {M : Type 1} (𝓤 : URA M) (H : Heap 𝓤) (A : Atoms 𝓤) (W : Given
       suffices ! _ (ends-at 𝓤 H A f.ended stayed (f.clauses 𝓤 H A at-mem run) W bound (structs.val Ans.the-type AnsLaws.the-laws a) a (tt, (after, (tt, (tt, (tt, tt))))) (tt, (len, (tt, (tt, (tt, tt)))))) $ says ! e $
       nothing ! $ move ! (3 ∷ 0 ∷ []) $ join ! $ move ! (3 ∷ 0 ∷ []) $ join ! $
       nothing ! $ owned ! i32 (Is i32) (sint-makes 𝓤 H A W w32) offset _ (refl, offset-fits) $ fjoin ! $ owned ! u32 (Is u32) (uint-makes 𝓤 H A W w32) method _ (refl, method-fits) $ fjoin ! $ owned ! u32 (Is u32) (uint-makes 𝓤 H A W w32) handle _ (refl, handle-fits) $ fjoin ! $ move ! (2 ∷ 3 ∷ []) $ fjoin ! $
-      pureI ! (at-slice Rec.the-row (record { ptr = (b, o); name = γ; now = after }) (row-val 𝓤 H A W at-mem run b o rows room-fits ∷ [])) (tt, (tt, tt)) (ap (λ (m : ℕ). sliceVal (b, o) m ∷ []) (sym len), subst (Room Rec.the-row) (sym len) room-fits) $ fjoin ! $ move ! (0 ∷ 1 ∷ []) $ fjoin ! $
+      pureI ! (at-slice Rec.the-row (record { ptr = (b, o); name = γ; now = after }) (row-val b o rows ∷ [])) (tt, (tt, tt)) (ap (λ (m : ℕ). sliceVal (b, o) m ∷ []) (sym len), subst (Room Rec.the-row) (sym len) room-fits) $ fjoin ! $ fjoin ! $
       move ! (2 ∷ 0 ∷ []) $ fjoin ! $ move ! (1 ∷ 0 ∷ []) $ frame ! $ frame ! $ owned ! Ans.the-row (Is Ans.the-row) (structs.makes Ans.the-type AnsLaws.the-plain 𝓤 H A) a _ g $ done !
 
   abbrev to-callee : OpenRecord → Callee 𝓤 H A at-mem run .Ghost
@@ -140,31 +137,38 @@ module _ {M : Type 1} (𝓤 : URA M) (H : Heap 𝓤) (A : Atoms 𝓤) (W : Given
   held-is d v is = structs.owed Dn.the-type DnLaws.the-laws d _ is .1 .0
 
   module _ (C : Calls 𝓤 H) (Λ : Loops 𝓤 H) (fm : FmC 𝓤 H (W .laws) C) (known-record : Triple 𝓤 (C #lent·record-at) (RecordAt 𝓤 H A at-mem run)) (known-callee : Triple 𝓤 (C #lending·held·seek) (Callee 𝓤 H A at-mem run)) (known-put : Triple 𝓤 (C #lent·put-record) (PutRecord 𝓤 H A at-mem run)) where
-    walk : ent 𝓤 (onEntry 𝓤 H A f.signature (κ₀, (κ₁, tt)) (q₀, (q₁, tt)) args vals) (WpFn 𝓤 H C Λ code.function (img-val ∷ row-val 𝓤 H A W at-mem run b o rows room-fits ∷ vint w32 handle ∷ vint w32 method ∷ vint w32 (ofZ w32 offset) ∷ []) Ends)
+    walk : ent 𝓤 (onEntry 𝓤 H A f.signature (κ₀, (κ₁, tt)) (q₀, (q₁, tt)) args vals) (WpFn 𝓤 H C Λ code.function (img-val ∷ row-val b o rows ∷ vint w32 handle ∷ vint w32 method ∷ vint w32 (ofZ w32 offset) ∷ []) Ends)
     walk =
-        qed W ((‵ (flft κ₀ q₀) ⊛ ‵ (flft κ₁ q₁) ⊛ ‵ ftrue) ∷ ‵ (owns (ShrSlice (named 0) κ₀ u8 ∷ MutSlice (named 1) κ₁ Rec.the-row ∷ u32 ∷ u32 ∷ i32 ∷ []) args vals) ∷ []) ∵ enter ! C Λ code.function (img-val ∷ row-val 𝓤 H A W at-mem run b o rows room-fits ∷ vint w32 handle ∷ vint w32 method ∷ vint w32 (ofZ w32 offset) ∷ []) _ $
+        qed W ((‵ (flft κ₀ q₀) ⊛ ‵ (flft κ₁ q₁) ⊛ ‵ ftrue) ∷ ‵ (owns (ShrSlice (named 0) κ₀ u8 ∷ MutSlice (named 1) κ₁ Rec.the-row ∷ u32 ∷ u32 ∷ i32 ∷ []) args vals) ∷ []) ∵ enter ! C Λ code.function (img-val ∷ row-val b o rows ∷ vint w32 handle ∷ vint w32 method ∷ vint w32 (ofZ w32 offset) ∷ []) _ $
         alloc1 ! (λ l₀. alloc1 ! (λ l₁. alloc1 ! (λ l₂. alloc1 ! (λ l₃. alloc1 ! (λ l₄. alloc1 ! (λ l₅. alloc1 ! (λ l₆. alloc1 ! (λ l₇. alloc1 ! (λ l₈. alloc1 ! (λ l₉. alloc1 ! (λ l₁₀. alloc1 ! (λ l₁₁. alloc1 ! (λ l₁₂. alloc1 ! (λ l₁₃. alloc0 ! $ params1 ! $ pass1 ! (init ! 24 refl (tt, (tt, (record { fits = img-room .0 }, tt)))) $ pass1 ! (init ! 22 refl (tt, (tt, (record { fits = room-fits .0 }, tt)))) $ pass1 ! (init ! 20 refl (tt, record { fits = handle-fits })) $ pass1 ! (init ! 18 refl (tt, record { fits = method-fits })) $ pass1 ! (init ! 16 refl (tt, ofZ-fits w32 offset (record { sfits = offset-fits }))) $ pass0 ! $
         assigns ! (un ! (load ! (from ! (stop !)) (look ! 20 refl)) (record { fits = place-fits })) (from ! (stop !)) (init ! 14 refl (tt, record { fits = place-fits })) $
         assigns ! (addr ! (from ! (fld ! refl (hop ! (look-in ! 22 (sub ! 0 refl (whole !))) (stop !))))) (from ! (stop !)) (init ! 8 refl (tt, tt)) $
         assigns ! (agg ! (and-then ! (load ! (from ! (stop !)) (look ! 8 refl)) (and-then ! (load ! (from ! (fld ! refl (stop !))) (look-in ! 22 (sub ! 1 refl (whole !)))) (no-more !)))) (from ! (stop !)) (init ! 6 refl (tt, (tt, (record { fits = room-fits .0 }, tt)))) $
         -- what is lent is taken apart, and the row opened
         move ! (29 ∷ []) $ fsplit ! $ use1 W (‵ (ShrSlice (named 0) κ₀ u8 .own img-ref (img-val ∷ [])) ⊛ ‵ (ShrSlice (named 0) κ₀ u8 .own img-ref (img-val ∷ []))) (shr-slice-copy 𝓤 H A W (named 0) κ₀ u8 .twice img-ref (img-val ∷ [])) $ split ! $ move ! (2 ∷ []) $ fsplit ! $ fsplit ! $ move ! (1 ∷ []) $ fsplit ! $ move ! (3 ∷ []) $ fsplit ! $ drop ! $ fsplit ! $ drop ! $ fsplit ! $ drop ! $ drop ! $ move ! (2 ∷ []) $ drop ! $
-        move ! (32 ∷ []) $ split ! $ move ! (1 ∷ []) $ split ! $ move ! (1 ∷ []) $ drop ! $ move ! (2 ∷ 3 ∷ 0 ∷ []) $ opens-slice ! tt Rec.the-row rows b o $ all-fit 𝓤 H A W at-mem run b o rows room-fits (λ fits.
+        move ! (32 ∷ []) $ split ! $ move ! (1 ∷ []) $ split ! $ move ! (1 ∷ []) $ drop ! $ move ! (2 ∷ 3 ∷ 0 ∷ []) $ opens-slice ! tt Rec.the-row rows b o $
+        -- [0 the row; 1 the open borrow; 2 obs; 3 auth; 4 img's token; 5 what img owns; 6 what img owns, for the exit; 7 the locals, the last first]
+        all-fit 𝓤 H A W at-mem run b o rows room-fits (λ fits.
         -- record_at(&*row, place)
         lends-record 𝓤 H A W at-mem run b o rows room-fits handle place-fits tt (λ ν δ. calls-at ! fm (RecordAt 𝓤 H A at-mem run) known-record (to-record 𝓤 H A W at-mem run b o rows room-fits handle place-fits ν δ) (and-then ! (load ! (from ! (stop !)) (look ! 14 refl)) (and-then ! (load ! (from ! (stop !)) (look ! 22 refl)) (no-more !))) (λ w.
         record-came 𝓤 H A W at-mem run b o rows room-fits handle place-fits tt ν δ w (λ r e₁ is. land ! (from ! (stop !)) (init ! 19 refl (structs.lawful Rec.the-type RecLaws.the-laws 𝓤 H A W .typed r _ is .0)) $ rewrite ! 19 (λ (u : Val). ‵ (fat fullShare RecLaws.mir l₇ 0 u)) (ap only (spelled r _ is)) refl $
         -- the covered call
-        move ! (4 ∷ 5 ∷ []) $ use2 W (raw (Callee 𝓤 H A at-mem run .pre (to-callee r))) (goes-callee r (as-spelled r w is)) $ calls-at ! fm (Callee 𝓤 H A at-mem run) known-callee (to-callee r) (and-then ! (load ! (from ! (stop !)) (look ! 30 refl)) (and-then ! (load ! (from ! (stop !)) (look ! 18 refl)) (and-then ! (load ! (from ! (stop !)) (look ! 24 refl)) (and-then ! (load ! (from ! (stop !)) (look ! 22 refl)) (no-more !))))) (λ w₂.
+        move ! (4 ∷ 5 ∷ []) $ use2 W (raw (Callee 𝓤 H A at-mem run .pre (to-callee r))) (goes-callee r (as-spelled r w is)) $
+        -- [0 pre; 1 the row; 2 the open borrow; 3 obs; 4 auth; 5 what img owns, for the exit; 6 the locals, the last first]
+        calls-at ! fm (Callee 𝓤 H A at-mem run) known-callee (to-callee r) (and-then ! (load ! (from ! (stop !)) (look ! 30 refl)) (and-then ! (load ! (from ! (stop !)) (look ! 18 refl)) (and-then ! (load ! (from ! (stop !)) (look ! 24 refl)) (and-then ! (load ! (from ! (stop !)) (look ! 22 refl)) (no-more !))))) (λ w₂.
         use1 W (later (some (λ (d : Done). ((‵ (flft κ₀ q₀) ⊛ ‵ ftrue) ⊛ ‵ (Dn.the-row .own d (w₂ ∷ []))) ⊛ raw (ensured 𝓤 H A callee.ended (callee.clauses 𝓤 H A at-mem run) (κ₀, tt) (img-ref, (r, (method, (offset, tt)))) tt d)))) (id⊢ 𝓤 _) $ await ! tt $ pick ! (λ d.
-        split ! $ move ! (1 ∷ []) $ use1 W (raw (fact 𝓤 (Says r d))) (said-callee r d) $ heard ! (Says r d) (λ e₂. move ! (0 ∷ []) $ split ! $ move ! (1 ∷ []) $ facts ! Dn.the-row (Is Dn.the-row) (shows 𝓤 H A Dn.the-row) d (w₂ ∷ []) (λ is₂.
-        split ! $ move ! (1 ∷ []) $ drop ! $ land ! (from ! (stop !)) (init ! 16 refl (structs.lawful Dn.the-type DnLaws.the-laws 𝓤 H A W .typed d _ is₂ .0)) $ rewrite ! 16 (λ (u : Val). ‵ (fat fullShare DnLaws.mir l₈ 0 u)) (ap only (structs.tells Dn.the-type DnLaws.the-laws d _ is₂)) refl $
+        split ! $ move ! (1 ∷ []) $ use1 W (raw (fact 𝓤 (Says r d))) (said-callee r d) $ heard ! (Says r d) (λ e₂. split ! $ move ! (1 ∷ []) $ facts ! Dn.the-row (Is Dn.the-row) (shows 𝓤 H A Dn.the-row) d (w₂ ∷ []) (λ is₂.
+        split ! $ move ! (1 ∷ []) $ drop ! $
+        -- [0 img's token; 1 the row; 2 the open borrow; 3 obs; 4 auth; 5 what img owns, for the exit; 6 the locals, the last first]
+        land ! (from ! (stop !)) (init ! 16 refl (structs.lawful Dn.the-type DnLaws.the-laws 𝓤 H A W .typed d _ is₂ .0)) $ rewrite ! 16 (λ (u : Val). ‵ (fat fullShare DnLaws.mir l₈ 0 u)) (ap only (structs.tells Dn.the-type DnLaws.the-laws d _ is₂)) refl $
         -- put_record(&mut *row, .., done.held)
         assigns ! (addr ! (from ! (fld ! refl (hop ! (look-in ! 28 (sub ! 0 refl (whole !))) (stop !))))) (from ! (stop !)) (init ! 8 refl (tt, tt)) $
         assigns ! (agg ! (and-then ! (load ! (from ! (stop !)) (look ! 8 refl)) (and-then ! (load ! (from ! (fld ! refl (stop !))) (look-in ! 28 (sub ! 1 refl (whole !)))) (no-more !)))) (from ! (stop !)) (init ! 6 refl (tt, (tt, (record { fits = room-fits .0 }, tt)))) $
         move ! (1 ∷ []) $ lends-put 𝓤 H A W at-mem run b o rows room-fits handle place-fits tt (d .held) (held-is d w₂ is₂) (λ ν₂ δ₂. calls-at ! fm (PutRecord 𝓤 H A at-mem run) known-put (to-put 𝓤 H A W at-mem run b o rows room-fits handle place-fits ν₂ δ₂ (d .held)) (and-then ! (load ! (from ! (stop !)) (look ! 7 refl)) (and-then ! (load ! (from ! (stop !)) (look ! 21 refl)) (and-then ! (load ! (from ! (fld ! refl (stop !))) (look-in ! 17 (sub ! 1 refl (whole !)))) (no-more !)))) (λ w₃.
         put-came 𝓤 H A W at-mem run b o rows room-fits handle place-fits tt (d .held) ν₂ δ₂ w₃ (λ after len e₃ eu. land ! (from ! (stop !)) (init ! 10 refl (subst (λ (y : Val). T (hasTy tyUnit y) × WT y) eu (tt, tt))) $
         move ! (0 ∷ 2 ∷ 3 ∷ 4 ∷ []) $ closes-slice ! tt Rec.the-row rows after len b o $
-        assigns ! (of-opd ! (load ! (from ! (fld ! refl (stop !))) (look-in ! 15 (sub ! 0 refl (whole !))))) (from ! (stop !)) (init ! 31 refl (typed (d .answer) (answer-is d w₂ is₂))) $
+        -- [0 obs; 1 the borrow; 2 row's token; 3 img's token; 4 what img owns, for the exit; 5 the locals, the last first]
+        assigns ! (of-opd ! (load ! (from ! (fld ! refl (stop !))) (look-in ! 15 (sub ! 0 refl (whole !))))) (from ! (stop !)) (init ! 31 refl (typed 𝓤 H A W (d .answer) (answer-is d w₂ is₂))) $
         returns ! (look ! 31 refl) $ forget ! 31 refl $ forget ! 29 refl $ forget ! 27 refl $ forget ! 25 refl $ forget ! 23 refl $ forget ! 21 refl $ forget ! 19 refl $ forget ! 17 refl $ forget ! 15 refl $ forget ! 13 refl $ forget ! 11 refl $ forget ! 9 refl $ forget ! 7 refl $ forget ! 5 refl $
         move ! (31 ∷ 32 ∷ []) $ free1 ! $ move ! (29 ∷ 30 ∷ []) $ free1 ! $ move ! (27 ∷ 28 ∷ []) $ free1 ! $ move ! (25 ∷ 26 ∷ []) $ free1 ! $ move ! (23 ∷ 24 ∷ []) $ free1 ! $ move ! (21 ∷ 22 ∷ []) $ free1 ! $ move ! (19 ∷ 20 ∷ []) $ free1 ! $ move ! (17 ∷ 18 ∷ []) $ free1 ! $ move ! (15 ∷ 16 ∷ []) $ free1 ! $ move ! (13 ∷ 14 ∷ []) $ free1 ! $ move ! (11 ∷ 12 ∷ []) $ free1 ! $ move ! (9 ∷ 10 ∷ []) $ free1 ! $ move ! (7 ∷ 8 ∷ []) $ free1 ! $ move ! (5 ∷ 6 ∷ []) $ free1 ! $ free0 ! $ keep ! (0 ∷ 1 ∷ 2 ∷ 3 ∷ 4 ∷ []) $ by ! (exits (d .answer) after len (seek-through rows fits handle img-list (d .answer) (d .held) after e₃ method offset (subst (λ (r′ : OpenRecord). Says r′ d) e₁ e₂)) (answer-is d w₂ is₂)))))))))))))))))))))))))))
 

@@ -1,9 +1,8 @@
 -- A call on a table of one record: what its code has found out where it ends.
-use Prim.Native.Nat.{ℕ, _+_, _*_, _/_}
-use native.Mathlib.Omega.{arith}
-use mathlib.Core.Bool.{Bool, true, false, not}
+use Prim.Native.Nat.{ℕ}
+use mathlib.Core.Bool.{false}
 use mathlib.Core.List.{List, [], _∷_}
-use mathlib.Core.Path.{_≡_, refl, sym, ap, _∙_}
+use mathlib.Core.Path.{_≡_, ap, _∙_}
 use lib.IntN.{ℤ}
 use lib.ListN.{length, set, replicate}
 use mir.Syntax.{w32}
@@ -20,7 +19,7 @@ use Rattle.opening.specs.Seek.{seekOutcome, Seeks}
 use Rattle.opening.specs.Close.{closeOutcome, Closes}
 use Rattle.reading.specs.Read.{readOutcome, Reads}
 use Rattle.writing.specs.Write.{writeOutcome, Writes}
-use Rattle.lent.specs.Row.{recordOf, rowFrom, rowOf, recordAt}
+use Rattle.lent.specs.Row.{rowFrom, rowOf, recordAt}
 use Rattle.lent.specs.declared.OpenRecord.{OpenRecord}
 use Rattle.lending.specs.Rows.{placeBytes, bytesOf, LeavesRow}
 

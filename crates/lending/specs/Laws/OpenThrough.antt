@@ -1,178 +1,72 @@
--- Open over bytes, by the place that is free; so from one place to the row, and to any bytes that say the row.
-use Prim.Native.Nat.{ℕ, _+_, _≤_, _<_}
+-- From open on one place to open over the row.
+use Prim.Native.Nat.{ℕ}
 use native.Mathlib.Omega.{arith}
-use mathlib.Core.Bool.{Bool, true, false, cond, not, _&&_}
+use mathlib.Core.Bool.{Bool, true, false, cond}
 use mathlib.Core.List.{List, [], _∷_}
-use mathlib.Core.Path.{_≡_, refl, sym, ap, subst, _∙_}
-use lib.Dec.{eqb, ltb}
-use lib.ListN.{length, getD}
-use borrow.Author.Tests.{eqb-true}
-use Rattle.image.specs.Bytes.{Bytes}
-use Rattle.image.specs.Store.{stored}
-use Rattle.image.specs.Numbers.{number, digits}
-use Rattle.image.specs.Laws.Store.{stored-inside}
-use Rattle.image.specs.Laws.Numbers.{number-same}
+use mathlib.Core.Path.{_≡_, refl, sym, ap, _∙_}
+use lib.Dec.{eqb}
+use lib.ListN.{getD}
 use Rattle.search.specs.Search.{lowest}
 use Rattle.search.specs.declared.Found.{Found}
 use Rattle.search.specs.declared.Found.the-variants.{At, Nothing}
-use Rattle.opened.specs.Records.{placeCount, placeAt, usedOf, slotOf, accessOf, pointerOf, writtenOf, markBytes, numberBytes, recordBytes, withRecord}
-use Rattle.opened.specs.Changes.{Holds}
 use Rattle.opened.specs.Places.{lowestUnused}
-use Rattle.opened.specs.Laws.Stores.{record-only}
-use Rattle.calls.specs.Outcome.{Row, Outcome, outcome, refusal, decided}
-use Rattle.calls.specs.Refusals.{isNothing, placeFound, notOfKind, notSound, badName, noFile, fileSlot, readOnly}
-use Rattle.calls.specs.Laws.Files.{unused-below, unused-fits}
+use Rattle.calls.specs.Refusals.{placeFound}
 use Rattle.calls.specs.declared.Answer.{Answer}
 use Rattle.opening.specs.Open.{openOutcome}
-use Rattle.lent.specs.Row.{unused, recordOf, rowOf, recordAt, withRecordAt, lowestUnusedIn}
-use Rattle.lent.specs.Laws.Alike.{record-of, unused-alike}
-use Rattle.lent.specs.Laws.Stores.{row-set}
+use Rattle.lent.specs.Row.{unused, withRecordAt, lowestUnusedIn}
+use Rattle.lent.specs.Laws.Alike.{unused-alike}
 use Rattle.lent.specs.declared.OpenRecord.{OpenRecord}
 use Rattle.lending.specs.Rows.{bytesOf, LeavesRow}
 use Rattle.lending.specs.OpenAt.{spareFor, OpensAt}
-use Rattle.lending.specs.Laws.Bytes.{FitsIn, AllFit, says-fit, bytes-back}
+use Rattle.lending.specs.Laws.Bytes.{FitsIn, AllFit, bytes-back}
 use Rattle.lending.specs.Laws.Through.{one-back, stored-first}
+use Rattle.lending.specs.Laws.OpenView.{free-alike, numberBy, opened, OpenView, open-view}
 
--- ---- a place taken holds what the record's own bytes say, whether or not its numbers fit
+abbrev spareFound : Found → Found
+spareFound (At p) = At 0
+spareFound Nothing = Nothing
 
-module _ (t : List ℕ) (p : ℕ) (k : p < placeCount t) (access slot pointer : ℕ) (written : Bool) where
-  abbrev bytes : List ℕ
-  bytes = recordBytes access slot pointer written
+spare-fits : (f : Found) → FitsIn (spareFor f)
+unfolding spareFor
+spare-fits (At p) = record { slot = omega arith; pointer = omega arith }
+spare-fits Nothing = record { slot = omega arith; pointer = omega arith }
 
-  long : length bytes ≡ 16
-  unfolding recordBytes markBytes numberBytes digits
-  long = refl
+spare-lowest : (f : Found) → lowestUnusedIn (spareFor f ∷ []) ≡ spareFound f
+unfolding lowestUnusedIn lowest spareFor
+spare-lowest (At p) = refl
+spare-lowest Nothing = refl
 
-  byte : (i : ℕ) → i < 16 → getD (stored t (placeAt p) bytes) (placeAt p + i) 0 ≡ getD bytes i 0
-  byte i h = let l = long in stored-inside t (placeAt p) bytes i (omega arith) (omega arith)
+spare-found : (f : Found) → lowestUnused (bytesOf (spareFor f ∷ [])) ≡ spareFound f
+spare-found f = sym (unused-alike (bytesOf (spareFor f ∷ []))) ∙ ap lowestUnusedIn (one-back (spareFor f) (spare-fits f)) ∙ spare-lowest f
 
-  run : (o : ℕ) → o + 4 ≤ 16 → number (stored t (placeAt p) bytes) (placeAt p + o) 4 ≡ number bytes o 4
-  run o h =
-      number-same (stored t (placeAt p) bytes) bytes (placeAt p + o) o 4
-      (λ i j. let e : placeAt p + o + i ≡ placeAt p + (o + i) = omega arith in rw e (byte (o + i) (omega arith)))
+spare-place : (f : Found) → placeFound (spareFound f) ≡ 0
+spare-place (At p) = refl
+spare-place Nothing = refl
 
-  taken-back : recordOf (withRecord t p access slot pointer written) p ≡ recordOf bytes 0
-  unfolding withRecord recordOf usedOf accessOf slotOf pointerOf writtenOf
-  taken-back =
-      let e : placeAt p + 0 ≡ placeAt p = omega arith in
-      record-of (withRecord t p access slot pointer written) p (recordOf bytes 0)
-      record {
-        used = ap (λ (b : ℕ). not (eqb b 0)) (rw e at (byte 0 (omega arith)));
-        access = byte 1 (omega arith);
-        slot = run 4 (omega arith);
-        pointer = run 8 (omega arith);
-        written = ap (λ (b : ℕ). not (eqb b 0)) (byte 2 (omega arith));
-      }
-
-  row-taken : rowOf (withRecord t p access slot pointer written) ≡ withRecordAt (rowOf t) p (recordOf bytes 0)
-  row-taken = row-set (withRecord t p access slot pointer written) t p k (record-only t p k access slot pointer written) (recordOf bytes 0) taken-back
-
--- ---- the place that is free, in a row and in its bytes
-
-free-alike : (row : List OpenRecord) → AllFit row → lowestUnused (bytesOf row) ≡ lowestUnusedIn row
-free-alike row fits = sym (unused-alike (bytesOf row)) ∙ ap lowestUnusedIn (bytes-back row fits)
-
-pub free-fits : (row : List OpenRecord) → AllFit row → (f : Found) → f ≡ lowestUnusedIn row → placeFound f < 4294967296
-free-fits row fits (At p) e = unused-fits (bytesOf row) (At p) (e ∙ sym (free-alike row fits)) p refl
-free-fits row fits Nothing e = omega arith
-
--- ---- open by the place that is free
-
--- a row before a refusal leaves one
-still-refused : (a : Bool) (n : ℕ) (rs : List Row) → 0 < n → 0 < refusal rs → 0 < refusal ((a, n) ∷ rs)
-unfolding refusal
-still-refused true n rs h j = h
-still-refused false n rs h j = j
-
-no-place : 0 < refusal ((true, 4) ∷ [])
-unfolding refusal
-no-place = omega arith
+past-all : (row : List OpenRecord) (r : OpenRecord) → withRecordAt row 16 r ≡ row
+unfolding withRecordAt
+past-all row r = refl
 
 module _ (img s : List ℕ) (access : ℕ) where
-  abbrev rowsBy : Bool → List Row
-  rowsBy z = (notOfKind img, 40) ∷ (notSound img, 41) ∷ (ltb 2 access, 12) ∷ (badName s, 42) ∷ (noFile img s, 2) ∷ (ltb 0 access && readOnly img (fileSlot img s), 5) ∷ (z, 4) ∷ []
-
-  -- the number that it answers
-  abbrev numberBy : Found → ℕ
-  numberBy f = refusal (rowsBy (isNothing f))
-
-  none-refused : 0 < numberBy Nothing
-  none-refused =
-      still-refused _ 40 _ (omega arith)
-      (still-refused _ 41 _ (omega arith) (still-refused _ 12 _ (omega arith) (still-refused _ 42 _ (omega arith) (still-refused _ 2 _ (omega arith) (still-refused _ 5 _ (omega arith) no-place)))))
-
-  -- the record that it makes
-  abbrev opened : OpenRecord
-  opened = recordOf (recordBytes access (fileSlot img s) 0 false) 0
-
-  record OpenView (t : List ℕ) (f : Found) (o : Outcome) : Type 0 where
-    number : o .number ≡ numberBy f
-    value : o .value ≡ cond (eqb (numberBy f) 0) (placeFound f) 0
-    image : o .image ≡ img
-    buffer : o .buffer ≡ []
-    row : rowOf (o .table) ≡ cond (eqb (numberBy f) 0) (withRecordAt (rowOf t) (placeFound f) opened) (rowOf t)
-
-  counted : (t : List ℕ) (f : Found) → lowestUnused t ≡ f → numberBy f ≡ 0 → placeFound f < placeCount t
-  counted t (At p) e z = unused-below t (At p) (sym e) p refl
-  counted t Nothing e z = absurd (omega (arith, none-refused))
-
-  by-test : (t : List ℕ) (f : Found) → lowestUnused t ≡ f → (z : Bool) → eqb (numberBy f) 0 ≡ z
-      → OpenView t f (cond z (outcome 0 (placeFound f) img (withRecord t (placeFound f) access (fileSlot img s) 0 false) []) (outcome (numberBy f) 0 img t []))
-  by-test t f e true z =
-      let n = eqb-true (numberBy f) 0 z in
-      record { number = sym n; value = rw z; image = refl; buffer = refl; row = rw z (row-taken t (placeFound f) (counted t f e n) access (fileSlot img s) 0 false) }
-  by-test t f e false z = record { number = refl; value = rw z; image = refl; buffer = refl; row = rw z }
-
-  open-view : (t : List ℕ) (f : Found) → lowestUnused t ≡ f → OpenView t f (openOutcome img t s access)
-  unfolding openOutcome decided
-  open-view t f e = rw e (by-test t f e (eqb (numberBy f) 0) refl)
-
-  -- ---- from one place to the row
-
-  abbrev spareFound : Found → Found
-  spareFound (At p) = At 0
-  spareFound Nothing = Nothing
-
-  spare-fits : (f : Found) → FitsIn (spareFor f)
-  unfolding spareFor
-  spare-fits (At p) = record { slot = omega arith; pointer = omega arith }
-  spare-fits Nothing = record { slot = omega arith; pointer = omega arith }
-
-  spare-lowest : (f : Found) → lowestUnusedIn (spareFor f ∷ []) ≡ spareFound f
-  unfolding lowestUnusedIn lowest spareFor
-  spare-lowest (At p) = refl
-  spare-lowest Nothing = refl
-
-  spare-found : (f : Found) → lowestUnused (bytesOf (spareFor f ∷ [])) ≡ spareFound f
-  spare-found f = sym (unused-alike (bytesOf (spareFor f ∷ []))) ∙ ap lowestUnusedIn (one-back (spareFor f) (spare-fits f)) ∙ spare-lowest f
-
-  spare-number : (f : Found) → numberBy (spareFound f) ≡ numberBy f
+  spare-number : (f : Found) → numberBy img s access (spareFound f) ≡ numberBy img s access f
   spare-number (At p) = refl
   spare-number Nothing = refl
 
-  spare-place : (f : Found) → placeFound (spareFound f) ≡ 0
-  spare-place (At p) = refl
-  spare-place Nothing = refl
-
-  past-all : (row : List OpenRecord) (r : OpenRecord) → withRecordAt row 16 r ≡ row
-  unfolding withRecordAt
-  past-all row r = refl
-
   module _ (row : List OpenRecord) (fits : AllFit row) (f : Found) (lowest-is : f ≡ lowestUnusedIn row) (a : Answer) (place : ℕ) (held : OpenRecord) (opens : OpensAt img f s access a place held) (after : List OpenRecord) (put : after ≡ withRecordAt row place held) where
-    whole : OpenView (bytesOf row) f (openOutcome img (bytesOf row) s access)
-    whole = open-view (bytesOf row) f (free-alike row fits ∙ sym lowest-is)
+    whole : OpenView img s access (bytesOf row) f (openOutcome img (bytesOf row) s access)
+    whole = open-view img s access (bytesOf row) f (free-alike row fits ∙ sym lowest-is)
 
-    one : OpenView (bytesOf (spareFor f ∷ [])) (spareFound f) (openOutcome img (bytesOf (spareFor f ∷ [])) s access)
-    one = open-view (bytesOf (spareFor f ∷ [])) (spareFound f) (spare-found f)
+    one : OpenView img s access (bytesOf (spareFor f ∷ [])) (spareFound f) (openOutcome img (bytesOf (spareFor f ∷ [])) s access)
+    one = open-view img s access (bytesOf (spareFor f ∷ [])) (spareFound f) (spare-found f)
 
-    one-number : openOutcome img (bytesOf (spareFor f ∷ [])) s access .number ≡ numberBy f
+    one-number : openOutcome img (bytesOf (spareFor f ∷ [])) s access .number ≡ numberBy img s access f
     one-number = one .number ∙ spare-number f
 
-    held-row : held ∷ [] ≡ cond (eqb (numberBy f) 0) (opened ∷ []) (spareFor f ∷ [])
-    held-row = opens .row-is ∙ one .row ∙ rw (spare-number f, spare-place f, one-back (spareFor f) (spare-fits f), stored-first (spareFor f) opened)
+    held-row : held ∷ [] ≡ cond (eqb (numberBy img s access f) 0) (opened img s access ∷ []) (spareFor f ∷ [])
+    held-row = opens .row-is ∙ one .row ∙ rw (spare-number f, spare-place f, one-back (spareFor f) (spare-fits f), stored-first (spareFor f) (opened img s access))
 
-    by-number : (z : Bool) → eqb (numberBy f) 0 ≡ z → place ≡ cond z (placeFound f) 16 → held ∷ [] ≡ cond z (opened ∷ []) (spareFor f ∷ [])
-        → withRecordAt row place held ≡ cond z (withRecordAt row (placeFound f) opened) row
+    by-number : (z : Bool) → eqb (numberBy img s access f) 0 ≡ z → place ≡ cond z (placeFound f) 16 → held ∷ [] ≡ cond z (opened img s access ∷ []) (spareFor f ∷ [])
+        → withRecordAt row place held ≡ cond z (withRecordAt row (placeFound f) (opened img s access)) row
     by-number true z p h = rw (p, ap (λ (l : List OpenRecord). getD l 0 unused) h)
     by-number false z p h = rw p (past-all row held)
 
@@ -181,23 +75,6 @@ module _ (img s : List ℕ) (access : ℕ) where
       number-is = opens .number-is ∙ one-number ∙ sym (whole .number);
       value-is = opens .value-is ∙ rw one-number (sym (whole .value));
       image-is = sym (whole .image);
-      row-is = put ∙ by-number (eqb (numberBy f) 0) refl (opens .place-is ∙ rw one-number) held-row ∙ sym (whole .row ∙ rw (bytes-back row fits));
+      row-is = put ∙ by-number (eqb (numberBy img s access f) 0) refl (opens .place-is ∙ rw one-number) held-row ∙ sym (whole .row ∙ rw (bytes-back row fits));
       buffer-is = sym (whole .buffer);
     }
-
-  -- ---- any bytes that say the row
-
-  pub open-by : (t : List ℕ) → Bytes t → (row : List OpenRecord) → rowOf t ≡ row → {a : Answer} {image : List ℕ} {after : List OpenRecord} {buffer : List ℕ}
-      → LeavesRow (openOutcome img (bytesOf row) s access) a image after buffer → LeavesRow (openOutcome img t s access) a image after buffer
-  open-by t b row says left =
-      let back = bytes-back row (subst AllFit says (says-fit t b)) in
-      let f = lowestUnusedIn row in
-      let v = open-view t f (sym (unused-alike t) ∙ ap lowestUnusedIn says) in
-      let w = open-view (bytesOf row) f (sym (unused-alike (bytesOf row)) ∙ ap lowestUnusedIn back) in
-      record {
-        number-is = left .number-is ∙ w .number ∙ sym (v .number);
-        value-is = left .value-is ∙ w .value ∙ sym (v .value);
-        image-is = left .image-is ∙ w .image ∙ sym (v .image);
-        row-is = left .row-is ∙ w .row ∙ ap (λ (l : List OpenRecord). cond (eqb (numberBy f) 0) (withRecordAt l (placeFound f) opened) l) (back ∙ sym says) ∙ sym (v .row);
-        buffer-is = left .buffer-is ∙ w .buffer ∙ sym (v .buffer);
-      }

@@ -1,6 +1,6 @@
 -- Two tables with the same record at a handle's place: what is decided of a call is decided alike on both, and where it ends well
 -- the same record stands at both places.
-use Prim.Native.Nat.{ℕ, _+_, _≤_, _<_}
+use Prim.Native.Nat.{ℕ, _<_}
 use native.Mathlib.Omega.{arith}
 use native.Mathlib.Decide.{decLt}
 use mathlib.Core.Bool.{Bool, true, false, cond, not, _&&_}

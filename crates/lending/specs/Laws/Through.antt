@@ -1,11 +1,10 @@
--- From the call on one record to the call over its row, and from the bytes that a row says to any bytes that say it.
+-- From the call on one record to the call over the row that it was taken from.
 use Prim.Native.Nat.{ℕ, zero, suc}
 use native.Mathlib.Omega.{arith}
 use mathlib.Core.List.{List, [], _∷_}
-use mathlib.Core.Path.{_≡_, refl, sym, ap, subst, _∙_}
+use mathlib.Core.Path.{_≡_, refl, sym, ap, _∙_}
 use lib.IntN.{ℤ}
 use lib.ListN.{getD}
-use Rattle.image.specs.Bytes.{Bytes}
 use Rattle.stamps.specs.declared.Stamp.{Stamp}
 use Rattle.calls.specs.Outcome.{Outcome}
 use Rattle.calls.specs.declared.Answer.{Answer}
@@ -16,20 +15,9 @@ use Rattle.writing.specs.Write.{writeOutcome}
 use Rattle.lent.specs.Row.{unused, rowOf, recordAt, withRecordAt}
 use Rattle.lent.specs.declared.OpenRecord.{OpenRecord}
 use Rattle.lending.specs.Rows.{bytesOf, LeavesRow}
-use Rattle.lending.specs.Laws.Bytes.{FitsIn, AllFit, fits-at, says-fit, bytes-back}
+use Rattle.lending.specs.Laws.Bytes.{FitsIn, AllFit, fits-at, bytes-back}
 use Rattle.lending.specs.Laws.Same.{Same}
 use Rattle.lending.specs.Laws.SameCalls.{seek-same, read-same, write-same, close-same}
-
--- ---- only one outcome fits
-
-pub leaves-only : {o : Outcome} {a a′ : Answer} {image image′ : List ℕ} {row row′ : List OpenRecord} {buffer buffer′ : List ℕ}
-    → LeavesRow o a image row buffer → LeavesRow o a′ image′ row′ buffer′ → (a ≡ a′) × (image ≡ image′) × (row ≡ row′) × (buffer ≡ buffer′)
-leaves-only x y = (
-  rw (x .number-is ∙ sym (y .number-is), x .value-is ∙ sym (y .value-is)),
-  x .image-is ∙ sym (y .image-is),
-  x .row-is ∙ sym (y .row-is),
-  x .buffer-is ∙ sym (y .buffer-is),
-)
 
 -- ---- one record, and the row it was taken from
 
@@ -84,34 +72,3 @@ module _ (row : List OpenRecord) (fits : AllFit row) (h : ℕ) (img : List ℕ) 
 
   pub close-through : (stamp : Stamp) (image : List ℕ) → LeavesRow (closeOutcome img (bytesOf (recordAt row h ∷ [])) 0 stamp) a image (r ∷ []) [] → LeavesRow (closeOutcome img (bytesOf row) h stamp) a image after []
   close-through stamp image left = put-back row fits h _ _ (close-same (bytesOf row) h (alone row fits h) 0 (taken-out row fits h) img stamp) a image [] r left after put
-
--- ---- any bytes that say the row
-
-module _ (t : List ℕ) (bytes : Bytes t) (row : List OpenRecord) (says : rowOf t ≡ row) where
-  back : rowOf (bytesOf row) ≡ rowOf t
-  back = bytes-back row (subst AllFit says (says-fit t bytes)) ∙ sym says
-
-  alike : (h : ℕ) → recordAt (rowOf t) h ≡ recordAt (rowOf (bytesOf row)) h
-  alike h = ap (λ (l : List OpenRecord). recordAt l h) (sym back)
-
-  by-table : (h : ℕ) (o o′ : Outcome) → Same t h (bytesOf row) h o o′ → {a : Answer} {image : List ℕ} {after : List OpenRecord} {buffer : List ℕ} → LeavesRow o′ a image after buffer → LeavesRow o a image after buffer
-  by-table h o o′ s left = record {
-    number-is = left .number-is ∙ sym (s .number);
-    value-is = left .value-is ∙ sym (s .value);
-    image-is = left .image-is ∙ sym (s .image);
-    row-is = left .row-is ∙ s .here ∙ ap (λ (l : List OpenRecord). withRecordAt l h (s .after)) back ∙ sym (s .there);
-    buffer-is = left .buffer-is ∙ sym (s .buffer);
-  }
-
-  module _ (img : List ℕ) (h : ℕ) {a : Answer} {image : List ℕ} {after : List OpenRecord} {buffer : List ℕ} where
-    pub seek-by : (method : ℕ) (offset : ℤ) → LeavesRow (seekOutcome img (bytesOf row) h method offset) a image after buffer → LeavesRow (seekOutcome img t h method offset) a image after buffer
-    seek-by method offset = by-table h _ _ (seek-same t h (bytesOf row) h (alike h) img method offset)
-
-    pub read-by : (buf : List ℕ) → LeavesRow (readOutcome img (bytesOf row) h buf) a image after buffer → LeavesRow (readOutcome img t h buf) a image after buffer
-    read-by buf = by-table h _ _ (read-same t h (bytesOf row) h (alike h) img buf)
-
-    pub write-by : (bs : List ℕ) → LeavesRow (writeOutcome img (bytesOf row) h bs) a image after buffer → LeavesRow (writeOutcome img t h bs) a image after buffer
-    write-by bs = by-table h _ _ (write-same t h (bytesOf row) h (alike h) img bs)
-
-    pub close-by : (stamp : Stamp) → LeavesRow (closeOutcome img (bytesOf row) h stamp) a image after buffer → LeavesRow (closeOutcome img t h stamp) a image after buffer
-    close-by stamp = by-table h _ _ (close-same t h (bytesOf row) h (alike h) img stamp)
