@@ -9,7 +9,7 @@ use Rattle.calls.specs.declared.Answer.{Answer}
 use Rattle.lent.specs.Row.{rowOf}
 use Rattle.lent.specs.declared.OpenRecord.{OpenRecord}
 
--- the bytes of a record, used or not: all its fields stand in them
+-- the bytes of a record, used or not: all its fields, where Records of `opened` has them, so that rowOf reads them again
 unfoldable pub placeBytes : OpenRecord → List ℕ
 placeBytes r = mark (r .used) ∷ r .access ∷ mark (r .written) ∷ 0 ∷ numberBytes (r .slot) (r .pointer)
 

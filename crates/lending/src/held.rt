@@ -25,7 +25,7 @@ fn mark_of(marked: bool) -> u8
     if marked { 1 } else { 0 }
 }
 
-// A table of bytes with this record alone, used or not.
+// A table of bytes with this record alone. An unused one keeps its fields too: a refusal has to leave them.
 fn table_of(held: OpenRecord) -> [u8; 16]
     ensures { λ r. ⌜ r ≡ bytesOf (held ∷ []) ⌝ }
 {

@@ -1,7 +1,7 @@
 // The calls over a lent row of open records, beside those over a table of bytes: the record is taken out of the row, the call done
 // on it, and the record that it leaves put back.
 pub mod held;
-pub mod place;
+mod place;
 
 use calls::Answer;
 use lent::OpenRecord;
