@@ -54,6 +54,7 @@ pub fn close(img: &mut [u8], row: &mut [OpenRecord], handle: u32, stamp: Stamp) 
     done.answer
 }
 
+// The place is found in the row first; a refusal stores past the places that count, so nothing.
 pub fn open(img: &[u8], row: &mut [OpenRecord], s: &[u8], access: u32) -> Answer
     ensures { λ r. ⌜ LeavesRow (openOutcome (now (img .entry)) (bytesOf (now (row .entry))) (now (s .entry)) access) r (now (img .entry)) (now (row .exit)) [] ⌝ }
 {
