@@ -1,21 +1,17 @@
 -- Open over bytes, by the place that is free.
-use Prim.Native.Nat.{ℕ, _+_, _≤_, _<_}
+use Prim.Native.Nat.{ℕ, _<_}
 use native.Mathlib.Omega.{arith}
-use mathlib.Core.Bool.{Bool, true, false, cond, not, _&&_}
+use mathlib.Core.Bool.{Bool, true, false, cond, _&&_}
 use mathlib.Core.List.{List, [], _∷_}
 use mathlib.Core.Path.{_≡_, refl, sym, ap, _∙_}
 use lib.Dec.{eqb, ltb}
-use lib.ListN.{length, getD}
 use borrow.Author.Tests.{eqb-true}
-use Rattle.image.specs.Store.{stored}
-use Rattle.image.specs.Numbers.{number, digits}
-use Rattle.image.specs.Laws.Store.{stored-inside}
-use Rattle.image.specs.Laws.Numbers.{number-same}
+use Rattle.image.specs.Numbers.{number}
 use Rattle.search.specs.declared.Found.{Found}
 use Rattle.search.specs.declared.Found.the-variants.{At, Nothing}
-use Rattle.opened.specs.Records.{placeCount, placeAt, usedOf, slotOf, accessOf, pointerOf, writtenOf, markBytes, numberBytes, recordBytes, withRecord}
+use Rattle.opened.specs.Records.{placeCount, recordBytes, withRecord}
 use Rattle.opened.specs.Places.{lowestUnused}
-use Rattle.opened.specs.Laws.Stores.{record-only}
+use Rattle.opened.specs.Laws.Stores.{length-record, whole-place, record-only}
 use Rattle.calls.specs.Outcome.{Row, Outcome, outcome, refusal, decided}
 use Rattle.calls.specs.Refusals.{isNothing, placeFound, notOfKind, notSound, badName, noFile, fileSlot, readOnly}
 use Rattle.calls.specs.Laws.Files.{unused-below, unused-fits}
@@ -33,30 +29,11 @@ module _ (t : List ℕ) (p : ℕ) (k : p < placeCount t) (access slot pointer : 
   abbrev bytes : List ℕ
   bytes = recordBytes access slot pointer written
 
-  long : length bytes ≡ 16
-  unfolding recordBytes markBytes numberBytes digits
-  long = refl
-
-  byte : (i : ℕ) → i < 16 → getD (stored t (placeAt p) bytes) (placeAt p + i) 0 ≡ getD bytes i 0
-  byte i h = let l = long in stored-inside t (placeAt p) bytes i (omega arith) (omega arith)
-
-  run : (o : ℕ) → o + 4 ≤ 16 → number (stored t (placeAt p) bytes) (placeAt p + o) 4 ≡ number bytes o 4
-  run o h =
-      number-same (stored t (placeAt p) bytes) bytes (placeAt p + o) o 4
-      (λ i j. let e : placeAt p + o + i ≡ placeAt p + (o + i) = omega arith in rw e (byte (o + i) (omega arith)))
-
   taken-back : recordOf (withRecord t p access slot pointer written) p ≡ recordOf bytes 0
-  unfolding withRecord recordOf usedOf accessOf slotOf pointerOf writtenOf
+  unfolding withRecord recordOf
   taken-back =
-      let e : placeAt p + 0 ≡ placeAt p = omega arith in
       record-of (withRecord t p access slot pointer written) p (recordOf bytes 0)
-      record {
-        used = ap (λ (b : ℕ). not (eqb b 0)) (rw e at (byte 0 (omega arith)));
-        access = byte 1 (omega arith);
-        slot = run 4 (omega arith);
-        pointer = run 8 (omega arith);
-        written = ap (λ (b : ℕ). not (eqb b 0)) (byte 2 (omega arith));
-      }
+      (whole-place t p bytes (length-record access slot pointer written) k)
 
   row-taken : rowOf (withRecord t p access slot pointer written) ≡ withRecordAt (rowOf t) p (recordOf bytes 0)
   row-taken = row-set (withRecord t p access slot pointer written) t p k (record-only t p k access slot pointer written) (recordOf bytes 0) taken-back

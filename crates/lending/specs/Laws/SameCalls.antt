@@ -24,7 +24,8 @@ use Rattle.calls.specs.Refusals.{theKind, notOfKind, notSound, badStamp, notLiv
 use Rattle.opening.specs.Seek.{seekBase, seekMoved, isBeyond, pointerMoved, seekEffect, seekOutcome}
 use Rattle.opening.specs.Close.{closeEffect, closeOutcome}
 use Rattle.reading.specs.Read.{readCount, readEffect, readOutcome}
-use Rattle.writing.specs.Write.{writeCount, writtenIn, writeAt, writeEffect, writeOutcome}
+use Rattle.putting.specs.Written.{writtenIn}
+use Rattle.writing.specs.Write.{writeCount, writeAt, writeEffect, writeOutcome}
 use Rattle.lent.specs.Row.{unused, recordOf, rowOf, recordAt, withRecordAt}
 use Rattle.lent.specs.Seek.{movedTo}
 use Rattle.lent.specs.Laws.Alike.{record-of, fields-of}
