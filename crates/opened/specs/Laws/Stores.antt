@@ -20,7 +20,7 @@ use Rattle.opened.specs.Laws.Records.{untouched, only-place}
 
 -- ---- the bytes of a record
 
-length-record : (access slot pointer : ℕ) (written : Bool) → length (recordBytes access slot pointer written) ≡ 16
+pub length-record : (access slot pointer : ℕ) (written : Bool) → length (recordBytes access slot pointer written) ≡ 16
 unfolding recordBytes markBytes numberBytes digits
 length-record access slot pointer written = refl
 
@@ -57,7 +57,7 @@ module _ (t : List ℕ) (p : ℕ) (s : List ℕ) (long : length s ≡ 16) (k : p
       number-same (stored t (placeAt p) s) s (placeAt p + o) o 4
       (λ i j. let e : placeAt p + o + i ≡ placeAt p + (o + i) = omega arith in rw e (byte (o + i) (omega arith)))
 
-  whole-place : Holds (stored t (placeAt p) s) p (usedOf s 0) (accessOf s 0) (slotOf s 0) (pointerOf s 0) (writtenOf s 0)
+  pub whole-place : Holds (stored t (placeAt p) s) p (usedOf s 0) (accessOf s 0) (slotOf s 0) (pointerOf s 0) (writtenOf s 0)
   unfolding usedOf accessOf slotOf pointerOf writtenOf
   whole-place =
       let e : placeAt p + 0 ≡ placeAt p = omega arith in

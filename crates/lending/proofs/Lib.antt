@@ -1,0 +1,2 @@
+-- What the proofs by hand have in common.
+pub mod Walks
