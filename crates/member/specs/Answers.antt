@@ -15,8 +15,8 @@ use Rattle.stamps.specs.declared.DateRead.{DateRead}
 use Rattle.stamps.specs.declared.DateRead.the-variants.{Date, NoDate}
 
 -- a refusal: value 0
-abbrev pub refusedBy : ℕ → ℕ
-refusedBy number = number * 4294967296
+abbrev pub refusalAnswer : ℕ → ℕ
+refusalAnswer number = number * 4294967296
 
 -- ---- what stands at a slot of the root
 
@@ -30,16 +30,16 @@ standingTold Label = 3
 -- 0: the kind has no such slot; "40: image not of a kind"
 unfoldable pub slotTold : WhichKind → List ℕ → ℕ → ℕ
 slotTold (Known k) img s = cond (leb (rootEntries k) s) 0 (standingTold (standingOf img (slotAt k s)))
-slotTold Unknown img s = refusedBy 40
+slotTold Unknown img s = refusalAnswer 40
 
 -- ---- a stored date and a stored time; "43: a stamp out of its ranges"
 
 -- the digits YYYYMMDD: the year counts from 1980
 unfoldable pub dateTold : DateRead → ℕ
 dateTold (Date year month day) = (1980 + year) * 10000 + month * 100 + day
-dateTold NoDate = refusedBy 43
+dateTold NoDate = refusalAnswer 43
 
 -- the digits HHMMSS: steps are of two seconds
 unfoldable pub timeTold : TimeRead → ℕ
 timeTold (Time hour minute step) = hour * 10000 + minute * 100 + step * 2
-timeTold NoTime = refusedBy 43
+timeTold NoTime = refusalAnswer 43
