@@ -7,7 +7,7 @@ use mathlib.Core.Option.{Option, none, some}
 use mathlib.Core.Path.{_≡_, refl, ap}
 use mathlib.Core.List.{List, [], _∷_}
 use lib.ListN.{length, getD}
-use Rattle.chains.specs.Lists.{_∈_, Once, occ}
+use Rattle.chains.specs.Lists.{_∈_}
 use Rattle.chains.specs.Sizes.{Geometry}
 use Rattle.chains.specs.Values.{Link}
 use Rattle.chains.specs.Chain.{Chain}
@@ -15,7 +15,7 @@ use Rattle.chains.specs.Walk.{walk}
 use Rattle.chains.specs.Steps.{followed}
 use Rattle.chains.specs.Content.{Room}
 use Rattle.chains.specs.Laws.Lists.{index-mem}
-use Rattle.chains.specs.Laws.Chain.{chain-mem, chain-once, chain-length}
+use Rattle.chains.specs.Laws.Chain.{chain-mem, chain-length}
 use Rattle.chains.specs.Laws.Walk.{walk-chain, chain-walk}
 use Rattle.chains.specs.Laws.Clusters.{chain-clusters}
 use Rattle.chains.specs.Laws.Follow.{chain-followed}
@@ -51,17 +51,6 @@ module _ (base cb last : ℕ) (l : List ℕ) (start : ℕ) (a : Area base cb las
 
   pub chain-room : Room base cb l (chainFrom last l start)
   chain-room c m = (chain-links c m .0, omega (arith, a .clusters, cluster-high base cb (a .wide) (geometry a) c (chain-links c m)))
-
-  empty : (cs : List ℕ) → length cs ≤ 0 → cs ≡ []
-  empty [] h = refl
-  empty (x ∷ xs) h = absurd (omega arith)
-
-  pub chain-single : Once (chainFrom last l start)
-  unfolding occ
-  chain-single c = elim (decLt 0 (length (chainFrom last l start))) [
-    | yes h ↦ chain-once (geometry a) (tableOf last l) start (chainFrom last l start) (chain-found h) c
-    | no n ↦ let e : chainFrom last l start ≡ [] = empty (chainFrom last l start) (omega arith) in rw e (omega arith)
-  ]
 
   -- so many bytes are never more than the image has
   pub chain-small : length (chainFrom last l start) * cb ≤ length l

@@ -1,21 +1,20 @@
 -- What a store along a chain leaves: the length, bytes below 256, all before the data, the table and its chains, every
 -- other cluster.
-use Prim.Native.Nat.{ℕ, zero, suc, _+_, _-_, _*_, _≤_, _<_}
+use Prim.Native.Nat.{ℕ, zero, suc, _+_, _-_, _≤_, _<_}
 use native.Mathlib.Omega.{arith}
 use mathlib.Core.Path.{_≡_, ap}
 use mathlib.Core.List.{List}
 use lib.ListN.{length, getD, replicate}
 use Rattle.image.specs.Bytes.{Bytes}
 use Rattle.image.specs.Laws.Store.{bytes-set}
-use Rattle.chains.specs.Content.{Touches, byteAt}
+use Rattle.chains.specs.Content.{byteAt}
 use Rattle.chains.specs.Write.{poured, filledImage, writtenImage}
 use Rattle.chains.specs.Laws.Content.{byte-low}
 use Rattle.chains.specs.Laws.Poured.{poured-length, poured-out}
-use Rattle.chains.specs.Laws.Touched.{poured-touches}
 use Rattle.table.specs.Entries.{wordAt, tableOf}
 use Rattle.table.specs.Laws.View.{table-same}
 use Rattle.contents.specs.Contents.{chainFrom, Area, bytesPut, zerosPut}
-use Rattle.contents.specs.Laws.Chain.{chain-links, chain-kept}
+use Rattle.contents.specs.Laws.Chain.{chain-kept}
 
 pub bytes-poured : (base cb : ℕ) (l cs : List ℕ) (pos : ℕ) (bs : List ℕ) (n : ℕ) → Bytes l → Bytes bs → Bytes (poured base cb l cs pos bs n)
 unfolding poured
@@ -40,10 +39,6 @@ module _ (base cb : ℕ) (wide : 0 < cb) (l cs : List ℕ) (pos : ℕ) (bs : Lis
 module _ (base cb last : ℕ) (l : List ℕ) (start : ℕ) (a : Area base cb last (length l)) (pos : ℕ) (bs : List ℕ) where
   pub area-poured : (cs : List ℕ) (n : ℕ) → Area base cb last (length (poured base cb l cs pos bs n))
   area-poured cs n = rw (poured-length base cb l cs pos bs n) a
-
-  -- clusters that are not in the chain
-  pub chain-touched : (n : ℕ) → pos + n ≤ length (chainFrom last l start) * cb → Touches last base cb l (poured base cb l (chainFrom last l start) pos bs n) (chainFrom last l start)
-  chain-touched n h = poured-touches last base cb (a .wide) l (chainFrom last l start) (λ c m. chain-links base cb last l start a c m .0) pos bs n h
 
   -- zeros up to pos and then the bytes: what a write into a file of size bytes makes of the image
   pub written-put : (size : ℕ) → bytesPut base cb last (zerosPut base cb last l start size (pos - size)) start pos bs ≡ writtenImage base cb l (chainFrom last l start) size pos bs

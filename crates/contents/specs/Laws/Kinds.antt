@@ -4,7 +4,7 @@ use native.Mathlib.Omega.{arith}
 use mathlib.Core.Path.{_≡_}
 use Rattle.chains.specs.Content as theory
 use Rattle.diskette.specs.Kinds.{Usable}
-use Rattle.diskette.specs.Places.{firstData, clusters, lastCluster, clusterBytes, clusterAt}
+use Rattle.diskette.specs.Places.{firstData, clusters, lastCluster, clusterBytes}
 use Rattle.diskette.specs.declared.Kind.{Kind}
 use Rattle.contents.specs.Contents.{Area}
 
@@ -18,7 +18,3 @@ module _ (k : Kind) (u : Usable k) where
         let e : lastCluster k - 1 ≡ clusters k = omega arith in
         rw e (omega (arith, u .whole));
   }
-
-  pub cluster-kind : (c : ℕ) → theory.clusterAt (512 * firstData k) (clusterBytes k) c ≡ clusterAt k c
-  unfolding theory.clusterAt
-  cluster-kind c = omega arith

@@ -5,19 +5,12 @@ use mathlib.Core.Path.{_≡_, sym}
 use mathlib.Core.List.{List}
 use lib.ListN.{length}
 use Rattle.image.specs.Store.{part}
-use Rattle.image.specs.Laws.Store.{length-part}
-use Rattle.chains.specs.Content.{chainBytes, content}
-use Rattle.chains.specs.Laws.Content.{chain-bytes-length}
+use Rattle.chains.specs.Content.{content}
 use Rattle.contents.specs.Contents.{chainFrom, Area, fetched}
 use Rattle.contents.specs.Laws.Chain.{chain-room}
 use Rattle.contents.specs.Laws.Stores.{content-part}
 
 module _ (base cb last : ℕ) (l : List ℕ) (start : ℕ) (a : Area base cb last (length l)) (pos n : ℕ) where
-  pub fetched-length : pos + n ≤ length (chainFrom last l start) * cb → length (fetched base cb last l start pos n) ≡ n
-  fetched-length h =
-      length-part (chainBytes base cb l (chainFrom last l start)) pos n
-      (omega (arith, chain-bytes-length base cb (a .wide) l (chainFrom last l start) (chain-room base cb last l start a)))
-
   -- the file has size bytes
   pub fetched-content : (size : ℕ) → pos + n ≤ size → size ≤ length (chainFrom last l start) * cb
       → fetched base cb last l start pos n ≡ part (content base cb l (chainFrom last l start) size) pos n

@@ -3,10 +3,10 @@ use Prim.Native.Nat.{ℕ, zero, suc, _+_, _-_, _≤_, _<_}
 use native.Mathlib.Omega.{arith}
 use native.Mathlib.Numerals.{add-one}
 use native.Mathlib.Decide.{ℕ-discrete, decLt}
-use mathlib.Core.Path.{_≡_, refl, sym, _∙_, ap}
+use mathlib.Core.Path.{_≡_, refl, sym, _∙_}
 use mathlib.Core.List.{List, [], _∷_, _++_}
-use mathlib.Core.Logic.{_⊎_, inl, inr, _≢_}
-use lib.ListN.{length, getD, set, take, drop, replicate, length-set, length-take, length-drop}
+use mathlib.Core.Logic.{_⊎_, inl, inr}
+use lib.ListN.{length, getD, set, drop, replicate, length-set, length-take, length-drop}
 use lib.Seq.{getD-set-same, getD-set-other, set-out, getD-take, getD-drop, drop-cons, ext-getD}
 use Rattle.image.specs.Bytes.{Bytes}
 use Rattle.image.specs.Store.{stored, part, Outside, Apart}
@@ -155,13 +155,6 @@ pub part-apart : (l : List ℕ) (at : ℕ) (s : List ℕ) (b n : ℕ) → b + n 
 part-apart l at s b n f p =
     part-same (stored l at s) l b b n (rw (length-stored l at s) f) f
     (λ i k. stored-outside l at s (b + i) (elim p [ inl q ↦ inr (omega arith) | inr q ↦ inl (omega arith) ]))
-
--- a store of what stands there already changes nothing
-pub stored-same : (l : List ℕ) (at : ℕ) (s : List ℕ) → at + length s ≤ length l → ((i : ℕ) → i < length s → getD s i 0 ≡ getD l (at + i) 0) → stored l at s ≡ l
-stored-same l at s f h = ext-getD 0 _ _ (length-stored l at s) (λ i k. elim (stored-byte l at s i f) [
-  | inl x ↦ x .1
-  | inr x ↦ let e : at + (i - at) ≡ i = omega arith in x .2 ∙ (rw e at (h (i - at) (omega arith)))
-])
 
 -- ---- in the form of a loop that stores: what is left of s goes on from here
 

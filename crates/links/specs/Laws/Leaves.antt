@@ -1,27 +1,18 @@
 -- A chain freed or made longer leaves all but the entries.
-use Prim.Native.Nat.{ℕ, _+_, _≤_, _<_}
+use Prim.Native.Nat.{ℕ}
 use native.Mathlib.Omega.{arith}
 use mathlib.Core.List.{List, [], _∷_}
 use mathlib.Core.Logic.{_⊎_, inl, inr}
 use mathlib.Core.Path.{_≡_, refl, subst, _∙_}
-use lib.ListN.{length, getD}
-use Rattle.image.specs.Store.{part, Outside}
-use Rattle.image.specs.Numbers.{number}
-use Rattle.image.specs.Laws.Store.{part-same}
-use Rattle.image.specs.Laws.Numbers.{number-same}
+use Rattle.image.specs.Store.{Outside}
 use Rattle.chains.specs.Lists.{_∈_}
 use Rattle.chains.specs.Values.{Link}
-use Rattle.chains.specs.Chain.{Chain}
-use Rattle.chains.specs.Laws.Chain.{chain-mem}
-use Rattle.table.specs.Entries.{wordAt, setBoth, Reaches, tableOf}
+use Rattle.table.specs.Entries.{wordAt, setBoth, Reaches}
 use Rattle.table.specs.Laws.Copies.{reaches-below, length-setBoth, bytes-setBoth, reaches-setBoth, setBoth-outside, agree-setBoth}
-use Rattle.links.specs.Freed.{freed, freedFrom}
-use Rattle.links.specs.Linked.{Behind, linkedTo, linked, newClusters, linkedFrom}
-use Rattle.links.specs.Leaves.{Holds, Beside, Leaves}
+use Rattle.links.specs.Freed.{freed}
+use Rattle.links.specs.Linked.{linkedTo, linked}
+use Rattle.links.specs.Leaves.{Beside, Leaves}
 use Rattle.links.specs.Laws.Turns.{reaches-long, link-first, link-behind}
-use Rattle.links.specs.Laws.Table.{geometry}
-use Rattle.links.specs.Laws.Freed.{chain-freed}
-use Rattle.links.specs.Laws.New.{added-linked, new-takable}
 
 module _ (second last : ℕ) where
   -- ---- step by step
@@ -78,44 +69,3 @@ module _ (second last : ℕ) where
       let one : Leaves second last l m = leaves-linkedTo l prev d r b (h d (inl refl)) in
       leaves-then l m (linked second m d ds) one
       (leaves-linked ds m d (reaches-long second l m last last r (one .long) (omega arith)) (inr (h d (inl refl))) (λ a i. h a (inr i)))
-
--- ---- the loops along a chain
-
-module _ (second last : ℕ) (l : List ℕ) (holds : Holds second last l) where
-  pub holds-after : (m : List ℕ) → Leaves second last l m → Holds second last m
-  holds-after m x = record {
-    small = holds .small;
-    bytes = x .bytes (holds .bytes);
-    reaches = reaches-long second l m last last (holds .reaches) (x .long) (omega arith);
-  }
-
-  pub chain-freed-leaves : (start : ℕ) (cs : List ℕ) → Chain last (tableOf last l) start cs → Leaves second last l (freedFrom second last l (length cs) start)
-  chain-freed-leaves start cs p =
-      rw (chain-freed second last l start cs holds p)
-      (leaves-freed second last cs l (holds .reaches) (λ c i. chain-mem (geometry last (holds .small)) (tableOf last l) start cs p c i .0))
-
-  pub added-leaves : (prev n : ℕ) → Behind last (tableOf last l) prev → Leaves second last l (linkedFrom second last l prev 2 n)
-  added-leaves prev n b =
-      rw (added-linked second last l prev n holds b)
-      (leaves-linked second last (newClusters last l n) l prev (holds .reaches) (elim b [ inl z ↦ inl z | inr p ↦ inr (p .0) ]) (new-takable last l n (holds .small) .range))
-
--- ---- what is left, place by place
-
-module _ (second last : ℕ) (l m : List ℕ) (r : Reaches second l last) (x : Leaves second last l m) where
-  -- the boot sector, the kind byte and FF FF of copy 1
-  pub byte-before : (j : ℕ) → j < 515 → getD m j 0 ≡ getD l j 0
-  byte-before j h = x .beside j (inl h) (inl (omega arith))
-
-  -- the first bytes of copy 2
-  pub byte-head : (i : ℕ) → i < 3 → getD m (second + i) 0 ≡ getD l (second + i) 0
-  byte-head i h = x .beside (second + i) (inr (omega arith)) (inl (omega arith))
-
-  -- what stands behind the entries of copy 2: the root and the data
-  pub byte-behind : (j : ℕ) → wordAt second last + 2 ≤ j → getD m j 0 ≡ getD l j 0
-  byte-behind j h = x .beside j (inr (omega arith)) (inr h)
-
-  pub number-behind : (b w : ℕ) → wordAt second last + 2 ≤ b → number m b w ≡ number l b w
-  number-behind b w h = number-same m l b b w (λ i k. byte-behind (b + i) (omega arith))
-
-  pub part-behind : (b w : ℕ) → b + w ≤ length l → wordAt second last + 2 ≤ b → part m b w ≡ part l b w
-  part-behind b w f h = part-same m l b b w (omega (arith, x .long)) f (λ i k. byte-behind (b + i) (omega arith))

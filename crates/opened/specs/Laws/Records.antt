@@ -20,10 +20,6 @@ use Rattle.opened.specs.Changes.{SamePlace, OnlyAt}
 -- ---- how large a field is
 
 module _ (t : List ℕ) (p : ℕ) (b : Bytes t) where
-  pub access-small : accessOf t p < 256
-  unfolding accessOf
-  access-small = b (placeAt p + 1)
-
   pub slot-small : slotOf t p < 4294967296
   unfolding slotOf
   slot-small = number-small t (placeAt p + 4) 4 b

@@ -1,10 +1,9 @@
--- A sound volume of which one slot changed, or none: the theory's lemma on one holder replaced, by slot and by the
+-- A sound volume of which one slot changed: the theory's lemma on one holder replaced, by slot and by the
 -- bytes of two volumes.
 use Prim.Native.Nat.{ℕ, _<_}
 use mathlib.Core.List.{List}
 use mathlib.Core.Logic.{_≢_}
-use mathlib.Core.Path.{_≡_, sym, ap, _∙_, subst}
-use Rattle.chains.specs.Holders.{Holder}
+use mathlib.Core.Path.{_≡_, ap, _∙_}
 use Rattle.chains.specs.Put.{put}
 use Rattle.chains.specs.Replace.{Replaced}
 use Rattle.chains.specs.Laws.Replace.{replaced}
@@ -27,11 +26,3 @@ module _ (k : Kind) (u : Usable k) (l m : List ℕ) (χ : ℕ → List ℕ) (v :
   slot-replaced s i ds r there =
       replaced (geometry k u) (valueOf k l) (valueOf k m) (rootHolders k l) χ v (slotAt k s) (holderAt (clusterBytes k) m (slotAt k s)) ds r (rootHolders k m) (root-holder k m s i)
       (λ a n. root-holders-as k m l a (λ t j e. there t j (λ q. n (e ∙ ap (slotAt k) q))))
-
-  -- table and holders are the same: other fields of an entry, or bytes of the data, may differ
-  pub all-kept : ((c : ℕ) → valueOf k m c ≡ valueOf k l c) → ((t : ℕ) → t < rootEntries k → holderAt (clusterBytes k) m (slotAt k t) ≡ holderAt (clusterBytes k) l (slotAt k t))
-      → Theory.Sound (lastCluster k) (valueOf k m) (rootHolders k m) χ
-  all-kept table holders =
-      let f : valueOf k l ≡ valueOf k m = λ j c. sym (table c) j in
-      let h : rootHolders k l ≡ rootHolders k m = λ j a. sym (root-holders-as k m l a (λ t i e. holders t i)) j in
-      subst (λ (x : ℕ → Holder). Theory.Sound (lastCluster k) (valueOf k m) x χ) h (subst (λ (x : ℕ → ℕ). Theory.Sound (lastCluster k) x (rootHolders k l) χ) f v)

@@ -1,8 +1,7 @@
 -- Findings that hold at the same places are answered alike.
 use mathlib.Core.Bool.{Bool}
 use mathlib.Core.Logic.{inl, inr, _↔_}
-use mathlib.Core.Option.{Option}
-use Rattle.chains.specs.Verdict.{Lowest, None, OrElse, Found, found, nowhere}
+use Rattle.chains.specs.Verdict.{Lowest, None, OrElse}
 
 pub turned : {P Q : Type 0} → P ↔ Q → Q ↔ P
 turned e = (e .1, e .0)
@@ -13,10 +12,6 @@ none-as B C same n p c = n p (same p .1 c)
 module _ {P : Type 0} (before : P → P → Bool) (B C : P → Type 0) (same : (p : P) → B p ↔ C p) where
   pub lowest-as : (p : P) → Lowest before B p → Lowest before C p
   lowest-as p l = (same p .0 (l .0), λ q e c. l .1 q e (same q .1 c))
-
-  pub found-as : (o : Option P) → Found before B o → Found before C o
-  found-as o (found p e l) = found p e (lowest-as p l)
-  found-as o (nowhere e n) = nowhere e (none-as B C same n)
 
   pub or-else-as : {A : Type 0} (say : P → A) (Rest More : A → Type 0) (a : A) → (Rest a → More a) → OrElse before B say Rest a → OrElse before C say More a
   or-else-as say Rest More a f (inl x) = inl (x .0, lowest-as (x .0) (x .1), x .2)

@@ -5,21 +5,18 @@ use mathlib.Core.Logic.{_↔_}
 use mathlib.Core.Path.{_≡_, subst}
 use Rattle.chains.specs.Holders.{fileHolder}
 use Rattle.chains.specs.Lists.{_∈_}
-use Rattle.chains.specs.Laws.Check.{owns-chain-of}
 use Rattle.chains.specs.Laws.Clusters.{file-owns}
 use Rattle.chains.specs.Laws.Holders.{owns-same}
 use Rattle.diskette.specs.Kinds.{Usable}
 use Rattle.diskette.specs.Places.{clusterBytes, lastCluster, slotAt}
 use Rattle.diskette.specs.declared.Kind.{Kind}
 use Rattle.directory.specs.Fields.{startOf, sizeOf}
-use Rattle.sound.specs.Files.{valueOf, IsFile, ChainOf}
+use Rattle.sound.specs.Files.{valueOf, ChainOf}
 use Rattle.sound.specs.Findings.{InChain}
 use Rattle.sound.specs.FromFinding.{NoFinding}
 use Rattle.sound.specs.Holders.{rootHolders, rootChains}
 use Rattle.sound.specs.Sound.{SoundBy, Sound}
-use Rattle.sound.specs.Laws.Chains.{file-owns-chain}
 use Rattle.sound.specs.Laws.Geometry.{geometry}
-use Rattle.sound.specs.Laws.Holders.{root-holder}
 use Rattle.sound.specs.Laws.Theory.{no-finding-theory, theory-sound}
 use Rattle.chains.specs.Holders as Theory
 
@@ -50,11 +47,6 @@ module _ (k : Kind) (u : Usable k) (l : List ℕ) where
     -- what the proofs of the calls start from
     pub sound-theory : Theory.Sound (lastCluster k) (valueOf k l) (rootHolders k l) (rootChains k l)
     sound-theory = no-finding-theory k u l sound-no-finding
-
-    pub lists-are : (s : ℕ) → IsFile k l s → lists s ≡ rootChains k l (slotAt k s)
-    unfolding rootChains
-    lists-are s i = owns-chain-of (geometry k u) (valueOf k l) (rootHolders k l (slotAt k s)) (lists s)
-        (file-owns-chain k u l (rootHolders k l) (root-holder k l) s (lists s) i .1 (v .chains s i))
 
   -- Sound means that none of the seven holds (finding 1 is about the kind)
   pub sound-exactly : Sound k l ↔ NoFinding k l

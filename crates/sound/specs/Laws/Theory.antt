@@ -7,7 +7,6 @@ use lib.Dec.{ltb}
 use Rattle.chains.specs.Holders.{Names}
 use Rattle.chains.specs.Lists.{_∈_}
 use Rattle.chains.specs.Verdict.{None}
-use Rattle.chains.specs.Laws.Check.{owns-chain-of}
 use Rattle.chains.specs.Laws.Findings.{none-sound}
 use Rattle.chains.specs.Laws.Holders.{sound-names}
 use Rattle.diskette.specs.Kinds.{Usable}
@@ -43,11 +42,6 @@ module _ (k : Kind) (u : Usable k) (l : List ℕ) where
   module _ (χ : ℕ → List ℕ) (v : Theory.Sound (lastCluster k) (valueOf k l) (rootHolders k l) χ) where
     pub root-names : Names χ (rootList k)
     root-names = sound-names (geometry k u) (valueOf k l) (rootHolders k l) χ v (rootList k) (root-nobody k l) (slots-once k)
-
-    -- it is the family of the chains
-    pub chains-are : (a : ℕ) → χ a ≡ rootChains k l a
-    unfolding rootChains
-    chains-are a = owns-chain-of (geometry k u) (valueOf k l) (rootHolders k l a) (χ a) (v .owns a)
 
     -- whoever has a cluster is a file
     pub owner-file : (a c : ℕ) → c ∈ χ a → (s : ℕ) × (a ≡ slotAt k s) × IsFile k l s

@@ -3,27 +3,20 @@ use Prim.Native.Nat.{ℕ, _+_, _-_, _*_, _/_, _≤_, _<_}
 use native.Mathlib.Omega.{arith}
 use native.Mathlib.Decide.{decLt}
 use mathlib.Core.List.{List}
-use mathlib.Core.Logic.{_⊎_, inl, inr, _≢_}
+use mathlib.Core.Logic.{inl, inr, _≢_}
 use mathlib.Core.Path.{_≡_, sym, _∙_}
 use lib.ListN.{length, getD}
 use Rattle.image.specs.Bytes.{Bytes}
-use Rattle.image.specs.Store.{part, Outside, Apart}
+use Rattle.image.specs.Store.{Outside}
 use Rattle.image.specs.Numbers.{number}
 use Rattle.image.specs.Laws.Numbers.{number-same}
-use Rattle.diskette.specs.Kinds.{Usable}
-use Rattle.diskette.specs.Places.{firstData, lastCluster, copyTwo}
-use Rattle.diskette.specs.declared.Kind.{Kind}
 use Rattle.table.specs.Entries.{wordAt, entryAt, entryOf, setAt, setBoth, Reaches, Agree}
-use Rattle.table.specs.Laws.OneCopy.{entry-same, length-setAt, bytes-setAt, setAt-outside, setAt-inside, number-setAt, part-setAt, setAt-same, setAt-other}
+use Rattle.table.specs.Laws.OneCopy.{entry-same, length-setAt, bytes-setAt, setAt-outside, setAt-inside, number-setAt, setAt-same, setAt-other}
 
 -- ---- which entries both copies hold
 
 pub reaches-below : (second : ℕ) (l : List ℕ) (m n : ℕ) → m ≤ n → Reaches second l n → Reaches second l m
 reaches-below second l m n h r = record { low = omega arith; high = omega arith }
-
--- those of a kind's clusters, in an image or a system area of that kind
-pub reaches-cluster : (k : Kind) (l : List ℕ) (n : ℕ) → Usable k → 512 * firstData k ≤ length l → n ≤ lastCluster k → Reaches (copyTwo k) l n
-reaches-cluster k l n u h i = record { low = omega arith; high = omega arith }
 
 -- ---- what a write leaves
 
@@ -49,28 +42,7 @@ module _ (second : ℕ) (l : List ℕ) (n v : ℕ) where
   unfolding setBoth
   setBoth-outside j p q = setAt-outside second (setAt 512 l n v) n v j q ∙ setAt-outside 512 l n v j p
 
-  pub number-setBoth : (b w : ℕ) → Apart (wordAt 512 n) 2 b w → Apart (wordAt second n) 2 b w → number (setBoth second l n v) b w ≡ number l b w
-  unfolding setBoth
-  number-setBoth b w p q = number-setAt second (setAt 512 l n v) n v b w q ∙ number-setAt 512 l n v b w p
-
-  pub part-setBoth : (b w : ℕ) → b + w ≤ length l → Apart (wordAt 512 n) 2 b w → Apart (wordAt second n) 2 b w → part (setBoth second l n v) b w ≡ part l b w
-  unfolding setBoth
-  part-setBoth b w f p q = part-setAt second (setAt 512 l n v) n v b w (rw (length-setAt 512 l n v) f) q ∙ part-setAt 512 l n v b w f p
-
   module _ (r : Reaches second l n) where
-    -- and so before copy 1, and after the entry's word in copy 2: the boot sector, the root, the data
-    pub byte-beside : (j : ℕ) → (j < 512) ⊎ (wordAt second n + 2 ≤ j) → getD (setBoth second l n v) j 0 ≡ getD l j 0
-    byte-beside j (inl p) = setBoth-outside j (inl (omega arith)) (inl (omega arith))
-    byte-beside j (inr p) = setBoth-outside j (inr (omega arith)) (inr p)
-
-    pub number-beside : (b w : ℕ) → (b + w ≤ 512) ⊎ (wordAt second n + 2 ≤ b) → number (setBoth second l n v) b w ≡ number l b w
-    number-beside b w (inl p) = number-setBoth b w (inr (omega arith)) (inr (omega arith))
-    number-beside b w (inr p) = number-setBoth b w (inl (omega arith)) (inl p)
-
-    pub part-beside : (b w : ℕ) → b + w ≤ length l → (b + w ≤ 512) ⊎ (wordAt second n + 2 ≤ b) → part (setBoth second l n v) b w ≡ part l b w
-    part-beside b w f (inl p) = part-setBoth b w f (inr (omega arith)) (inr (omega arith))
-    part-beside b w f (inr p) = part-setBoth b w f (inl (omega arith)) (inl p)
-
     -- the kind byte and the two FF after it, in each copy
     module _ (cluster : 2 ≤ n) (i : ℕ) (h : i < 3) where
       pub head-kept : getD (setBoth second l n v) (512 + i) 0 ≡ getD l (512 + i) 0

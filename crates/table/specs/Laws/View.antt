@@ -6,7 +6,7 @@ use native.Mathlib.Decide.{decLe, decLt}
 use mathlib.Core.Bool.{Bool, true, false, cond, _&&_}
 use mathlib.Core.List.{List}
 use mathlib.Core.Logic.{_⊎_, inl, inr, _≢_}
-use mathlib.Core.Path.{_≡_, refl, sym, _∙_, ap}
+use mathlib.Core.Path.{_≡_, refl, sym, _∙_}
 use lib.Dec.{leb}
 use lib.ListN.{length, getD}
 use borrow.Author.Tests.{le-leb, lt-leb}
@@ -15,7 +15,7 @@ use Rattle.image.specs.Store.{stored}
 use Rattle.image.specs.Laws.Store.{stored-outside}
 use Rattle.image.specs.Laws.Numbers.{number-same}
 use Rattle.table.specs.Entries.{wordAt, entryOf, setBoth, Reaches, Agree, tableOf}
-use Rattle.table.specs.Laws.OneCopy.{entry-small, entry-same}
+use Rattle.table.specs.Laws.OneCopy.{entry-same}
 use Rattle.table.specs.Laws.Copies.{setBoth-same, setBoth-other}
 
 -- ---- its values
@@ -40,12 +40,6 @@ module _ (last : ℕ) (l : List ℕ) (c : ℕ) where
       no : (b : Bool) → cond (b && false) (entryOf l c) 0 ≡ 0
       no true = refl
       no false = refl
-
-  pub table-small : Bytes l → tableOf last l c < 4096
-  table-small b = elim (inside-or-not last c) [
-    | inl h ↦ rw (table-inside (h .0) (h .1)) (entry-small 512 l c b)
-    | inr h ↦ rw (table-outside h) (omega arith)
-  ]
 
 -- equal where the entries of the clusters are
 table-by : (last : ℕ) (m l : List ℕ) (c : ℕ) → (2 ≤ c → c ≤ last → entryOf m c ≡ entryOf l c) → tableOf last m c ≡ tableOf last l c
