@@ -12,6 +12,8 @@
 set -eu
 
 loader=/lib64/ld-linux-x86-64.so.2
+# Without the processor's string moves, which the emulator carries out byte by byte: half the time where images are copied.
+emulator="qemu-x86_64 -cpu qemu64,-erms"
 target=x86_64-unknown-linux-gnu
 native=false
 [ "$(uname -m)" != x86_64 ] || native=true
@@ -68,7 +70,7 @@ case ${1:-} in
   shift 2
   $native && LD_PRELOAD=$library exec "$@"
   need_emulator
-  exec qemu-x86_64 $loader --preload "$library" --library-path /lib/x86_64-linux-gnu "$@"
+  exec $emulator $loader --preload "$library" --library-path /lib/x86_64-linux-gnu "$@"
   ;;
 --cargo)
   shift
@@ -78,7 +80,7 @@ case ${1:-} in
   need_rust
   export RUSTC=/usr/bin/rustc
   export CARGO_TARGET_X86_64_UNKNOWN_LINUX_GNU_LINKER=x86_64-linux-gnu-gcc
-  export CARGO_TARGET_X86_64_UNKNOWN_LINUX_GNU_RUNNER="qemu-x86_64 $loader --library-path /lib/x86_64-linux-gnu"
+  export CARGO_TARGET_X86_64_UNKNOWN_LINUX_GNU_RUNNER="$emulator $loader --library-path /lib/x86_64-linux-gnu"
   with_target "$@"
   ;;
 --count)
@@ -90,6 +92,6 @@ case ${1:-} in
 *)
   $native && exec "$@"
   need_emulator
-  exec qemu-x86_64 $loader --library-path /lib/x86_64-linux-gnu "$@"
+  exec $emulator $loader --library-path /lib/x86_64-linux-gnu "$@"
   ;;
 esac
