@@ -3,17 +3,29 @@ use Prim.Native.Nat.{ℕ, _+_, _-_, _*_, _/_, _%_, _≤_, _<_}
 use native.Mathlib.Omega.{arith}
 use native.Mathlib.Nat.{div-lt-iff-lt-mul}
 use mathlib.Core.Path.{_≡_, sym, _∙_, ap}
+use mathlib.Core.Logic.{inl, inr}
 use mathlib.Core.List.{List, _++_}
 use lib.ListN.{length, getD, take, drop, length-drop}
-use lib.Seq.{take-add, drop-drop, take-all}
+use lib.Seq.{ext-getD, take-add, drop-drop, take-all}
 use Rattle.image.specs.Store.{stored, part}
-use Rattle.image.specs.Laws.Store.{stored-append, part-same, length-part}
+use Rattle.image.specs.Laws.Store.{length-stored, stored-byte, stored-append, part-same, length-part}
 use Rattle.chains.specs.Content.{Room, byteAt, chainBytes, content}
-use Rattle.chains.specs.Write.{poured}
+use Rattle.chains.specs.Write.{splice, poured}
 use Rattle.chains.specs.Laws.Lists.{index-mem}
 use Rattle.chains.specs.Laws.Content.{chain-bytes-length, chain-bytes-at, content-length, content-at}
+use Rattle.chains.specs.Laws.Splice.{splice-length, splice-before, splice-in, splice-after}
 use Rattle.chains.specs.Laws.Poured.{poured-length}
 use Rattle.chains.specs.Laws.Runs.{content-run, poured-run, poured-split}
+
+-- a store inside the list puts the bytes over those that were there
+pub stored-splice : (l : List ℕ) (at : ℕ) (s : List ℕ) → at + length s ≤ length l → stored l at s ≡ splice l at s
+stored-splice l at s f = ext-getD 0 _ _ (length-stored l at s ∙ sym (splice-length l at s (omega arith) ∙ omega arith)) (λ i h. elim (stored-byte l at s i f) [
+  | inr x ↦ x .2 ∙ sym (splice-in l at s i (omega arith) (x .0) (x .1))
+  | inl x ↦ elim (x .0) [
+    | inl q ↦ x .1 ∙ sym (splice-before l at s i (omega arith) q)
+    | inr q ↦ x .1 ∙ sym (splice-after l at s i (omega arith) q)
+  ]
+])
 
 -- two parts side by side are one
 pub part-more : (l : List ℕ) (at n k : ℕ) → part l at (n + k) ≡ part l at n ++ part l (at + n) k

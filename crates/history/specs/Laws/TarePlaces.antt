@@ -14,7 +14,7 @@ use Rattle.opened.specs.Places.{NamesAt, isOpen}
 use Rattle.opened.specs.Records.{placeCount, placeAt, usedOf, slotOf, accessOf, writtenOf, withRecord, withPointer, withWritten, cleared}
 use Rattle.opened.specs.Laws.Places.{closed-is}
 use Rattle.opened.specs.Laws.Records.{Untouched, untouched}
-use Rattle.opened.specs.Laws.Stores.{record-only, record-holds, pointer-only, cleared-only, cleared-holds}
+use Rattle.opened.specs.Laws.Stores.{record-only, record-holds, pointer-only, written-only, written-holds, cleared-only, cleared-holds}
 use Rattle.opened.specs.Laws.Uses.{only-count}
 
 -- place p has access 0, and nothing was written through it
@@ -52,6 +52,10 @@ module _ (t : List ℕ) (s : ℕ) (x : Watched t s) where
     -- a place freed
     pub cleared-watched : Watched (cleared t p) s
     cleared-watched = only-watched (cleared t p) p (cleared-only t p k) (λ n. absurd (clash (n .used) (cleared-holds t p k .used)))
+
+    -- a place of another slot marked as written
+    pub written-watched : slotOf t p ≢ s → Watched (withWritten t p) s
+    written-watched d = only-watched (withWritten t p) p (written-only t p k) (λ n. absurd (d (sym (written-holds t p k .slot) ∙ n .names)))
 
     module _ (v : ℕ) where
       own : Untouched (withPointer t p v) t (placeAt p + 8) 4 p
