@@ -12,7 +12,8 @@
 set -eu
 
 loader=/lib64/ld-linux-x86-64.so.2
-# Without the processor's string moves, which the emulator carries out byte by byte: half the time where images are copied.
+# Without the processor's string moves, which the emulator carries out and counts byte by byte: half the time where images are
+# copied.
 emulator="qemu-x86_64 -cpu qemu64,-erms"
 target=x86_64-unknown-linux-gnu
 native=false
@@ -87,7 +88,7 @@ case ${1:-} in
   plugin=$2
   shift 2
   need_emulator
-  exec qemu-x86_64 -plugin "$plugin" $loader --library-path /lib/x86_64-linux-gnu "$@"
+  exec $emulator -plugin "$plugin" $loader --library-path /lib/x86_64-linux-gnu "$@"
   ;;
 *)
   $native && exec "$@"
