@@ -2,10 +2,11 @@
 //! take no open table, on volumes of all sorts.
 //!
 //! Makes COUNT volumes from the seeds SEED (0), SEED + 1 and so on. On each,
-//! every such call is made on both libraries, with buffers of several lengths.
-//! Answers and all bytes of all buffers must agree, and so must the guard
-//! bytes around the buffers. The first difference is printed with its seed and
-//! ends the run.
+//! every such call is made on both libraries, format on every fourth. The
+//! seed picks lengths, slots and kinds among those that matter. Answers and
+//! all bytes of all buffers must agree, and so must the guard bytes around
+//! the buffers. The first difference is printed with its seed and ends the
+//! run.
 
 use std::process::ExitCode;
 
@@ -50,7 +51,7 @@ impl Trial {
         }
     }
 
-    /// Makes all the calls; the error says where the libraries differ.
+    /// Makes the calls; the error says where the libraries differ.
     fn run(&mut self) -> Result<(), String> {
         self.read_whole()?;
         self.read_parts()?;
@@ -67,9 +68,8 @@ impl Trial {
     /// The readers on the whole image.
     fn read_whole(&mut self) -> Result<(), String> {
         for reader in &READERS {
-            for out in [0, 15, 16, 20] {
-                self.read(reader, self.plain.len(), out)?;
-            }
+            let out = *self.random.pick(&[0, 15, 16, 16, 20]);
+            self.read(reader, self.plain.len(), out)?;
         }
         Ok(())
     }
@@ -79,11 +79,9 @@ impl Trial {
         let whole = self.plain.len();
         let system = self.random.pick(&KINDS).system_bytes();
         let some = self.random.below(whole + 1);
-        for length in [0, 512, 513, system - 1, system, some] {
-            self.read(&READERS[1], length.min(whole), 16)?;
-        }
         for reader in &READERS {
-            self.read(reader, some, 16)?;
+            let length = *self.random.pick(&[0, 512, 513, system - 1, system, some]);
+            self.read(reader, length.min(whole), 16)?;
         }
         Ok(())
     }
@@ -105,11 +103,15 @@ impl Trial {
             .map_err(|what| format!("{name}, {length} bytes, out of {out}: {what}"))
     }
 
-    /// Entry at slots in and out of range.
+    /// Entry at a slot that any root has, at one near a root's end and at one
+    /// that no root has.
     fn read_entries(&mut self) -> Result<(), String> {
         let any = self.random.word() as u32;
-        let mut slots = vec![0, 1, 63, 64, 111, 112, 0x100, 0x8000_0000, u32::MAX, any];
-        slots.extend((0..4).map(|_| self.random.below(112) as u32));
+        let slots = [
+            self.random.below(64) as u32,
+            *self.random.pick(&[63, 64, 65, 110, 111, 112]),
+            *self.random.pick(&[0x100, 0x8000_0000, u32::MAX, any]),
+        ];
         for slot in slots {
             let out = *self.random.pick(&[0, 21, 22, 22, 30]);
             let mut theirs = Guarded::random(out, &mut self.random);
@@ -125,11 +127,12 @@ impl Trial {
         Ok(())
     }
 
-    /// Format with numbers that are no kind, then with each kind.
+    /// Format with a number that is no kind, then with each kind.
     fn format(&mut self) -> Result<(), String> {
         let kind = u32::from(self.random.pick(&KINDS).byte);
         let any = self.random.word() as u32;
-        let mut kinds = vec![0, 0xFB, kind | 0x100, kind | 0xFFFF_FF00, any];
+        let others = [0, 0xFB, kind | 0x100, kind | 0xFFFF_FF00, any];
+        let mut kinds = vec![*self.random.pick(&others)];
         kinds.extend(KINDS.iter().map(|kind| u32::from(kind.byte)));
         for kind in kinds {
             let answers = [

@@ -1,9 +1,7 @@
-//! Work over many seeds, on all cores.
+//! Work over many seeds.
 
 use std::fmt;
 use std::ops::Range;
-use std::sync::atomic::{AtomicU64, Ordering::Relaxed};
-use std::thread;
 
 /// What went wrong at a seed.
 #[derive(Debug)]
@@ -23,63 +21,21 @@ impl fmt::Display for Failure {
     }
 }
 
-/// Does the work for each seed and adds up what it gives. Where it goes wrong
-/// the answer is the lowest such seed's failure, however many cores there are.
-pub fn over_seeds<Sum: Default + Send>(
+/// Does the work for each seed and adds up what it gives, up to the first
+/// failure. On one thread: with a second one an emulator of the archive's
+/// processor puts a barrier at every access to memory, and two threads take
+/// longer than one.
+pub fn over_seeds<Sum: Default>(
     seeds: Range<u64>,
-    work: impl Fn(u64) -> Result<Sum, String> + Sync,
-    add: impl Fn(&mut Sum, Sum) + Sync,
-) -> Result<Sum, Failure> {
-    let workers = thread::available_parallelism().map_or(1, |count| count.get());
-    let lowest_failed = AtomicU64::new(u64::MAX);
-    let shares: Vec<Result<Sum, Failure>> = thread::scope(|scope| {
-        let (work, add, lowest_failed) = (&work, &add, &lowest_failed);
-        let start = |worker| {
-            let share = seeds.clone().skip(worker).step_by(workers);
-            scope.spawn(move || over_share(share, work, add, lowest_failed))
-        };
-        let running: Vec<_> = (0..workers).map(start).collect();
-        let ended = running.into_iter().map(|share| share.join());
-        ended.map(|sum| sum.expect("no work panics")).collect()
-    });
-    add_up(shares, add)
-}
-
-/// One worker's share: up to its first failure, or past another's.
-fn over_share<Sum: Default>(
-    seeds: impl Iterator<Item = u64>,
     work: impl Fn(u64) -> Result<Sum, String>,
     add: impl Fn(&mut Sum, Sum),
-    lowest_failed: &AtomicU64,
 ) -> Result<Sum, Failure> {
     let mut sum = Sum::default();
     for seed in seeds {
-        if seed > lowest_failed.load(Relaxed) {
-            break;
-        }
         match work(seed) {
             Ok(more) => add(&mut sum, more),
-            Err(what) => {
-                lowest_failed.fetch_min(seed, Relaxed);
-                return Err(Failure { seed, what });
-            }
+            Err(what) => return Err(Failure { seed, what }),
         }
     }
     Ok(sum)
-}
-
-fn add_up<Sum: Default>(
-    shares: Vec<Result<Sum, Failure>>,
-    add: impl Fn(&mut Sum, Sum),
-) -> Result<Sum, Failure> {
-    let mut sum = Sum::default();
-    let mut lowest: Option<Failure> = None;
-    for share in shares {
-        match share {
-            Ok(more) => add(&mut sum, more),
-            Err(failure) if lowest.as_ref().is_some_and(|low| low.seed < failure.seed) => {}
-            Err(failure) => lowest = Some(failure),
-        }
-    }
-    lowest.map_or(Ok(sum), Err)
 }

@@ -88,14 +88,15 @@ impl Plan {
 
     /// The bytes from the first copy to the end of the root.
     pub fn tables_and_root(&self) -> Vec<u8> {
-        [self.copy(), self.copy(), self.slots.concat()].concat()
+        let copy = self.copy();
+        [&copy[..], &copy, &self.slots.concat()].concat()
     }
 
     /// The image of the volume.
     pub fn image(&self) -> Vec<u8> {
         let mut image = vec![0; self.kind.image_bytes()];
         if self.noise != 0 {
-            Random::new(self.noise).fill(&mut image);
+            Random::new(self.noise).fill_area(&mut image);
         }
         let system = self.tables_and_root();
         image[SECTOR..SECTOR + system.len()].copy_from_slice(&system);

@@ -53,6 +53,19 @@ impl Random {
         }
     }
 
+    /// Random bytes for a large area, made quickly: one random word, and each
+    /// word after it larger by the same odd number. No two are alike, so that
+    /// bytes in a wrong place show.
+    pub fn fill_area(&mut self, bytes: &mut [u8]) {
+        let mut word = self.word();
+        let (words, rest) = bytes.as_chunks_mut();
+        for place in words {
+            *place = word.to_le_bytes();
+            word = word.wrapping_add(0xD1B5_4A32_D192_ED03);
+        }
+        self.fill(rest);
+    }
+
     pub fn fill(&mut self, bytes: &mut [u8]) {
         let (words, rest) = bytes.as_chunks_mut();
         for word in words {

@@ -40,7 +40,7 @@ pub fn buffer_for(call: &Call, random: &mut Random) -> Vec<u8> {
         _ => 0,
     };
     let mut buffer = vec![0; length];
-    random.fill(&mut buffer);
+    random.fill_area(&mut buffer);
     buffer
 }
 
@@ -279,7 +279,7 @@ impl<'a> Caller<'a> {
             _ => self.random.below(100),
         };
         let mut data = vec![0; length];
-        self.random.fill(&mut data);
+        self.random.fill_area(&mut data);
         data
     }
 

@@ -116,7 +116,7 @@ fn put_file(
     let name = new_name(plan, random);
     let size = file_size(plan.kind, pool.len(), random);
     let mut content = vec![0; size];
-    random.fill(&mut content);
+    random.fill_area(&mut content);
     let needed = size.div_ceil(plan.kind.cluster_bytes());
     let clusters = pool
         .split_off(pool.len() - needed)
