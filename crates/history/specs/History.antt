@@ -14,7 +14,7 @@ use Rattle.names.specs.Reading.{nameOf}
 use Rattle.opened.specs.Records.{slotOf, pointerOf, writtenOf}
 use Rattle.calls.specs.Outcome.{Outcome}
 use Rattle.calls.specs.Refusals.{fileSlot}
-use Rattle.opening.specs.Close.{archived}
+use Rattle.closing.specs.Close.{archived}
 use Rattle.history.specs.Files.{File, file, Files}
 use Rattle.history.specs.World.{World, Call, outcomeOf, step, check, countFree, tellEntry, openFile, create, read, write, seek, close, delete, rename, mode, view}
 

@@ -16,7 +16,7 @@ use Rattle.stamps.specs.declared.Stamp.{Stamp}
 use Rattle.stamps.specs.declared.Packed.the-variants.{Words}
 use Rattle.sound.specs.Judged.{checkOf}
 use Rattle.sound.specs.declared.Verdict.the-variants.{Sound}
-use Rattle.volume.specs.Format.{formatted}
+use Rattle.formatting.specs.Format.{formatted}
 use Rattle.calls.specs.Outcome.{Outcome}
 use Rattle.history.specs.Files.{file, Files, Shows}
 use Rattle.history.specs.World.{World, Call, world, run, answers, create, write, close}

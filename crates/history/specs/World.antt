@@ -9,20 +9,20 @@ use Rattle.stamps.specs.declared.Stamp.{Stamp}
 use Rattle.sound.specs.Judged.{checkOf}
 use Rattle.sound.specs.declared.Verdict.{Verdict}
 use Rattle.sound.specs.declared.Verdict.the-variants.{Sound, Finding}
-use Rattle.volume.specs.FreeSpace.{freeSpace}
-use Rattle.volume.specs.Entry.{entryTold}
+use Rattle.freespace.specs.FreeSpace.{freeSpace}
+use Rattle.entries.specs.Entry.{entryTold}
 use Rattle.opened.specs.Records.{slotOf}
 use Rattle.calls.specs.Outcome.{Outcome, outcome}
 use Rattle.calls.specs.Refusals.{fileSlot}
 use Rattle.opening.specs.Open.{openOutcome}
-use Rattle.opening.specs.Seek.{seekOutcome}
-use Rattle.opening.specs.Close.{closeOutcome}
+use Rattle.seeking.specs.Seek.{seekOutcome}
+use Rattle.closing.specs.Close.{closeOutcome}
 use Rattle.marking.specs.Mode.{modeOutcome}
-use Rattle.marking.specs.Rename.{renameOutcome}
+use Rattle.renaming.specs.Rename.{renameOutcome}
 use Rattle.reading.specs.Read.{readOutcome}
-use Rattle.reading.specs.View.{viewOutcome}
-use Rattle.filing.specs.Create.{createOutcome}
-use Rattle.filing.specs.Delete.{deleteOutcome}
+use Rattle.viewing.specs.View.{viewOutcome}
+use Rattle.creating.specs.Create.{createOutcome}
+use Rattle.deleting.specs.Delete.{deleteOutcome}
 use Rattle.writing.specs.Write.{writeOutcome}
 
 pub record World : Type 0 where

@@ -5,9 +5,9 @@ use stamps::Stamp;
 ghost use mathlib.Core.List.{[], _∷_};
 ghost use mathlib.Core.Path.{_≡_};
 ghost use Rattle.opened.specs.Records.{mark};
-ghost use Rattle.opening.specs.Close.{closeOutcome};
+ghost use Rattle.closing.specs.Close.{closeOutcome};
 ghost use Rattle.opening.specs.Open.{openOutcome};
-ghost use Rattle.opening.specs.Seek.{seekOutcome};
+ghost use Rattle.seeking.specs.Seek.{seekOutcome};
 ghost use Rattle.reading.specs.Read.{readOutcome};
 ghost use Rattle.writing.specs.Write.{writeOutcome};
 ghost use Rattle.lending.specs.Rows.{bytesOf, LeavesRow};
@@ -40,7 +40,7 @@ pub fn seek(img: &[u8], held: OpenRecord, method: u32, offset: i32) -> Done
     ensures { λ r. ⌜ LeavesRow (seekOutcome (now (img .entry)) (bytesOf (held ∷ [])) 0 method offset) (r .answer) (now (img .entry)) (r .held ∷ []) [] ⌝ }
 {
     let mut t = table_of(held);
-    let answer = opening::seek::seek(img, &mut t, 0, method, offset);
+    let answer = seeking::seek::seek(img, &mut t, 0, method, offset);
     let after = lent::from_bytes(&t, 0);
     Done {
         answer,
@@ -76,7 +76,7 @@ pub fn close(img: &mut [u8], held: OpenRecord, stamp: Stamp) -> Done
     ensures { λ r. ⌜ LeavesRow (closeOutcome (now (img .entry)) (bytesOf (held ∷ [])) 0 stamp) (r .answer) (now (img .exit)) (r .held ∷ []) [] ⌝ }
 {
     let mut t = table_of(held);
-    let answer = opening::close::close(img, &mut t, 0, stamp);
+    let answer = closing::close::close(img, &mut t, 0, stamp);
     let after = lent::from_bytes(&t, 0);
     Done {
         answer,

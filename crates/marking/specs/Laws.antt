@@ -1,3 +1,2 @@
 -- The laws of the definitions beside this folder.
 pub mod Mode
-pub mod Rename

@@ -1,4 +1,3 @@
--- A file's entry changed: file mode and rename.
+-- A file's attribute told and changed: file mode.
 pub mod Mode
-pub mod Rename
 pub mod Laws

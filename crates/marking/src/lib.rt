@@ -1,3 +1,2 @@
-// A file's entry changed: rename and file mode.
+// A file's attribute told and changed: file mode.
 pub mod mode;
-pub mod rename;

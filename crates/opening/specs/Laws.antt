@@ -1,4 +1,2 @@
 -- The laws of the definitions beside this folder.
 pub mod Open
-pub mod Seek
-pub mod Close

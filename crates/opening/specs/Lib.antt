@@ -1,5 +1,3 @@
--- Files opened, moved in and closed.
+-- Files opened: open.
 pub mod Open
-pub mod Seek
-pub mod Close
 pub mod Laws

@@ -1,4 +1,2 @@
-// Files opened, moved in and closed: the calls on a place of the open table.
-pub mod close;
+// Files opened: open.
 pub mod open;
-pub mod seek;

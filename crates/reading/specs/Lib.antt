@@ -1,4 +1,3 @@
--- What is read of a file: read into a buffer, and view, a part of the image.
+-- Bytes taken out of files: read.
 pub mod Read
-pub mod View
 pub mod Laws

@@ -1,3 +1,2 @@
-// What is read of a file: read into a buffer, and view, a part of the image.
+// Bytes taken out of files: read.
 pub mod read;
-pub mod view;

@@ -1,8 +1,8 @@
 // Makes the volume of document 01's listing case by the calls, and writes its system area to standard output.
-use filing::create::create;
-use opening::close::close;
+use closing::close::close;
+use creating::create::create;
+use formatting::format::format;
 use stamps::Stamp;
-use volume::format::format;
 use writing::write::write;
 
 // That time of 1983-09-01, in two-second steps.

@@ -9,13 +9,13 @@ use Rattle.sound.specs.Judged.{checkOf, checkOfArea}
 use Rattle.sound.specs.declared.Verdict.{Verdict}
 use Rattle.sound.specs.declared.Verdict.the-variants.{Sound, Finding}
 use Rattle.stamps.specs.declared.Stamp.{Stamp}
-use Rattle.volume.specs.Entry.{entryTold}
-use Rattle.volume.specs.Format.{formatted}
-use Rattle.volume.specs.FreeSpace.{freeSpace}
-use Rattle.volume.specs.declared.EntryAnswer.{EntryAnswer}
-use Rattle.volume.specs.declared.FreeAnswer.{FreeAnswer}
+use Rattle.entries.specs.Entry.{entryTold}
+use Rattle.formatting.specs.Format.{formatted}
+use Rattle.freespace.specs.FreeSpace.{freeSpace}
+use Rattle.entries.specs.declared.EntryAnswer.{EntryAnswer}
+use Rattle.freespace.specs.declared.FreeAnswer.{FreeAnswer}
 use Rattle.calls.specs.Outcome.{Outcome, outcome}
-use Rattle.reading.specs.View.{viewOutcome}
+use Rattle.viewing.specs.View.{viewOutcome}
 use Rattle.scale.specs.Packing.{upper, lower}
 use Rattle.scale.specs.Out.{put, words, fields}
 

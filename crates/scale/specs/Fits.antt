@@ -2,7 +2,7 @@
 use Prim.Native.Nat.{ℕ, _<_}
 use Rattle.sound.specs.declared.Verdict.{Verdict}
 use Rattle.sound.specs.declared.Verdict.the-variants.{Sound, Finding}
-use Rattle.volume.specs.declared.FreeAnswer.{FreeAnswer}
+use Rattle.freespace.specs.declared.FreeAnswer.{FreeAnswer}
 
 abbrev pub Fits : ℕ → Type 0
 Fits n = n < 4294967296

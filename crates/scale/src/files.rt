@@ -3,13 +3,13 @@ use crate::answer;
 use stamps::Stamp;
 ghost use mathlib.Core.List.{[]};
 ghost use mathlib.Core.Path.{_≡_};
-ghost use Rattle.opening.specs.Close.{closeOutcome};
+ghost use Rattle.closing.specs.Close.{closeOutcome};
 ghost use Rattle.marking.specs.Mode.{modeOutcome};
 ghost use Rattle.opening.specs.Open.{openOutcome};
-ghost use Rattle.marking.specs.Rename.{renameOutcome};
-ghost use Rattle.opening.specs.Seek.{seekOutcome};
-ghost use Rattle.filing.specs.Create.{createOutcome};
-ghost use Rattle.filing.specs.Delete.{deleteOutcome};
+ghost use Rattle.renaming.specs.Rename.{renameOutcome};
+ghost use Rattle.seeking.specs.Seek.{seekOutcome};
+ghost use Rattle.creating.specs.Create.{createOutcome};
+ghost use Rattle.deleting.specs.Delete.{deleteOutcome};
 ghost use Rattle.reading.specs.Read.{readOutcome};
 ghost use Rattle.writing.specs.Write.{writeOutcome};
 ghost use Rattle.scale.specs.Calls.{Leaves, viewNumberCall, stampOf};
@@ -53,7 +53,7 @@ pub extern "C" fn bm_create(
     ensures { λ r. ⌜ Leaves (createOutcome (now (img .entry)) (now (t .entry)) (now (name .entry)) attr (stampOf hour minute step year month day)) r (now (img .exit)) (now (t .exit)) [] ⌝ }
 {
     let created = stamp(hour, minute, step, year, month, day);
-    answer::hand(filing::create::create(img, t, name, attr, created))
+    answer::hand(creating::create::create(img, t, name, attr, created))
 }
 
 // Reads from the pointer on: the value is the count.
@@ -77,7 +77,7 @@ pub extern "C" fn bm_write(img: &mut [u8], t: &mut [u8], handle: u32, bytes: &[u
 pub extern "C" fn bm_seek(img: &[u8], t: &mut [u8], handle: u32, method: u32, offset: i32) -> u64
     ensures { λ r. ⌜ Leaves (seekOutcome (now (img .entry)) (now (t .entry)) handle method offset) r (now (img .entry)) (now (t .exit)) [] ⌝ }
 {
-    answer::hand(opening::seek::seek(img, t, handle, method, offset))
+    answer::hand(seeking::seek::seek(img, t, handle, method, offset))
 }
 
 // Closes a file.
@@ -96,7 +96,7 @@ pub extern "C" fn bm_close(
     ensures { λ r. ⌜ Leaves (closeOutcome (now (img .entry)) (now (t .entry)) handle (stampOf hour minute step year month day)) r (now (img .exit)) (now (t .exit)) [] ⌝ }
 {
     let closed = stamp(hour, minute, step, year, month, day);
-    answer::hand(opening::close::close(img, t, handle, closed))
+    answer::hand(closing::close::close(img, t, handle, closed))
 }
 
 // Deletes a file.
@@ -104,7 +104,7 @@ pub extern "C" fn bm_close(
 pub extern "C" fn bm_delete(img: &mut [u8], t: &[u8], name: &[u8]) -> u64
     ensures { λ r. ⌜ Leaves (deleteOutcome (now (img .entry)) (now (t .entry)) (now (name .entry))) r (now (img .exit)) (now (t .entry)) [] ⌝ }
 {
-    answer::hand(filing::delete::delete(img, t, name))
+    answer::hand(deleting::delete::delete(img, t, name))
 }
 
 // Renames a file.
@@ -112,7 +112,7 @@ pub extern "C" fn bm_delete(img: &mut [u8], t: &[u8], name: &[u8]) -> u64
 pub extern "C" fn bm_rename(img: &mut [u8], t: &[u8], name: &[u8], new: &[u8]) -> u64
     ensures { λ r. ⌜ Leaves (renameOutcome (now (img .entry)) (now (t .entry)) (now (name .entry)) (now (new .entry))) r (now (img .exit)) (now (t .entry)) [] ⌝ }
 {
-    answer::hand(marking::rename::rename(img, t, name, new))
+    answer::hand(renaming::rename::rename(img, t, name, new))
 }
 
 // Answers a file's attribute (function 0) or sets it (function 1).
@@ -128,6 +128,6 @@ pub extern "C" fn bm_mode(img: &mut [u8], t: &[u8], name: &[u8], function: u32, 
 pub extern "C" fn bm_view_number(img: &[u8], name: &[u8], offset: u32) -> u64
     ensures { λ r. ⌜ Leaves (viewNumberCall (now (img .entry)) (now (name .entry)) offset) r (now (img .entry)) [] [] ⌝ }
 {
-    let number = reading::view::view_number(img, name, offset);
+    let number = viewing::view::view_number(img, name, offset);
     answer::pack(number, 0)
 }

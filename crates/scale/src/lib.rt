@@ -3,9 +3,9 @@ pub mod answer;
 pub mod files;
 pub mod put;
 
+use entries::EntryAnswer;
+use freespace::FreeAnswer;
 use sound::Verdict;
-use volume::EntryAnswer;
-use volume::FreeAnswer;
 ghost use mathlib.Core.List.{[]};
 ghost use Rattle.scale.specs.Calls.{Leaves, formatCall, verdictTold, checkCall, checkSystemCall, spaceTold, freeSpaceCall, entryTaken, entryCall};
 ghost use Rattle.scale.specs.Fits.{VerdictFits, SpaceFits};
@@ -15,7 +15,7 @@ ghost use Rattle.scale.specs.Fits.{VerdictFits, SpaceFits};
 pub extern "C" fn bm_format(img: &mut [u8], kind: u32) -> u64
     ensures { λ r. ⌜ Leaves (formatCall (now (img .entry)) kind) r (now (img .exit)) [] [] ⌝ }
 {
-    let number = volume::format::format(img, kind);
+    let number = formatting::format::format(img, kind);
     answer::pack(number, 0)
 }
 
@@ -72,7 +72,7 @@ fn tell_space(a: FreeAnswer, out: &mut [u8]) -> u64
 pub extern "C" fn bm_free_space(img: &[u8], out: &mut [u8]) -> u64
     ensures { λ r. ⌜ Leaves (freeSpaceCall (now (img .entry)) (now (out .entry))) r (now (img .entry)) [] (now (out .exit)) ⌝ }
 {
-    let a = volume::free_space::free_space(img);
+    let a = freespace::free_space::free_space(img);
     tell_space(a, out)
 }
 
@@ -93,6 +93,6 @@ fn tell_entry(e: EntryAnswer, out: &mut [u8]) -> u64
 pub extern "C" fn bm_entry(img: &[u8], slot: u32, out: &mut [u8]) -> u64
     ensures { λ r. ⌜ Leaves (entryCall (now (img .entry)) slot (now (out .entry))) r (now (img .entry)) [] (now (out .exit)) ⌝ }
 {
-    let e = volume::entry::entry(img, slot);
+    let e = entries::entry::entry(img, slot);
     tell_entry(e, out)
 }

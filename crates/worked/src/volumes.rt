@@ -1,10 +1,10 @@
 // The worked numbers that need a volume: a full disk, a full root, a table without places.
 use crate::print;
-use filing::create::create;
-use opening::close::close;
+use closing::close::close;
+use creating::create::create;
+use formatting::format::format;
+use freespace::free_space::free_space;
 use stamps::Stamp;
-use volume::format::format;
-use volume::free_space::free_space;
 use writing::write::write;
 
 // Any time does: 1983-09-01 06:40:00.

@@ -22,8 +22,8 @@ use Rattle.sound.specs.Files.{valueOf, IsFile}
 use Rattle.sound.specs.Sound.{Sound}
 use Rattle.sound.specs.Laws.Copies.{no-difference-from}
 use Rattle.sound.specs.Laws.IsSound.{known-says}
-use Rattle.volume.specs.Format.{blank, formatted}
-use Rattle.volume.specs.Laws.Blank.{blank-head, blank-agrees, blank-table, blank-slot, blank-bytes, kind-of-blank}
+use Rattle.formatting.specs.Format.{blank, formatted}
+use Rattle.formatting.specs.Laws.Blank.{blank-head, blank-agrees, blank-table, blank-slot, blank-bytes, kind-of-blank}
 use Rattle.history.specs.Files.{Shows}
 use Rattle.history.specs.Promises.{Begins}
 use Rattle.history.specs.World.{world}

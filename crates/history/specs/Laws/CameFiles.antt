@@ -33,10 +33,10 @@ use Rattle.calls.specs.Refusals.{isNothing, placeFound, noFile, fileSlot, slotF
 use Rattle.calls.specs.Laws.Ready.{on-kind, on-usable}
 use Rattle.holding.specs.Holding.{FileIn}
 use Rattle.holding.specs.Laws.Chain.{slot-fits}
-use Rattle.filing.specs.Create.{made, madeBy, createRows, createEffect, createOutcome}
-use Rattle.filing.specs.Delete.{erasedIn, deleteRows, deleteEffect, deleteOutcome}
-use Rattle.filing.specs.Freed.{chainFreed}
-use Rattle.filing.specs.Laws.Create.{open-below}
+use Rattle.creating.specs.Create.{made, madeBy, createRows, createEffect, createOutcome}
+use Rattle.deleting.specs.Delete.{erasedIn, deleteRows, deleteEffect, deleteOutcome}
+use Rattle.freeing.specs.Freed.{chainFreed}
+use Rattle.creating.specs.Laws.Create.{open-below}
 use Rattle.putting.specs.Written.{writtenIn}
 use Rattle.writing.specs.Write.{writeCount, writeRows, writeEffect, writeOutcome, writeAt}
 use Rattle.history.specs.Came.{Came, stays}

@@ -19,9 +19,9 @@ use Rattle.opened.specs.Records.{slotOf, writtenOf}
 use Rattle.calls.specs.Outcome.{Outcome, refusal}
 use Rattle.calls.specs.Refusals.{noFile, fileSlot, badAttr, isOut}
 use Rattle.calls.specs.Laws.Ready.{on-kind}
-use Rattle.opening.specs.Close.{stamped, stampedBy, closeRows, closeEffect, closeOutcome}
+use Rattle.closing.specs.Close.{stamped, stampedBy, closeRows, closeEffect, closeOutcome}
 use Rattle.marking.specs.Mode.{modeRows, modeEffect, modeOutcome}
-use Rattle.marking.specs.Rename.{renameRows, renameEffect, renameOutcome}
+use Rattle.renaming.specs.Rename.{renameRows, renameEffect, renameOutcome}
 use Rattle.history.specs.Came.{Came, stays}
 use Rattle.history.specs.History as history
 use Rattle.history.specs.Promises.{Begins}

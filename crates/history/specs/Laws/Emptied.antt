@@ -30,7 +30,7 @@ use Rattle.calls.specs.Laws.Ready.{on-usable}
 use Rattle.holding.specs.Holding.{fileChain, FileIn}
 use Rattle.holding.specs.Laws.Chain.{file-chain}
 use Rattle.holding.specs.Laws.Clusters.{copies-reach}
-use Rattle.filing.specs.Freed.{chainFreed}
+use Rattle.freeing.specs.Freed.{chainFreed}
 use Rattle.history.specs.Changed.{Framed, GoodSlot, SlotChanged}
 use Rattle.history.specs.Laws.Changed.{on-theory}
 use Rattle.history.specs.Laws.Frames.{frame-same, frame-then, entry-frame, entry-table, entry-touches, links-frame, links-touch}

@@ -18,8 +18,8 @@ use Rattle.calls.specs.Ready.{OnVolume}
 use Rattle.calls.specs.Laws.Ready.{on-usable}
 use Rattle.holding.specs.Holding.{FileIn}
 use Rattle.holding.specs.Laws.Chain.{file-within}
-use Rattle.filing.specs.Freed.{chainFreed}
-use Rattle.filing.specs.Delete.{erasedIn}
+use Rattle.freeing.specs.Freed.{chainFreed}
+use Rattle.deleting.specs.Delete.{erasedIn}
 use Rattle.history.specs.Changed.{SlotChanged}
 use Rattle.history.specs.Laws.Emptied.{Emptied, file-emptied, entry-emptied, emptied-changed}
 use Rattle.history.specs.Laws.Slots.{used-lower}

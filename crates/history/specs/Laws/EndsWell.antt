@@ -27,8 +27,8 @@ use Rattle.calls.specs.Outcome.{outcome, refusal, decided}
 use Rattle.calls.specs.Ready.{OnVolume}
 use Rattle.calls.specs.Refusals.{badAttr, fileFound, slotForNew, notLive}
 use Rattle.calls.specs.Laws.Ready.{on-kind}
-use Rattle.filing.specs.Create.{made, createOutcome}
-use Rattle.opening.specs.Close.{closeEffect, closeOutcome}
+use Rattle.creating.specs.Create.{made, createOutcome}
+use Rattle.closing.specs.Close.{closeEffect, closeOutcome}
 use Rattle.putting.specs.Longer.{roomOf}
 use Rattle.putting.specs.Written.{writtenIn}
 use Rattle.writing.specs.Write.{writeCount, writeOutcome, writeAt}

@@ -28,9 +28,9 @@ use Rattle.opened.specs.Records.{slotOf, withRecord, withPointer, withWritten, 
 use Rattle.calls.specs.Outcome.{Outcome, outcome}
 use Rattle.calls.specs.Laws.Ready.{on-kind, on-usable}
 use Rattle.calls.specs.Laws.Files.{slot-within}
-use Rattle.opening.specs.Close.{archived, stamped, closeEffect}
+use Rattle.closing.specs.Close.{archived, stamped, closeEffect}
 use Rattle.holding.specs.Laws.Clusters.{on-clusters}
-use Rattle.filing.specs.Create.{made}
+use Rattle.creating.specs.Create.{made}
 use Rattle.putting.specs.Written.{writtenIn}
 use Rattle.history.specs.Files.{File, file, Files, ShowsAt}
 use Rattle.history.specs.History as history

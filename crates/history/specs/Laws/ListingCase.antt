@@ -22,10 +22,10 @@ use Rattle.names.specs.Spelling.{every, eleven}
 use Rattle.names.specs.declared.Spelled.{Spelled}
 use Rattle.stamps.specs.Stamps.{packed, timeFits, dateFits}
 use Rattle.stamps.specs.declared.Packed.the-variants.{Words}
-use Rattle.volume.specs.Format.{blank, formatted}
-use Rattle.volume.specs.Laws.Blank.{blank-slot}
+use Rattle.formatting.specs.Format.{blank, formatted}
+use Rattle.formatting.specs.Laws.Blank.{blank-slot}
 use Rattle.calls.specs.Refusals.{badAttr}
-use Rattle.opening.specs.Close.{archived}
+use Rattle.closing.specs.Close.{archived}
 use Rattle.history.specs.Files.{File, file, Files, ShowsAt}
 use Rattle.history.specs.ListingCase.{tareGiven, tareName, dayGiven, dayName, timeThen, fileCalls, listingFiles, ListingEnds, ListingCase}
 use Rattle.history.specs.World.{World, world, run}

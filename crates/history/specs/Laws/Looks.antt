@@ -13,9 +13,9 @@ use Rattle.sound.specs.declared.Verdict.{Verdict}
 use Rattle.sound.specs.declared.Verdict.the-variants.{Sound, Finding}
 use Rattle.calls.specs.Outcome.{Outcome}
 use Rattle.opening.specs.Open.{openRows, openEffect, openOutcome}
-use Rattle.opening.specs.Seek.{seekRows, seekEffect, seekOutcome}
+use Rattle.seeking.specs.Seek.{seekRows, seekEffect, seekOutcome}
 use Rattle.reading.specs.Read.{readRows, readEffect, readOutcome}
-use Rattle.reading.specs.View.{viewRows, viewOutcome}
+use Rattle.viewing.specs.View.{viewRows, viewOutcome}
 use Rattle.history.specs.Came.{Came, stays}
 use Rattle.history.specs.Files.{Files}
 use Rattle.history.specs.History.{changes, after}

@@ -36,7 +36,7 @@ use Rattle.calls.specs.Ready.{OnVolume}
 use Rattle.calls.specs.Laws.Files.{root-within, slot-within}
 use Rattle.calls.specs.Laws.Ready.{on-usable}
 use Rattle.holding.specs.Holding.{FileIn}
-use Rattle.filing.specs.Freed.{chainFreed}
+use Rattle.freeing.specs.Freed.{chainFreed}
 use Rattle.history.specs.Changed.{SlotChanged}
 use Rattle.history.specs.Files.{file, Holds}
 use Rattle.history.specs.Laws.Emptied.{Emptied, file-emptied, none-emptied, entry-emptied, emptied-changed}

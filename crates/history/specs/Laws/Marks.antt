@@ -52,8 +52,8 @@ use Rattle.calls.specs.Refusals.{badAttr}
 use Rattle.calls.specs.Laws.Attribute.{attr-fits}
 use Rattle.calls.specs.Laws.Files.{root-within}
 use Rattle.calls.specs.Laws.Ready.{on-usable}
-use Rattle.opening.specs.Close.{archived, stamped}
-use Rattle.opening.specs.Laws.Close.{archived-fits}
+use Rattle.closing.specs.Close.{archived, stamped}
+use Rattle.closing.specs.Laws.Close.{archived-fits}
 use Rattle.holding.specs.Holding.{FileIn}
 use Rattle.holding.specs.Laws.Chain.{file-within}
 use Rattle.holding.specs.Laws.Clusters.{on-clusters}

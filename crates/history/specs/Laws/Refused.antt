@@ -17,16 +17,16 @@ use Rattle.calls.specs.Refusals.{noFile, fileSlot, slotForNew, placeFound, theK
 use Rattle.names.specs.Reading.{nameOf}
 use Rattle.stamps.specs.Stamps.{packed}
 use Rattle.stamps.specs.declared.Stamp.{Stamp}
-use Rattle.filing.specs.Freed.{chainFreed}
+use Rattle.freeing.specs.Freed.{chainFreed}
 use Rattle.opening.specs.Open.{openEffect, openOutcome}
-use Rattle.opening.specs.Seek.{seekEffect, seekOutcome}
-use Rattle.opening.specs.Close.{closeEffect, closeOutcome}
+use Rattle.seeking.specs.Seek.{seekEffect, seekOutcome}
+use Rattle.closing.specs.Close.{closeEffect, closeOutcome}
 use Rattle.marking.specs.Mode.{modeEffect, modeOutcome}
-use Rattle.marking.specs.Rename.{renameEffect, renameOutcome}
+use Rattle.renaming.specs.Rename.{renameEffect, renameOutcome}
 use Rattle.reading.specs.Read.{readRows, readEffect, readOutcome}
-use Rattle.reading.specs.View.{viewOutcome}
-use Rattle.filing.specs.Create.{createEffect, createOutcome, madeBy}
-use Rattle.filing.specs.Delete.{deleteEffect, deleteOutcome}
+use Rattle.viewing.specs.View.{viewOutcome}
+use Rattle.creating.specs.Create.{createEffect, createOutcome, madeBy}
+use Rattle.deleting.specs.Delete.{deleteEffect, deleteOutcome}
 use Rattle.opened.specs.Records.{pointerOf}
 use Rattle.writing.specs.Write.{writeCount, writeEffect, writeOutcome, writeAt}
 use Rattle.history.specs.Promises.{RefusalsLeaveAll, RefusedReadsLeaveBuffer}

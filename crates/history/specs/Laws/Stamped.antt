@@ -14,7 +14,7 @@ use Rattle.directory.specs.Fields.{attrOf, timeOf, dateOf, withAttr, withTime}
 use Rattle.directory.specs.Laws.Entries.{word-leaves, word-back}
 use Rattle.stamps.specs.declared.Stamp.{Stamp}
 use Rattle.stamps.specs.declared.Packed.the-variants.{Words}
-use Rattle.opening.specs.Close.{archived, stamped}
+use Rattle.closing.specs.Close.{archived, stamped}
 use Rattle.history.specs.ListingCase.{HasStamp}
 
 -- an entry with words stored in it has them

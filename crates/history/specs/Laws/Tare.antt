@@ -18,7 +18,7 @@ use Rattle.sound.specs.declared.Verdict.the-variants.{Sound, Finding}
 use Rattle.calls.specs.Ready.{OnVolume}
 use Rattle.calls.specs.Refusals.{readOnly}
 use Rattle.calls.specs.Laws.Ready.{on-kind}
-use Rattle.reading.specs.View.{viewOutcome}
+use Rattle.viewing.specs.View.{viewOutcome}
 use Rattle.history.specs.Came.{Came}
 use Rattle.history.specs.Files.{File, Holds}
 use Rattle.history.specs.Promises.{Given, AllGiven, Begins}

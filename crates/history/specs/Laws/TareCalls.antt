@@ -27,14 +27,14 @@ use Rattle.calls.specs.Ready.{OnVolume}
 use Rattle.calls.specs.Refusals.{isNothing, placeFound, theKind, noFile, fileSlot, readOnly, notLive, noPlace, freePlace, slotForNew}
 use Rattle.calls.specs.Laws.Ready.{on-usable}
 use Rattle.holding.specs.Holding.{FileIn}
-use Rattle.filing.specs.Create.{made, madeBy, createRows, createEffect, createOutcome}
-use Rattle.filing.specs.Delete.{deleteRows, deleteEffect, deleteOutcome}
-use Rattle.filing.specs.Freed.{chainFreed}
+use Rattle.creating.specs.Create.{made, madeBy, createRows, createEffect, createOutcome}
+use Rattle.deleting.specs.Delete.{deleteRows, deleteEffect, deleteOutcome}
+use Rattle.freeing.specs.Freed.{chainFreed}
 use Rattle.marking.specs.Mode.{modeRows, modeEffect, modeOutcome}
-use Rattle.marking.specs.Rename.{renameRows, renameEffect, renameOutcome}
-use Rattle.opening.specs.Close.{closeRows, closeEffect, closeOutcome}
+use Rattle.renaming.specs.Rename.{renameRows, renameEffect, renameOutcome}
+use Rattle.closing.specs.Close.{closeRows, closeEffect, closeOutcome}
 use Rattle.opening.specs.Open.{openRows, openEffect, openOutcome}
-use Rattle.opening.specs.Seek.{seekRows, seekEffect, seekOutcome}
+use Rattle.seeking.specs.Seek.{seekRows, seekEffect, seekOutcome}
 use Rattle.reading.specs.Read.{readRows, readEffect, readOutcome}
 use Rattle.writing.specs.Write.{writeCount, writeRows, writeAt, writeEffect, writeOutcome}
 use Rattle.history.specs.World.{World}

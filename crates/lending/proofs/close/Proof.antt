@@ -47,7 +47,7 @@ use Rattle.stamps.proofs.Stamp.Laws as StmLaws
 use Rattle.calls.specs.declared.Answer.{Answer}
 use Rattle.calls.proofs.Answer as Ans
 use Rattle.calls.proofs.Answer.Laws as AnsLaws
-use Rattle.opening.specs.Close.{closeOutcome}
+use Rattle.closing.specs.Close.{closeOutcome}
 use Rattle.lent.specs.declared.OpenRecord.{OpenRecord}
 use Rattle.lent.proofs.OpenRecord as Rec
 use Rattle.lent.proofs.OpenRecord.Laws as RecLaws

@@ -48,7 +48,7 @@ use denote.Signed.{sint-vals, sint-tells, sint-makes}
 use Rattle.calls.specs.declared.Answer.{Answer}
 use Rattle.calls.proofs.Answer as Ans
 use Rattle.calls.proofs.Answer.Laws as AnsLaws
-use Rattle.opening.specs.Seek.{seekOutcome}
+use Rattle.seeking.specs.Seek.{seekOutcome}
 use Rattle.lent.specs.declared.OpenRecord.{OpenRecord}
 use Rattle.lent.proofs.OpenRecord as Rec
 use Rattle.lent.proofs.OpenRecord.Laws as RecLaws

@@ -11,8 +11,8 @@ use Rattle.calls.specs.Outcome.{Outcome}
 use Rattle.calls.specs.Refusals.{placeFound}
 use Rattle.calls.specs.declared.Answer.{Answer}
 use Rattle.opening.specs.Open.{openOutcome}
-use Rattle.opening.specs.Seek.{seekOutcome}
-use Rattle.opening.specs.Close.{closeOutcome}
+use Rattle.seeking.specs.Seek.{seekOutcome}
+use Rattle.closing.specs.Close.{closeOutcome}
 use Rattle.reading.specs.Read.{readOutcome}
 use Rattle.writing.specs.Write.{writeOutcome}
 use Rattle.lent.specs.Row.{rowOf, recordAt, withRecordAt, lowestUnusedIn}

@@ -15,8 +15,8 @@ use Rattle.stamps.specs.declared.Stamp.{Stamp}
 use Rattle.calls.specs.Outcome.{Outcome, outcome}
 use Rattle.calls.specs.declared.Answer.{Answer}
 use Rattle.opening.specs.Open.{openOutcome, Opens}
-use Rattle.opening.specs.Seek.{seekOutcome, Seeks}
-use Rattle.opening.specs.Close.{closeOutcome, Closes}
+use Rattle.seeking.specs.Seek.{seekOutcome, Seeks}
+use Rattle.closing.specs.Close.{closeOutcome, Closes}
 use Rattle.reading.specs.Read.{readOutcome, Reads}
 use Rattle.writing.specs.Write.{writeOutcome, Writes}
 use Rattle.lent.specs.Row.{rowFrom, rowOf, recordAt}

@@ -21,8 +21,8 @@ use Rattle.opened.specs.Laws.Stores.{pointer-only}
 use Rattle.opened.specs.Laws.Uses.{only-count}
 use Rattle.calls.specs.Outcome.{Row, Outcome, outcome, decided}
 use Rattle.calls.specs.Refusals.{theKind, notOfKind, notSound, badStamp, notLive, addressOf}
-use Rattle.opening.specs.Seek.{seekBase, seekMoved, isBeyond, pointerMoved, seekEffect, seekOutcome}
-use Rattle.opening.specs.Close.{closeEffect, closeOutcome}
+use Rattle.seeking.specs.Seek.{seekBase, seekMoved, isBeyond, pointerMoved, seekEffect, seekOutcome}
+use Rattle.closing.specs.Close.{closeEffect, closeOutcome}
 use Rattle.reading.specs.Read.{readCount, readEffect, readOutcome}
 use Rattle.putting.specs.Written.{writtenIn}
 use Rattle.writing.specs.Write.{writeCount, writeAt, writeEffect, writeOutcome}

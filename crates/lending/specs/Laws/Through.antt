@@ -8,8 +8,8 @@ use lib.ListN.{getD}
 use Rattle.stamps.specs.declared.Stamp.{Stamp}
 use Rattle.calls.specs.Outcome.{Outcome}
 use Rattle.calls.specs.declared.Answer.{Answer}
-use Rattle.opening.specs.Seek.{seekOutcome}
-use Rattle.opening.specs.Close.{closeOutcome}
+use Rattle.seeking.specs.Seek.{seekOutcome}
+use Rattle.closing.specs.Close.{closeOutcome}
 use Rattle.reading.specs.Read.{readOutcome}
 use Rattle.writing.specs.Write.{writeOutcome}
 use Rattle.lent.specs.Row.{unused, rowOf, recordAt, withRecordAt}

@@ -12,7 +12,7 @@ use Rattle.offset.specs.declared.Moved.the-variants.{To, Beyond}
 use Rattle.opened.specs.Records.{slotOf, withPointer}
 use Rattle.calls.specs.Outcome.{outcome, refusal, decided}
 use Rattle.calls.specs.Refusals.{notOfKind, notSound, notLive, addressOf}
-use Rattle.opening.specs.Seek.{seekBase, isBeyond, pointerMoved, seekOutcome}
+use Rattle.seeking.specs.Seek.{seekBase, isBeyond, pointerMoved, seekOutcome}
 use Rattle.lent.specs.Row.{recordOf}
 use Rattle.lent.specs.Seek.{baseFrom, seekFrom, answerOf}
 

@@ -12,19 +12,19 @@ use Rattle.sound.specs.Answer.{Checked, CheckedArea}
 use Rattle.sound.specs.Laws.OneAnswer.{checked-is, area-is}
 use Rattle.sound.specs.declared.Verdict.{Verdict}
 use Rattle.sound.specs.declared.Verdict.the-variants.{Sound, Finding}
-use Rattle.volume.specs.Entry.{Told}
-use Rattle.volume.specs.Format as blank
-use Rattle.volume.specs.Format.{Formatted}
-use Rattle.volume.specs.FreeSpace.{Spaced}
-use Rattle.volume.specs.declared.EntryAnswer.{EntryAnswer}
-use Rattle.volume.specs.declared.FreeAnswer.{FreeAnswer}
+use Rattle.entries.specs.Entry.{Told}
+use Rattle.formatting.specs.Format as blank
+use Rattle.formatting.specs.Format.{Formatted}
+use Rattle.freespace.specs.FreeSpace.{Spaced}
+use Rattle.entries.specs.declared.EntryAnswer.{EntryAnswer}
+use Rattle.freespace.specs.declared.FreeAnswer.{FreeAnswer}
 use Rattle.calls.specs.Outcome.{Outcome, outcome}
-use Rattle.opening.specs.Close.{closeOutcome, Closes}
-use Rattle.opening.specs.Seek.{seekOutcome, Seeks}
-use Rattle.opening.specs.Laws.Seek.{seek-handed}
+use Rattle.closing.specs.Close.{closeOutcome, Closes}
+use Rattle.seeking.specs.Seek.{seekOutcome, Seeks}
+use Rattle.seeking.specs.Laws.Seek.{seek-handed}
 use Rattle.calls.specs.declared.Answer.{Answer}
-use Rattle.filing.specs.Create.{createOutcome, Creates}
-use Rattle.reading.specs.View.{ViewNumbers}
+use Rattle.creating.specs.Create.{createOutcome, Creates}
+use Rattle.viewing.specs.View.{ViewNumbers}
 use Rattle.stamps.specs.declared.Stamp.{Stamp}
 use Rattle.scale.specs.Packing.{Packs}
 use Rattle.scale.specs.Out.{put, words, fields}

@@ -32,9 +32,9 @@ use Rattle.sound.specs.Laws.Sound.{sound-exactly}
 use Rattle.sound.specs.Laws.Total.{total}
 use Rattle.sound.specs.declared.Verdict.{Verdict}
 use Rattle.sound.specs.declared.Verdict.the-variants.{Finding}
-use Rattle.volume.specs.FreeSpace.{noSpace, freeSpace, Spaced}
-use Rattle.volume.specs.declared.FreeAnswer.{FreeAnswer}
-use Rattle.volume.specs.Laws.FreeSpace.{space-unknown, space-unsound, space-sound}
+use Rattle.freespace.specs.FreeSpace.{noSpace, freeSpace, Spaced}
+use Rattle.freespace.specs.declared.FreeAnswer.{FreeAnswer}
+use Rattle.freespace.specs.Laws.FreeSpace.{space-unknown, space-unsound, space-sound}
 use Rattle.scale.specs.Fits.{Fits, VerdictFits, SpaceFits}
 
 -- ---- what bounds them

@@ -1,0 +1,3 @@
+-- Files closed: close.
+pub mod Close
+pub mod Laws

@@ -1,0 +1,2 @@
+// Files closed: close.
+pub mod close;

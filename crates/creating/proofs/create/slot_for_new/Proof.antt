@@ -1,0 +1,21 @@
+-- The root of a ready volume stands within its image.
+use Rattle.calls.specs.Laws.Ready.{on-usable}
+use Rattle.calls.specs.Laws.Files.{root-within}
+use Rattle.creating.proofs.create.slot_for_new.Statement.{statement}
+use Rattle.creating.proofs.create.slot_for_new.Tie as tie
+
+root-at-requires : tie.Need-root-at-requires
+root-at-requires c κs = search on-usable
+
+root-entries-requires : tie.Need-root-entries-requires
+root-entries-requires c κs = search on-usable
+
+lowest-open-slot-requires : tie.Need-lowest-open-slot-requires
+lowest-open-slot-requires c κs = search root-within
+
+returns : tie.Need-returns
+returns c = cc
+
+pub slot-for-new-spec : {M : Type 1} → statement M
+slot-for-new-spec =
+    tie.close (tie.spec root-at-requires root-entries-requires lowest-open-slot-requires returns)

@@ -1,0 +1,3 @@
+-- Files made: create.
+pub mod Create
+pub mod Laws

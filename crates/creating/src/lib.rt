@@ -1,0 +1,2 @@
+// Files made: create.
+pub mod create;

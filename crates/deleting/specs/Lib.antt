@@ -1,0 +1,3 @@
+-- Files ended: delete.
+pub mod Delete
+pub mod Laws

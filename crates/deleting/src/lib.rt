@@ -1,0 +1,2 @@
+// Files ended: delete.
+pub mod delete;

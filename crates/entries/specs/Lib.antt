@@ -1,0 +1,3 @@
+-- What stands in a slot: entry at a slot.
+pub mod Entry
+pub mod Laws

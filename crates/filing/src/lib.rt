@@ -1,4 +1,0 @@
-// Files made and ended: create and delete.
-pub mod create;
-pub mod delete;
-pub mod freed;

@@ -1,0 +1,3 @@
+-- A new volume: format.
+pub mod Format
+pub mod Laws

@@ -1,0 +1,2 @@
+// A new volume: format.
+pub mod format;

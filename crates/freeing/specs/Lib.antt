@@ -1,0 +1,3 @@
+-- The clusters of a file given back.
+pub mod Freed
+pub mod Laws

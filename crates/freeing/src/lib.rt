@@ -1,0 +1,2 @@
+// The clusters of a file given back.
+pub mod freed;

@@ -1,0 +1,3 @@
+-- The space that is left: free space.
+pub mod FreeSpace
+pub mod Laws

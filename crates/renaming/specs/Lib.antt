@@ -1,0 +1,3 @@
+-- A file's name changed: rename.
+pub mod Rename
+pub mod Laws

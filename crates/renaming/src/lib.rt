@@ -1,0 +1,2 @@
+// A file's name changed: rename.
+pub mod rename;

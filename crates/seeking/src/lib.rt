@@ -1,0 +1,2 @@
+// The pointer of an open file moved: seek.
+pub mod seek;

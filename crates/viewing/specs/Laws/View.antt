@@ -1,0 +1,135 @@
+-- View: the part of the image, and each way out, by the rows passed before it. Only one part and one number fit.
+use Prim.Native.Nat.{ℕ, _+_, _-_, _*_, _≤_, _<_, _/_, _%_}
+use native.Mathlib.Omega.{arith}
+use native.Mathlib.Decide.{decLt}
+use mathlib.Core.Bool.{true, false, not}
+use mathlib.Core.List.{List, []}
+use mathlib.Core.Path.{_≡_, refl, sym, ap, _∙_}
+use lib.ListN.{length, getD}
+use Rattle.image.specs.Store.{part}
+use Rattle.contents.specs.Contents.{chainFrom, placeOf}
+use Rattle.contents.specs.Laws.Chain.{chain-room}
+use Rattle.diskette.specs.Places.{firstData, clusterBytes, lastCluster, rootAt, rootEntries, slotAt}
+use Rattle.diskette.specs.declared.Kind.{Kind}
+use Rattle.search.specs.declared.Found.{Found}
+use Rattle.search.specs.declared.Found.the-variants.{At, Nothing}
+use Rattle.directory.specs.Fields.{startOf, sizeOf}
+use Rattle.calls.specs.Outcome.{Outcome, refusal, decided}
+use Rattle.calls.specs.Ready.{readyOf, OnVolume}
+use Rattle.calls.specs.Laws.Ready.{on-kind, known-passed, sound-passed, ready-refused}
+use Rattle.calls.specs.Laws.Files.{found-is}
+use Rattle.calls.specs.declared.Ready.{Ready}
+use Rattle.calls.specs.declared.Ready.the-variants.{Refused}
+use native.Mathlib.Nat.{div-lt-iff-lt-mul, mod-lt}
+use Rattle.chains.specs.Content.{byteAt}
+use Rattle.chains.specs.Laws.Lists.{index-mem}
+use Rattle.chains.specs.Laws.Runs.{content-run}
+use Rattle.holding.specs.Holding.{fileBytes, FileIn}
+use Rattle.holding.specs.Laws.Clusters.{on-clusters}
+use Rattle.holding.specs.Laws.Chain.{file-holds}
+use Rattle.directory.specs.Search.{slotNamed}
+use Rattle.names.specs.declared.Spelled.{Spelled}
+use Rattle.viewing.specs.View.{viewCount, viewAt, viewPart, viewOutcome, Views, ViewNumbers, Sees, SeesFile}
+use Rattle.names.specs.Reading as reading
+
+pub views-only : {img s : List ℕ} {offset : ℕ} {p q : List ℕ} → Views img s offset p → Views img s offset q → p ≡ q
+views-only x y = x .is ∙ sym (y .is)
+
+pub view-numbers-only : {img s : List ℕ} {offset p q : ℕ} → ViewNumbers img s offset p → ViewNumbers img s offset q → p ≡ q
+view-numbers-only x y = x .is ∙ sym (y .is)
+
+-- ---- how many bytes
+
+pub offset-inside : (cb offset : ℕ) → 0 < cb → offset % cb ≤ cb
+offset-inside cb offset wide = omega (arith, mod-lt offset wide)
+
+-- ---- the file in a slot of a volume that is ready
+
+module _ (img : List ℕ) (k : Kind) (v : OnVolume img k) (slot : ℕ) (i : FileIn img k slot) (a : ℕ) (ae : a ≡ slotAt k slot) (size : ℕ) (sized : size ≡ sizeOf img a) (offset : ℕ) where
+  pub see-none : size ≤ offset → SeesFile img k slot offset 0 0 0
+  unfolding viewPart
+  see-none h = record {
+    number-is = refl;
+    part-is =
+        let z : viewCount (clusterBytes k) (sizeOf img (slotAt k slot)) offset ≡ 0 = rw (← ae, ← sized) (omega arith) in
+        rw z;
+    inside = omega arith;
+  }
+
+  module _ (more : offset < size) (cb last start : ℕ) (ce : cb ≡ clusterBytes k) (le : last ≡ lastCluster k) (se : start ≡ startOf img a) where
+    holds : offset < length (chainFrom (lastCluster k) img (startOf img (slotAt k slot))) * clusterBytes k
+    holds =
+        let h = file-holds img k v slot i in
+        let g : offset < sizeOf img (slotAt k slot) = rw (← ae, ← sized) more in
+        omega (arith, h, g)
+
+    pub see-room : offset < length (chainFrom last img start) * cb
+    see-room = rw (se, ae, ce, le) holds
+
+    room : viewAt k img slot offset + viewCount (clusterBytes k) size offset ≤ length img
+    unfolding byteAt
+    room =
+        let cs = chainFrom (lastCluster k) img (startOf img (slotAt k slot)) in
+        let w : 0 < clusterBytes k = on-clusters img k v .wide in
+        let inside : offset / clusterBytes k < length cs = div-lt-iff-lt-mul {k = clusterBytes k} {x = offset} {y = length cs} w .1 holds in
+        let r = chain-room (512 * firstData k) (clusterBytes k) (lastCluster k) img (startOf img (slotAt k slot)) (on-clusters img k v) (getD cs (offset / clusterBytes k) 0) (index-mem cs (offset / clusterBytes k) inside) .1 in
+        omega (arith, r, mod-lt offset w)
+
+    pub see-some : (first at bytes : ℕ) → first ≡ firstData k → at ≡ placeOf (512 * first) cb last img start offset → bytes ≡ viewCount cb size offset → SeesFile img k slot offset 0 at bytes
+    unfolding viewPart
+    see-some first at bytes fe pe be =
+        let p : at ≡ viewAt k img slot offset = rw (pe, fe, ce, le, se, ae) in
+        let n : bytes ≡ viewCount (clusterBytes k) size offset = rw (be, ce) in
+        record {
+          number-is = refl;
+          part-is = rw (p, n, sized, ae);
+          inside = rw (p, n) room;
+        }
+
+-- ---- the ways out
+
+module _ (img s : List ℕ) (offset : ℕ) where
+  pub see-not-ready : (r : Ready) → r ≡ readyOf img → (n : ℕ) → r ≡ Refused n → Sees img s offset n 0 0
+  unfolding viewOutcome
+  see-not-ready r e n q = record { is = sym (ready-refused img r e n q .answer _ _ [] []); within = omega arith }
+
+  module _ (k : Kind) (v : OnVolume img k) (g : Spelled) (given : g ≡ reading.nameOf s) where
+    pub see-42 : not (g .fits) ≡ true → Sees img s offset 42 0 0
+    unfolding viewOutcome decided refusal
+    see-42 h = record { is = rw (known-passed img k v, sound-passed img k v, ← given, h); within = omega arith }
+
+    module _ (fits : not (g .fits) ≡ false) (f : Found) (found : f ≡ slotNamed img (rootAt k) (rootEntries k) (g .name)) where
+      pub see-2 : f ≡ Nothing → Sees img s offset 2 0 0
+      unfolding viewOutcome decided refusal
+      see-2 h = record { is = rw (known-passed img k v, sound-passed img k v, found-is img k v s g given f found, ← given, fits, h); within = omega arith }
+
+      pub see-well : (slot : ℕ) → f ≡ At slot → (number at bytes : ℕ) → SeesFile img k slot offset number at bytes → Sees img s offset number at bytes
+      unfolding viewOutcome decided refusal
+      see-well slot h number at bytes x = record {
+        is = rw (known-passed img k v, sound-passed img k v, found-is img k v s g given f found, ← given, fits, h, on-kind img k v, x .number-is, x .part-is);
+        within = x .inside;
+      }
+
+  module _ (number at bytes : ℕ) (x : Sees img s offset number at bytes) where
+    pub seen-views : Views img s offset (part img at (at + bytes - at))
+    seen-views =
+        let e : at + bytes - at ≡ bytes = omega arith in
+        record { is = rw e (ap (λ (o : Outcome). o .buffer) (x .is)) }
+
+    pub seen-numbers : ViewNumbers img s offset number
+    seen-numbers = record { is = ap (λ (o : Outcome). o .number) (x .is) }
+
+-- ---- what it means: the part is bytes of the file
+
+pub view-content : (img : List ℕ) (k : Kind) → OnVolume img k → (slot : ℕ) → FileIn img k slot → (offset : ℕ)
+    → viewPart k img slot offset ≡ part (fileBytes k img slot) offset (viewCount (clusterBytes k) (sizeOf img (slotAt k slot)) offset)
+unfolding viewPart fileBytes
+view-content img k v slot i offset =
+    let size = sizeOf img (slotAt k slot) in
+    let cs = chainFrom (lastCluster k) img (startOf img (slotAt k slot)) in
+    let w : 0 < clusterBytes k = on-clusters img k v .wide in
+    let room = chain-room (512 * firstData k) (clusterBytes k) (lastCluster k) img (startOf img (slotAt k slot)) (on-clusters img k v) in
+    elim (decLt offset size) [
+      | no n ↦ let z : viewCount (clusterBytes k) size offset ≡ 0 = omega arith in rw z
+      | yes h ↦ sym (content-run (512 * firstData k) (clusterBytes k) w img cs size offset (viewCount (clusterBytes k) size offset) room (file-holds img k v slot i) (omega (arith, mod-lt offset w)) (omega arith))
+    ]

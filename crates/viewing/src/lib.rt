@@ -1,0 +1,2 @@
+// Bytes of a file shown where they lie: view.
+pub mod view;

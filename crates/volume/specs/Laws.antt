@@ -1,5 +1,0 @@
--- The laws of the definitions beside this folder.
-pub mod Format
-pub mod Blank
-pub mod FreeSpace
-pub mod Entry
