@@ -19,8 +19,7 @@ test:
 compare: N = 100000
 compare: SEED = 0
 compare:
-	tests/compare/program compare $(N) $(SEED)
-	tests/compare/program compare_calls $$((3 * $(N))) $(SEED)
+	tests/compare/both $(N) $(SEED)
 
 # Times where programs run as they are, else instructions.
 bench:

@@ -2,9 +2,13 @@
 # product.sh archive   makes target/staticlib/libscale.a, the scale's calls
 # product.sh member    makes target/staticlib/libmember.a, what the command asks beside them
 # product.sh PROGRAM   makes target/bin/PROGRAM (listing, sample)
-# Only where it is missing or older than a source; what is proved already is not proved again.
+# Only where it is missing or older than a source; what is proved already is not proved again. One at a time, since tests run
+# beside each other.
 set -eu
 cd "$(dirname "$0")/.."
+mkdir -p target
+exec 9>target/product.lock
+flock 9
 
 # is_fresh FILE: whether it is there and no source is newer.
 is_fresh() {
