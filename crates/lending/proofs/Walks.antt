@@ -38,12 +38,12 @@ use denote.Triple.Clauses.{ensured, lasts}
 use Rattle.calls.specs.declared.Answer.{Answer}
 use Rattle.calls.proofs.Answer as Ans
 use Rattle.calls.proofs.Answer.Laws as AnsLaws
-use Rattle.lent.specs.declared.OpenRecord.{OpenRecord}
-use Rattle.lent.specs.Row.{unused, recordAt, withRecordAt, lowestUnusedIn}
+use Rattle.records.specs.declared.OpenRecord.{OpenRecord}
+use Rattle.records.specs.Row.{unused, recordAt, withRecordAt, lowestUnusedIn}
 use Rattle.search.specs.declared.Found.{Found}
 use Rattle.search.proofs.Found as Fnd
-use Rattle.lent.proofs.OpenRecord as Rec
-use Rattle.lent.proofs.OpenRecord.Laws as RecLaws
+use Rattle.records.proofs.OpenRecord as Rec
+use Rattle.records.proofs.OpenRecord.Laws as RecLaws
 use Rattle.lent.proofs.record_at as getter
 use Rattle.lent.proofs.put_record as putter
 use Rattle.lent.proofs.lowest_unused as finder

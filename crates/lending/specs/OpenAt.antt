@@ -10,8 +10,8 @@ use Rattle.calls.specs.Outcome.{Outcome}
 use Rattle.calls.specs.Refusals.{placeFound}
 use Rattle.calls.specs.declared.Answer.{Answer}
 use Rattle.opening.specs.Open.{openOutcome}
-use Rattle.lent.specs.Row.{unused, rowOf}
-use Rattle.lent.specs.declared.OpenRecord.{OpenRecord}
+use Rattle.records.specs.Row.{unused, rowOf}
+use Rattle.records.specs.declared.OpenRecord.{OpenRecord}
 use Rattle.lending.specs.Rows.{bytesOf}
 
 -- the one record: a free place, or a used one where none is free

@@ -6,8 +6,8 @@ use mathlib.Core.Path.{_≡_}
 use Rattle.opened.specs.Records.{mark, numberBytes}
 use Rattle.calls.specs.Outcome.{Outcome}
 use Rattle.calls.specs.declared.Answer.{Answer}
-use Rattle.lent.specs.Row.{rowOf}
-use Rattle.lent.specs.declared.OpenRecord.{OpenRecord}
+use Rattle.records.specs.Row.{rowOf}
+use Rattle.records.specs.declared.OpenRecord.{OpenRecord}
 
 -- the bytes of a record, used or not: all its fields, where Records of `opened` has them, so that rowOf reads them again
 unfoldable pub placeBytes : OpenRecord → List ℕ

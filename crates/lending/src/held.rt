@@ -1,6 +1,6 @@
 // The calls on one record that is held out of its row: each is the call on a table of bytes that has this record alone.
 use calls::Answer;
-use lent::OpenRecord;
+use records::OpenRecord;
 use stamps::Stamp;
 ghost use mathlib.Core.List.{[], _∷_};
 ghost use mathlib.Core.Path.{_≡_};

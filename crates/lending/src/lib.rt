@@ -4,7 +4,7 @@ pub mod held;
 mod place;
 
 use calls::Answer;
-use lent::OpenRecord;
+use records::OpenRecord;
 use stamps::Stamp;
 ghost use mathlib.Core.List.{[]};
 ghost use Rattle.closing.specs.Close.{closeOutcome};

@@ -1,7 +1,7 @@
 // Open, once it is known which place is free.
 use crate::held;
 use calls::Answer;
-use lent::OpenRecord;
+use records::OpenRecord;
 use search::Found;
 ghost use Prim.Native.Nat.{_<_};
 ghost use mathlib.Core.Path.{_≡_};

@@ -8,9 +8,9 @@ use denote.Laws.{Is, Tells}
 use denote.Memory.{pointee}
 use denote.Slice.{sliceTy}
 use denote.Struct.Laws as structs
-use Rattle.lent.specs.declared.OpenRecord.{OpenRecord}
-use Rattle.lent.proofs.OpenRecord as Rec
-use Rattle.lent.proofs.OpenRecord.Laws as RecLaws
+use Rattle.records.specs.declared.OpenRecord.{OpenRecord}
+use Rattle.records.proofs.OpenRecord as Rec
+use Rattle.records.proofs.OpenRecord.Laws as RecLaws
 
 -- a record's machine values, and that it has no others
 abbrev pub spelling : OpenRecord → List Val

@@ -1,18 +1,11 @@
 // The open table as a row of records that the caller lends, beside its form as bytes (crate opened).
 use calls::Answer;
 use offset::Moved;
+use records::OpenRecord;
 use search::Found;
 ghost use mathlib.Core.Path.{_≡_};
-ghost use Rattle.lent.specs.Seek.{baseFrom, seekFrom, answerOf, SeeksIn};
-ghost use Rattle.lent.specs.Row.{rowOf, inBytes, recordAt, withRecordAt, lowestUnusedIn, isOpenIn};
-
-pub struct OpenRecord {
-    pub used: bool,
-    pub slot: u32,
-    pub access: u8,
-    pub pointer: u32,
-    pub written: bool,
-}
+ghost use Rattle.records.specs.Seek.{baseFrom, seekFrom, answerOf, SeeksIn};
+ghost use Rattle.records.specs.Row.{rowOf, inBytes, recordAt, withRecordAt, lowestUnusedIn, isOpenIn};
 
 // The record that a place of a table of bytes says; an unused one where the table has no such place.
 pub fn from_bytes(t: &[u8], place: usize) -> OpenRecord

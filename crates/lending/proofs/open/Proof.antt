@@ -45,8 +45,8 @@ use Rattle.calls.specs.declared.Answer.{Answer}
 use Rattle.calls.proofs.Answer as Ans
 use Rattle.calls.proofs.Answer.Laws as AnsLaws
 use Rattle.opening.specs.Open.{openOutcome}
-use Rattle.lent.specs.declared.OpenRecord.{OpenRecord}
-use Rattle.lent.proofs.OpenRecord as Rec
+use Rattle.records.specs.declared.OpenRecord.{OpenRecord}
+use Rattle.records.proofs.OpenRecord as Rec
 use Rattle.lent.proofs.lowest_unused.Symbol as lowest-def
 use Rattle.lent.proofs.lowest_unused.Symbol.{name as #lent·lowest-unused}
 use Rattle.lent.proofs.lowest_unused.Met as lowest-thm

@@ -45,9 +45,9 @@ use Rattle.calls.specs.declared.Answer.{Answer}
 use Rattle.calls.proofs.Answer as Ans
 use Rattle.calls.proofs.Answer.Laws as AnsLaws
 use Rattle.reading.specs.Read.{readOutcome}
-use Rattle.lent.specs.declared.OpenRecord.{OpenRecord}
-use Rattle.lent.proofs.OpenRecord as Rec
-use Rattle.lent.proofs.OpenRecord.Laws as RecLaws
+use Rattle.records.specs.declared.OpenRecord.{OpenRecord}
+use Rattle.records.proofs.OpenRecord as Rec
+use Rattle.records.proofs.OpenRecord.Laws as RecLaws
 use Rattle.lent.proofs.record_at.Symbol as record-def
 use Rattle.lent.proofs.record_at.Symbol.{name as #lent·record-at}
 use Rattle.lent.proofs.record_at.Met as record-thm

@@ -15,9 +15,9 @@ use Rattle.seeking.specs.Seek.{seekOutcome}
 use Rattle.closing.specs.Close.{closeOutcome}
 use Rattle.reading.specs.Read.{readOutcome}
 use Rattle.writing.specs.Write.{writeOutcome}
-use Rattle.lent.specs.Row.{rowOf, recordAt, withRecordAt, lowestUnusedIn}
-use Rattle.lent.specs.Laws.Alike.{unused-alike}
-use Rattle.lent.specs.declared.OpenRecord.{OpenRecord}
+use Rattle.records.specs.Row.{rowOf, recordAt, withRecordAt, lowestUnusedIn}
+use Rattle.records.specs.Laws.Alike.{unused-alike}
+use Rattle.records.specs.declared.OpenRecord.{OpenRecord}
 use Rattle.lending.specs.Rows.{bytesOf, LeavesRow}
 use Rattle.lending.specs.Laws.Bytes.{AllFit, says-fit, bytes-back}
 use Rattle.lending.specs.Laws.Same.{Same}

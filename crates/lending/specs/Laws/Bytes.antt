@@ -13,9 +13,9 @@ use Rattle.image.specs.Numbers.{number, digits}
 use Rattle.image.specs.Laws.Numbers.{number-same}
 use Rattle.opened.specs.Records.{placeAt, mark, numberBytes, usedOf, slotOf, accessOf, pointerOf, writtenOf}
 use Rattle.opened.specs.Laws.Records.{slot-small, pointer-small}
-use Rattle.lent.specs.Row.{unused, recordAt, recordOf, rowFrom, rowOf}
-use Rattle.lent.specs.Laws.Alike.{row-length, row-reads, record-of}
-use Rattle.lent.specs.declared.OpenRecord.{OpenRecord}
+use Rattle.records.specs.Row.{unused, recordAt, recordOf, rowFrom, rowOf}
+use Rattle.records.specs.Laws.Alike.{row-length, row-reads, record-of}
+use Rattle.records.specs.declared.OpenRecord.{OpenRecord}
 use Rattle.lending.specs.Rows.{placeBytes, bytesOf}
 
 -- a record's numbers fit their bytes

@@ -19,8 +19,8 @@ use Rattle.seeking.specs.Seek.{seekOutcome, Seeks}
 use Rattle.closing.specs.Close.{closeOutcome, Closes}
 use Rattle.reading.specs.Read.{readOutcome, Reads}
 use Rattle.writing.specs.Write.{writeOutcome, Writes}
-use Rattle.lent.specs.Row.{rowFrom, rowOf, recordAt}
-use Rattle.lent.specs.declared.OpenRecord.{OpenRecord}
+use Rattle.records.specs.Row.{rowFrom, rowOf, recordAt}
+use Rattle.records.specs.declared.OpenRecord.{OpenRecord}
 use Rattle.lending.specs.Rows.{placeBytes, bytesOf, LeavesRow}
 
 -- ---- the table made

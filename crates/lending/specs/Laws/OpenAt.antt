@@ -11,8 +11,8 @@ use Rattle.calls.specs.Outcome.{refusedBy, answering}
 use Rattle.calls.specs.Refusals.{placeFound}
 use Rattle.calls.specs.declared.Answer.{Answer}
 use Rattle.opening.specs.Open.{openOutcome}
-use Rattle.lent.specs.Row.{unused}
-use Rattle.lent.specs.declared.OpenRecord.{OpenRecord}
+use Rattle.records.specs.Row.{unused}
+use Rattle.records.specs.declared.OpenRecord.{OpenRecord}
 use Rattle.lending.specs.declared.held.Done.{Done}
 use Rattle.lending.specs.Rows.{bytesOf, LeavesRow}
 use Rattle.lending.specs.OpenAt.{spareFor, OpensAt}

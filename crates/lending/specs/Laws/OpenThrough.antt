@@ -13,9 +13,9 @@ use Rattle.opened.specs.Places.{lowestUnused}
 use Rattle.calls.specs.Refusals.{placeFound}
 use Rattle.calls.specs.declared.Answer.{Answer}
 use Rattle.opening.specs.Open.{openOutcome}
-use Rattle.lent.specs.Row.{unused, withRecordAt, lowestUnusedIn}
-use Rattle.lent.specs.Laws.Alike.{unused-alike}
-use Rattle.lent.specs.declared.OpenRecord.{OpenRecord}
+use Rattle.records.specs.Row.{unused, withRecordAt, lowestUnusedIn}
+use Rattle.records.specs.Laws.Alike.{unused-alike}
+use Rattle.records.specs.declared.OpenRecord.{OpenRecord}
 use Rattle.lending.specs.Rows.{bytesOf, LeavesRow}
 use Rattle.lending.specs.OpenAt.{spareFor, OpensAt}
 use Rattle.lending.specs.Laws.Bytes.{FitsIn, AllFit, bytes-back}

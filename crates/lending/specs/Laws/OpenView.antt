@@ -16,10 +16,10 @@ use Rattle.calls.specs.Outcome.{Row, Outcome, outcome, refusal, decided}
 use Rattle.calls.specs.Refusals.{isNothing, placeFound, notOfKind, notSound, badName, noFile, fileSlot, readOnly}
 use Rattle.calls.specs.Laws.Files.{unused-below, unused-fits}
 use Rattle.opening.specs.Open.{openOutcome}
-use Rattle.lent.specs.Row.{recordOf, rowOf, withRecordAt, lowestUnusedIn}
-use Rattle.lent.specs.Laws.Alike.{record-of, unused-alike}
-use Rattle.lent.specs.Laws.Stores.{row-set}
-use Rattle.lent.specs.declared.OpenRecord.{OpenRecord}
+use Rattle.records.specs.Row.{recordOf, rowOf, withRecordAt, lowestUnusedIn}
+use Rattle.records.specs.Laws.Alike.{record-of, unused-alike}
+use Rattle.records.specs.Laws.Stores.{row-set}
+use Rattle.records.specs.declared.OpenRecord.{OpenRecord}
 use Rattle.lending.specs.Rows.{bytesOf}
 use Rattle.lending.specs.Laws.Bytes.{AllFit, bytes-back}
 

@@ -17,9 +17,9 @@ use Rattle.opened.specs.Laws.Places.{live-is}
 use Rattle.calls.specs.Outcome.{Row, Outcome, outcome, decided}
 use Rattle.calls.specs.Refusals.{theKind, notLive}
 use Rattle.calls.specs.Laws.Rows.{row-holds, row-passed, no-row}
-use Rattle.lent.specs.Row.{unused, recordOf, rowOf, recordAt, withRecordAt}
-use Rattle.lent.specs.Laws.Alike.{record-alike, read-none}
-use Rattle.lent.specs.declared.OpenRecord.{OpenRecord}
+use Rattle.records.specs.Row.{unused, recordOf, rowOf, recordAt, withRecordAt}
+use Rattle.records.specs.Laws.Alike.{record-alike, read-none}
+use Rattle.records.specs.declared.OpenRecord.{OpenRecord}
 
 -- a record put back where it stood
 put-same : (row : List OpenRecord) (p : ℕ) → withRecordAt row p (recordAt row p) ≡ row

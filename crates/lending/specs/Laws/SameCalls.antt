@@ -3,20 +3,14 @@ use Prim.Native.Nat.{ℕ, _+_, _<_}
 use native.Mathlib.Omega.{arith}
 use mathlib.Core.Bool.{Bool, true, false, cond}
 use mathlib.Core.List.{List, [], _∷_}
-use mathlib.Core.Logic.{inl, inr}
 use mathlib.Core.Path.{_≡_, refl, sym, ap, _∙_}
 use lib.Dec.{eqb, ltb}
 use lib.IntN.{ℤ}
 use lib.ListN.{length, take}
-use Rattle.image.specs.Store.{stored}
-use Rattle.image.specs.Numbers.{number, digits}
-use Rattle.image.specs.Laws.Store.{stored-inside}
-use Rattle.image.specs.Laws.Numbers.{length-digits, number-same}
 use Rattle.directory.specs.Fields.{sizeOf}
 use Rattle.stamps.specs.declared.Stamp.{Stamp}
-use Rattle.opened.specs.Records.{placeCount, placeAt, usedOf, slotOf, accessOf, pointerOf, writtenOf, withPointer, withWritten}
+use Rattle.opened.specs.Records.{placeCount, usedOf, slotOf, accessOf, pointerOf, writtenOf, withPointer, withWritten}
 use Rattle.opened.specs.Changes.{Holds}
-use Rattle.opened.specs.Laws.Records.{untouched}
 use Rattle.opened.specs.Laws.Stores.{pointer-only}
 use Rattle.opened.specs.Laws.Uses.{only-count}
 use Rattle.calls.specs.Outcome.{Row, Outcome, outcome, decided}
@@ -26,50 +20,28 @@ use Rattle.closing.specs.Close.{closeEffect, closeOutcome}
 use Rattle.reading.specs.Read.{readCount, readEffect, readOutcome}
 use Rattle.putting.specs.Written.{writtenIn}
 use Rattle.writing.specs.Write.{writeCount, writeAt, writeEffect, writeOutcome}
-use Rattle.lent.specs.Row.{unused, recordOf, rowOf, recordAt, withRecordAt}
-use Rattle.lent.specs.Seek.{movedTo}
-use Rattle.lent.specs.Laws.Alike.{record-of, fields-of}
-use Rattle.lent.specs.Laws.Stores.{row-set, row-written, row-freed}
-use Rattle.lent.specs.declared.OpenRecord.{OpenRecord}
+use Rattle.records.specs.Row.{unused, recordOf, rowOf, recordAt, withRecordAt}
+use Rattle.records.specs.Seek.{movedTo}
+use Rattle.records.specs.Laws.Alike.{fields-of}
+use Rattle.records.specs.Laws.Stores.{asStored, moved-back, row-set, row-written, row-freed}
+use Rattle.records.specs.declared.OpenRecord.{OpenRecord}
 use Rattle.lending.specs.Laws.Same.{put-twice, live-counted, Same, live-same, fields-same, refused, row-same, rows-over}
 
--- ---- what a stored pointer is read as, whether or not it fits its four bytes
-
-abbrev asStored : ℕ → ℕ
-asStored v = number (digits v 4) 0 4
+-- ---- the stores at a place
 
 abbrev marked : OpenRecord → OpenRecord
 marked r = record { used = r .used; slot = r .slot; access = r .access; pointer = r .pointer; written = true }
 
 module _ (t : List ℕ) (p : ℕ) (k : p < placeCount t) (v : ℕ) where
-  pointer-back : pointerOf (withPointer t p v) p ≡ asStored v
-  unfolding pointerOf withPointer
-  pointer-back =
-      let l = length-digits v 4 in
-      number-same (stored t (placeAt p + 8) (digits v 4)) (digits v 4) (placeAt p + 8) 0 4 (λ i j. let q : 0 + i ≡ i = omega arith in rw q (stored-inside t (placeAt p + 8) (digits v 4) i (omega arith) (omega arith)))
-
-  moved-back : recordOf (withPointer t p v) p ≡ movedTo (recordOf t p) (asStored v)
-  unfolding recordOf withPointer
-  moved-back =
-      let u = untouched t (placeAt p + 8) 4 (digits v 4) (length-digits v 4) p in
-      record-of (withPointer t p v) p (movedTo (recordOf t p) (asStored v))
-      record {
-        used = u .used (inl (omega arith));
-        access = u .access (inl (omega arith));
-        slot = u .slot (inr (omega arith));
-        pointer = pointer-back;
-        written = u .written (inl (omega arith));
-      }
-
   row-moved : rowOf (withPointer t p v) ≡ withRecordAt (rowOf t) p (movedTo (recordOf t p) (asStored v))
-  row-moved = row-set (withPointer t p v) t p k (pointer-only t p k v) (movedTo (recordOf t p) (asStored v)) moved-back
+  row-moved = row-set (withPointer t p v) t p k (pointer-only t p k v) (movedTo (recordOf t p) (asStored v)) (moved-back t p k v)
 
   -- and marked as written
   row-marked : rowOf (withWritten (withPointer t p v) p) ≡ withRecordAt (rowOf t) p (marked (movedTo (recordOf t p) (asStored v)))
   row-marked =
       let m = withPointer t p v in
       let c = only-count p m t (pointer-only t p k v) in
-      row-written m p (omega arith) ∙ rw (row-moved, moved-back) (put-twice (rowOf t) p (movedTo (recordOf t p) (asStored v)) (marked (movedTo (recordOf t p) (asStored v))))
+      row-written m p (omega arith) ∙ rw (row-moved, moved-back t p k v) (put-twice (rowOf t) p (movedTo (recordOf t p) (asStored v)) (marked (movedTo (recordOf t p) (asStored v))))
 
 -- ---- the calls
 

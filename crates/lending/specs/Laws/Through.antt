@@ -12,8 +12,8 @@ use Rattle.seeking.specs.Seek.{seekOutcome}
 use Rattle.closing.specs.Close.{closeOutcome}
 use Rattle.reading.specs.Read.{readOutcome}
 use Rattle.writing.specs.Write.{writeOutcome}
-use Rattle.lent.specs.Row.{unused, rowOf, recordAt, withRecordAt}
-use Rattle.lent.specs.declared.OpenRecord.{OpenRecord}
+use Rattle.records.specs.Row.{unused, rowOf, recordAt, withRecordAt}
+use Rattle.records.specs.declared.OpenRecord.{OpenRecord}
 use Rattle.lending.specs.Rows.{bytesOf, LeavesRow}
 use Rattle.lending.specs.Laws.Bytes.{FitsIn, AllFit, fits-at, bytes-back}
 use Rattle.lending.specs.Laws.Same.{Same}

@@ -1,5 +1,5 @@
 -- One method a way out.
-use Rattle.lent.specs.Laws.Seek.{base-zero, base-pointer, base-size}
+use Rattle.records.specs.Laws.Seek.{base-zero, base-pointer, base-size}
 use Rattle.lent.proofs.base_of.Statement.{statement}
 use Rattle.lent.proofs.base_of.Tie as tie
 

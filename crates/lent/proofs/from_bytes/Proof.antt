@@ -1,5 +1,5 @@
 -- The five fields of a place that counts, or an unused record.
-use Rattle.lent.specs.Laws.Alike.{read-some, read-none}
+use Rattle.records.specs.Laws.Alike.{read-some, read-none}
 use borrow.Author.Needs.{needs}
 use Rattle.lent.proofs.from_bytes.Statement.{statement}
 use Rattle.lent.proofs.from_bytes.Tie as tie

@@ -39,14 +39,14 @@ use denote.Triple.Spec.{Meets, tripleOf}
 use denote.Triple.Table.{entered}
 use denote.Triple.Walked.{says, Stays, stay-none, stay-none-slice, walkOf, goes-none, goes-none-slice, Walks, ends-at, walked, walk-meets}
 use denote.Exit.{yes}
-use Rattle.lent.specs.declared.OpenRecord.{OpenRecord}
-use Rattle.lent.specs.Row.{unused, rowCount, namesIn, isOpenIn}
-use Rattle.lent.proofs.OpenRecord as Rec
-use Rattle.lent.proofs.OpenRecord.Laws as RecLaws
+use Rattle.records.specs.declared.OpenRecord.{OpenRecord}
+use Rattle.records.specs.Row.{unused, rowCount, namesIn, isOpenIn}
+use Rattle.records.proofs.OpenRecord as Rec
+use Rattle.records.proofs.OpenRecord.Laws as RecLaws
 use native.Mathlib.Numerals.{add-one-dec}
 use mathlib.Core.WellFounded.{WellFounded, InvImage·wf}
 use lib.WfN.{Nat·lt-wfRel}
-use Rattle.lent.specs.Laws.Turns.{Left, all-left, miss, open-hit, open-done, both, not-second, not-first}
+use Rattle.records.specs.Laws.Turns.{Left, all-left, miss, open-hit, open-done, both, not-second, not-first}
 use Rattle.lent.proofs.is_open.Code.Mir as made
 use Rattle.lent.proofs.is_open.Key.{name as #lent·is-open}
 use Rattle.lent.proofs.is_open as f

@@ -37,10 +37,10 @@ use denote.Triple.Spec.{Meets, tripleOf}
 use denote.Triple.Table.{entered}
 use denote.Triple.Walked.{says, Stays, stay-none-slice, walkOf, goes-none-slice, Walks, ends-at, walked, walk-meets}
 use denote.Exit.{yes}
-use Rattle.lent.specs.declared.OpenRecord.{OpenRecord}
-use Rattle.lent.specs.Row.{unused, rowCount, unusedIn, lowestUnusedIn}
-use Rattle.lent.proofs.OpenRecord as Rec
-use Rattle.lent.proofs.OpenRecord.Laws as RecLaws
+use Rattle.records.specs.declared.OpenRecord.{OpenRecord}
+use Rattle.records.specs.Row.{unused, rowCount, unusedIn, lowestUnusedIn}
+use Rattle.records.proofs.OpenRecord as Rec
+use Rattle.records.proofs.OpenRecord.Laws as RecLaws
 use native.Mathlib.Numerals.{add-one-dec}
 use mathlib.Core.WellFounded.{WellFounded, InvImage·wf}
 use lib.WfN.{Nat·lt-wfRel}
@@ -49,7 +49,7 @@ use Rattle.search.specs.declared.Found.the-variants.{At, Nothing}
 use Rattle.search.proofs.Found as Fnd
 use Rattle.search.proofs.Found.Laws as FoundLaws
 use denote.Enum.Laws as enums
-use Rattle.lent.specs.Laws.Turns.{Left, all-left, miss, unused-hit, unused-done}
+use Rattle.records.specs.Laws.Turns.{Left, all-left, miss, unused-hit, unused-done}
 use Rattle.lent.proofs.lowest_unused.Code.Mir as made
 use Rattle.lent.proofs.lowest_unused.Key.{name as #lent·lowest-unused}
 use Rattle.lent.proofs.lowest_unused as f

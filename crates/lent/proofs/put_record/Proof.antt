@@ -37,12 +37,12 @@ use denote.Triple.Spec.{Meets, tripleOf}
 use denote.Triple.Table.{entered}
 use denote.Triple.Walked.{says, Stays, stay-none, stay-slice, walkOf, goes-none, goes-slice, Walks, ends-at, walked, walk-meets}
 use denote.Exit.{yes}
-use Rattle.lent.specs.declared.OpenRecord.{OpenRecord}
-use Rattle.lent.specs.Row.{unused, withRecordAt}
-use Rattle.lent.proofs.OpenRecord as Rec
-use Rattle.lent.proofs.OpenRecord.Laws as RecLaws
+use Rattle.records.specs.declared.OpenRecord.{OpenRecord}
+use Rattle.records.specs.Row.{unused, withRecordAt}
+use Rattle.records.proofs.OpenRecord as Rec
+use Rattle.records.proofs.OpenRecord.Laws as RecLaws
 use denote.Lend.{Held}
-use Rattle.lent.specs.Laws.Row.{put-within, put-over, put-past}
+use Rattle.records.specs.Laws.Row.{put-within, put-over, put-past}
 use Rattle.lent.proofs.put_record.Code.Mir as made
 use Rattle.lent.proofs.put_record.Key.{name as #lent·put-record}
 use Rattle.lent.proofs.put_record as f

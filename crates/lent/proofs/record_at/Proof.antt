@@ -35,11 +35,11 @@ use denote.Triple.Spec.{Meets, tripleOf}
 use denote.Triple.Table.{entered}
 use denote.Triple.Walked.{says, Stays, stay-none, stay-none-slice, walkOf, goes-none, goes-none-slice, Walks, ends-at, walked, walk-meets}
 use denote.Exit.{yes}
-use Rattle.lent.specs.declared.OpenRecord.{OpenRecord}
-use Rattle.lent.specs.Row.{unused, recordAt}
-use Rattle.lent.proofs.OpenRecord as Rec
-use Rattle.lent.proofs.OpenRecord.Laws as RecLaws
-use Rattle.lent.specs.Laws.Row.{record-within, record-over, record-past}
+use Rattle.records.specs.declared.OpenRecord.{OpenRecord}
+use Rattle.records.specs.Row.{unused, recordAt}
+use Rattle.records.proofs.OpenRecord as Rec
+use Rattle.records.proofs.OpenRecord.Laws as RecLaws
+use Rattle.records.specs.Laws.Row.{record-within, record-over, record-past}
 use Rattle.lent.proofs.record_at.Code.Mir as made
 use Rattle.lent.proofs.record_at.Key.{name as #lent·record-at}
 use Rattle.lent.proofs.record_at as f

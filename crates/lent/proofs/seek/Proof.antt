@@ -38,11 +38,11 @@ use denote.Triple.Table.{entered, cited}
 use denote.Triple.Walked.{says, Stays, stay-ref, stay-none, walkOf, goes-none, goes-ref, Walks, ends-at, walked, walk-meets}
 use denote.Exit.{yes}
 use denote.Triple.Clauses.{ensured, lasts}
-use Rattle.lent.specs.declared.OpenRecord.{OpenRecord}
-use Rattle.lent.specs.Seek.{seekFrom, answerOf, movedTo, SeeksIn}
-use Rattle.lent.specs.Laws.Seek.{seeks-well, seeks-refused}
-use Rattle.lent.proofs.OpenRecord as Rec
-use Rattle.lent.proofs.OpenRecord.Laws as RecLaws
+use Rattle.records.specs.declared.OpenRecord.{OpenRecord}
+use Rattle.records.specs.Seek.{seekFrom, answerOf, movedTo, SeeksIn}
+use Rattle.records.specs.Laws.Seek.{seeks-well, seeks-refused}
+use Rattle.records.proofs.OpenRecord as Rec
+use Rattle.records.proofs.OpenRecord.Laws as RecLaws
 use Rattle.calls.specs.declared.Answer.{Answer}
 use Rattle.calls.proofs.Answer as Ans
 use Rattle.calls.proofs.Answer.Laws as AnsLaws

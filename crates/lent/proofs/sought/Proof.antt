@@ -1,5 +1,5 @@
 -- A method above 2, a sum beyond the ends, or the pointer that the sum is.
-use Rattle.lent.specs.Laws.Seek.{sought-method, sought-beyond, sought-well}
+use Rattle.records.specs.Laws.Seek.{sought-method, sought-beyond, sought-well}
 use borrow.Author.Needs.{needs}
 use Rattle.lent.proofs.sought.Statement.{statement}
 use Rattle.lent.proofs.sought.Tie as tie

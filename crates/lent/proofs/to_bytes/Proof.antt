@@ -1,5 +1,5 @@
 -- Each way out is one case of the definition.
-use Rattle.lent.specs.Laws.Bytes.{bytes-past, bytes-freed, bytes-taken, bytes-written}
+use Rattle.records.specs.Laws.Bytes.{bytes-past, bytes-freed, bytes-taken, bytes-written}
 use borrow.Author.Needs.{needs}
 use Rattle.lent.proofs.to_bytes.Statement.{statement}
 use Rattle.lent.proofs.to_bytes.Tie as tie

@@ -13,8 +13,8 @@ use Rattle.opened.specs.Records.{slotOf, withPointer}
 use Rattle.calls.specs.Outcome.{outcome, refusal, decided}
 use Rattle.calls.specs.Refusals.{notOfKind, notSound, notLive, addressOf}
 use Rattle.seeking.specs.Seek.{seekBase, isBeyond, pointerMoved, seekOutcome}
-use Rattle.lent.specs.Row.{recordOf}
-use Rattle.lent.specs.Seek.{baseFrom, seekFrom, answerOf}
+use Rattle.records.specs.Row.{recordOf}
+use Rattle.records.specs.Seek.{baseFrom, seekFrom, answerOf}
 
 module _ (img t : List ℕ) (h : ℕ) where
   -- the table after a seek that leads there

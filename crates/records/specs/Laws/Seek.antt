@@ -14,8 +14,8 @@ use Rattle.offset.specs.declared.Moved.{Moved}
 use Rattle.offset.specs.declared.Moved.the-variants.{To, Beyond}
 use Rattle.calls.specs.Outcome.{refusedBy, answering}
 use Rattle.calls.specs.declared.Answer.{Answer}
-use Rattle.lent.specs.declared.OpenRecord.{OpenRecord}
-use Rattle.lent.specs.Seek.{baseFrom, seekFrom, answerOf, movedTo, soughtRecord, SeeksIn}
+use Rattle.records.specs.declared.OpenRecord.{OpenRecord}
+use Rattle.records.specs.Seek.{baseFrom, seekFrom, answerOf, movedTo, soughtRecord, SeeksIn}
 
 pub seeks-in-only : {r after after′ : OpenRecord} {size method : ℕ} {offset : ℤ} {a a′ : Answer} → SeeksIn r size method offset a after → SeeksIn r size method offset a′ after′ → (a ≡ a′) × (after ≡ after′)
 seeks-in-only x y = (x .answers ∙ sym (y .answers), x .leaves ∙ sym (y .leaves))

@@ -5,8 +5,8 @@ use mathlib.Core.List.{List}
 use mathlib.Core.Path.{_≡_, refl, _∙_}
 use lib.Dec.{T, ltb}
 use lib.ListN.{length, getD, set}
-use Rattle.lent.specs.declared.OpenRecord.{OpenRecord}
-use Rattle.lent.specs.Row.{unused, recordAt, withRecordAt}
+use Rattle.records.specs.declared.OpenRecord.{OpenRecord}
+use Rattle.records.specs.Row.{unused, recordAt, withRecordAt}
 
 taken : {A : Type 0} (z : Bool) (a b : A) → T z → a ≡ cond z a b
 taken true a b h = refl

@@ -10,8 +10,8 @@ use Rattle.search.specs.Search.{lowest}
 use Rattle.search.specs.Laws.Turns.{lowest-hit, lowest-miss, lowest-done}
 use Rattle.search.specs.declared.Found.the-variants.{At, Nothing}
 use Rattle.opened.specs.Places.{isFound}
-use Rattle.lent.specs.declared.OpenRecord.{OpenRecord}
-use Rattle.lent.specs.Row.{rowCount, unusedIn, lowestUnusedIn, namesIn, isOpenIn}
+use Rattle.records.specs.declared.OpenRecord.{OpenRecord}
+use Rattle.records.specs.Row.{rowCount, unusedIn, lowestUnusedIn, namesIn, isOpenIn}
 
 is-true : (z : Bool) → T z → z ≡ true
 is-true true h = refl

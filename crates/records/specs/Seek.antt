@@ -9,7 +9,7 @@ use Rattle.offset.specs.Offset.{movedBy}
 use Rattle.offset.specs.declared.Moved.{Moved}
 use Rattle.offset.specs.declared.Moved.the-variants.{To, Beyond}
 use Rattle.calls.specs.declared.Answer.{Answer}
-use Rattle.lent.specs.declared.OpenRecord.{OpenRecord}
+use Rattle.records.specs.declared.OpenRecord.{OpenRecord}
 
 -- from where the offset counts
 unfoldable pub baseFrom : ℕ → ℕ → ℕ → ℕ

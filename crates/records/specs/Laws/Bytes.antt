@@ -9,9 +9,9 @@ use Rattle.opened.specs.Records.{placeCount, withRecord, withWritten, cleared}
 use Rattle.opened.specs.Changes.{Holds}
 use Rattle.opened.specs.Laws.Stores.{record-only, record-holds, written-holds, cleared-holds}
 use Rattle.opened.specs.Laws.Uses.{only-count}
-use Rattle.lent.specs.declared.OpenRecord.{OpenRecord}
-use Rattle.lent.specs.Row.{unused, recordOf, takenBytes, inBytes}
-use Rattle.lent.specs.Laws.Alike.{record-of}
+use Rattle.records.specs.declared.OpenRecord.{OpenRecord}
+use Rattle.records.specs.Row.{unused, recordOf, takenBytes, inBytes}
+use Rattle.records.specs.Laws.Alike.{record-of}
 
 module _ (t : List ℕ) (p : ℕ) (r : OpenRecord) (count : ℕ) (is : count ≡ placeCount t) where
   pub bytes-past : count ≤ p → (m : List ℕ) → m ≡ t → m ≡ inBytes t p r

@@ -12,9 +12,9 @@ use Rattle.search.specs.Laws.Meaning.{lowest-same}
 use Rattle.opened.specs.Records.{placeCount, usedOf, slotOf, accessOf, pointerOf, writtenOf}
 use Rattle.opened.specs.Places.{unusedAt, lowestUnused, namesSlot, isFound, isOpen}
 use Rattle.opened.specs.Changes.{Holds}
-use Rattle.lent.specs.declared.OpenRecord.{OpenRecord}
-use Rattle.lent.specs.Row.{unused, recordOf, rowFrom, rowOf, rowCount, recordAt, unusedIn, lowestUnusedIn, namesIn, isOpenIn}
-use Rattle.lent.specs.Laws.Row.{record-within, record-over, record-past}
+use Rattle.records.specs.declared.OpenRecord.{OpenRecord}
+use Rattle.records.specs.Row.{unused, recordOf, rowFrom, rowOf, rowCount, recordAt, unusedIn, lowestUnusedIn, namesIn, isOpenIn}
+use Rattle.records.specs.Laws.Row.{record-within, record-over, record-past}
 
 -- ---- the row by index
 

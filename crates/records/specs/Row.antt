@@ -9,7 +9,7 @@ use Rattle.search.specs.declared.Found.{Found}
 use Rattle.search.specs.declared.Found.the-variants.{At, Nothing}
 use Rattle.opened.specs.Places.{isFound}
 use Rattle.opened.specs.Records.{placeCount, withRecord, withWritten, cleared, usedOf, slotOf, accessOf, pointerOf, writtenOf}
-use Rattle.lent.specs.declared.OpenRecord.{OpenRecord}
+use Rattle.records.specs.declared.OpenRecord.{OpenRecord}
 
 -- what an unused place holds: all fields zero
 abbrev pub unused : OpenRecord

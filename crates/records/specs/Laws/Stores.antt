@@ -1,22 +1,27 @@
 -- A place of the table stored as bytes is one record of the row stored, and no other.
-use Prim.Native.Nat.{ℕ, _/_, _<_}
+use Prim.Native.Nat.{ℕ, _+_, _/_, _<_}
 use native.Mathlib.Omega.{arith}
 use native.Mathlib.Decide.{ℕ-discrete}
 use mathlib.Core.Bool.{Bool, true}
 use mathlib.Core.List.{List}
-use mathlib.Core.Logic.{_≢_}
+use mathlib.Core.Logic.{_≢_, inl, inr}
 use mathlib.Core.Path.{_≡_, sym, ap, _∙_}
 use lib.Dec.{lt→ltb}
 use lib.ListN.{length, getD, set, length-set}
 use lib.Seq.{getD-set-same, getD-set-other, ext-getD}
-use Rattle.opened.specs.Records.{placeCount, withRecord, withPointer, withWritten, cleared}
+use Rattle.image.specs.Store.{stored}
+use Rattle.image.specs.Numbers.{number, digits}
+use Rattle.image.specs.Laws.Store.{stored-inside}
+use Rattle.image.specs.Laws.Numbers.{length-digits, number-same}
+use Rattle.opened.specs.Records.{placeCount, placeAt, pointerOf, withRecord, withPointer, withWritten, cleared}
 use Rattle.opened.specs.Changes.{OnlyAt}
+use Rattle.opened.specs.Laws.Records.{untouched}
 use Rattle.opened.specs.Laws.Stores.{record-only, record-holds, pointer-only, pointer-holds, written-only, written-holds, cleared-only, cleared-holds}
-use Rattle.lent.specs.declared.OpenRecord.{OpenRecord}
-use Rattle.lent.specs.Row.{unused, recordOf, rowOf, withRecordAt}
-use Rattle.lent.specs.Laws.Row.{put-within}
-use Rattle.lent.specs.Seek.{movedTo}
-use Rattle.lent.specs.Laws.Alike.{row-length, row-reads, record-of}
+use Rattle.records.specs.declared.OpenRecord.{OpenRecord}
+use Rattle.records.specs.Row.{unused, recordOf, rowOf, withRecordAt}
+use Rattle.records.specs.Laws.Row.{put-within}
+use Rattle.records.specs.Seek.{movedTo}
+use Rattle.records.specs.Laws.Alike.{row-length, row-reads, record-of}
 
 -- where place p alone has changed, and to r
 module _ (m t : List ℕ) (p : ℕ) (k : p < placeCount t) (only : OnlyAt p m t) (r : OpenRecord) (is : recordOf m p ≡ r) where
@@ -45,6 +50,33 @@ module _ (m t : List ℕ) (p : ℕ) (k : p < placeCount t) (only : OnlyAt p m t)
   row-set =
       let e = row-length t in
       as-set ∙ put-within (rowOf t) p r (lt→ltb p 16 (omega arith)) (lt→ltb p (length (rowOf t)) (omega arith))
+
+-- ---- a pointer stored and read back: its four bytes, whether or not it fits them
+
+abbrev pub asStored : ℕ → ℕ
+asStored v = number (digits v 4) 0 4
+
+module _ (t : List ℕ) (p : ℕ) (k : p < placeCount t) (v : ℕ) where
+  pointer-back : pointerOf (withPointer t p v) p ≡ asStored v
+  unfolding pointerOf withPointer
+  pointer-back =
+      let l = length-digits v 4 in
+      number-same (stored t (placeAt p + 8) (digits v 4)) (digits v 4) (placeAt p + 8) 0 4 (λ i j. let q : 0 + i ≡ i = omega arith in rw q (stored-inside t (placeAt p + 8) (digits v 4) i (omega arith) (omega arith)))
+
+  pub moved-back : recordOf (withPointer t p v) p ≡ movedTo (recordOf t p) (asStored v)
+  unfolding recordOf withPointer
+  moved-back =
+      let u = untouched t (placeAt p + 8) 4 (digits v 4) (length-digits v 4) p in
+      record-of (withPointer t p v) p (movedTo (recordOf t p) (asStored v))
+      record {
+        used = u .used (inl (omega arith));
+        access = u .access (inl (omega arith));
+        slot = u .slot (inr (omega arith));
+        pointer = pointer-back;
+        written = u .written (inl (omega arith));
+      }
+
+-- ---- each store
 
 module _ (t : List ℕ) (p : ℕ) (k : p < placeCount t) where
   -- a place taken

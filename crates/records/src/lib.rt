@@ -1,0 +1,8 @@
+// An open record as a value, beside its form as bytes (crate opened). There are no functions here; crate lent has them.
+pub struct OpenRecord {
+    pub used: bool,
+    pub slot: u32,
+    pub access: u8,
+    pub pointer: u32,
+    pub written: bool,
+}
