@@ -6,7 +6,6 @@ use lib.Dec.{eqb, ltb}
 use lib.ListN.{length, getD, set}
 use Rattle.search.specs.Search.{lowest}
 use Rattle.search.specs.declared.Found.{Found}
-use Rattle.search.specs.declared.Found.the-variants.{At, Nothing}
 use Rattle.opened.specs.Places.{isFound}
 use Rattle.opened.specs.Records.{placeCount, withRecord, withWritten, cleared, usedOf, slotOf, accessOf, pointerOf, writtenOf}
 use Rattle.records.specs.declared.OpenRecord.{OpenRecord}

@@ -1,4 +1,4 @@
-// An open record as a value, beside its form as bytes (crate opened). There are no functions here; crate lent has them.
+// An open record as a value, beside its form as bytes (crate opened). Crate lent has the functions over it.
 pub struct OpenRecord {
     pub used: bool,
     pub slot: u32,
