@@ -1,10 +1,8 @@
--- The laws of the definitions beside this folder.
+-- What holds of the calls over a row.
 pub mod Bytes
-pub mod Held
 pub mod Same
 pub mod SameCalls
 pub mod Through
-pub mod OpenAt
 pub mod OpenView
 pub mod OpenThrough
 pub mod Alike

@@ -1,4 +1,2 @@
--- The calls over a row of open records: the calls over bytes, read through the row.
-pub mod Rows
-pub mod OpenAt
+-- The calls over a row of open records: laws alone. The definitions are those of the crates records and single.
 pub mod Laws

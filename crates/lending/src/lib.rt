@@ -1,10 +1,9 @@
 // The calls over a lent row of open records, beside those over a table of bytes: the record is taken out of the row, the call done
 // on it, and the record that it leaves put back.
-pub mod held;
-mod place;
-
 use calls::Answer;
 use records::OpenRecord;
+use single::held;
+use single::place;
 use stamps::Stamp;
 ghost use mathlib.Core.List.{[]};
 ghost use Rattle.closing.specs.Close.{closeOutcome};
@@ -12,7 +11,7 @@ ghost use Rattle.opening.specs.Open.{openOutcome};
 ghost use Rattle.seeking.specs.Seek.{seekOutcome};
 ghost use Rattle.reading.specs.Read.{readOutcome};
 ghost use Rattle.writing.specs.Write.{writeOutcome};
-ghost use Rattle.lending.specs.Rows.{bytesOf, LeavesRow};
+ghost use Rattle.single.specs.Rows.{bytesOf, LeavesRow};
 
 pub fn seek(img: &[u8], row: &mut [OpenRecord], handle: u32, method: u32, offset: i32) -> Answer
     ensures { λ r. ⌜ LeavesRow (seekOutcome (now (img .entry)) (bytesOf (now (row .entry))) handle method offset) r (now (img .entry)) (now (row .exit)) [] ⌝ }

@@ -57,17 +57,17 @@ use Rattle.calls.specs.Refusals.{placeFound}
 use Rattle.lent.proofs.put_record.Symbol as put-def
 use Rattle.lent.proofs.put_record.Symbol.{name as #lent·put-record}
 use Rattle.lent.proofs.put_record.Met as put-thm
-use Rattle.lending.specs.Rows.{bytesOf, LeavesRow}
-use Rattle.lending.specs.OpenAt.{OpensAt}
+use Rattle.single.specs.Rows.{bytesOf, LeavesRow}
+use Rattle.single.specs.OpenAt.{OpensAt}
 use Rattle.lending.specs.Laws.OpenView.{free-fits}
 use Rattle.lending.specs.Laws.OpenThrough.{open-through}
-use Rattle.lending.specs.declared.place.Opened.{Opened}
-use Rattle.lending.proofs.place.Opened as Dn
-use Rattle.lending.proofs.place.Opened.Laws as DnLaws
-use Rattle.lending.proofs.place.open_at as callee
-use Rattle.lending.proofs.place.open_at.Symbol as callee-def
-use Rattle.lending.proofs.place.open_at.Symbol.{name as #lending·place·open-at}
-use Rattle.lending.proofs.place.open_at.Met as callee-thm
+use Rattle.single.specs.declared.place.Opened.{Opened}
+use Rattle.single.proofs.place.Opened as Dn
+use Rattle.single.proofs.place.Opened.Laws as DnLaws
+use Rattle.single.proofs.place.open_at as callee
+use Rattle.single.proofs.place.open_at.Symbol as callee-def
+use Rattle.single.proofs.place.open_at.Symbol.{name as #single·place·open-at}
+use Rattle.single.proofs.place.open_at.Met as callee-thm
 use Rattle.lending.proofs.open.Key.{name as #lending·open}
 use Rattle.lending.proofs.open as f
 use Rattle.lending.proofs.open.Statement as stated
@@ -143,7 +143,7 @@ module _ {M : Type 1} (𝓤 : URA M) (H : Heap 𝓤) (A : Atoms 𝓤) (W : Given
   held-is : (d : Opened) (v : Val) → Is Dn.the-row d (v ∷ []) → Is Rec.the-row (d .held) (spelling (d .held))
   held-is d v is = structs.owed Dn.the-type DnLaws.the-laws d _ is .1 .1 .0
 
-  module _ (C : Calls 𝓤 H) (Λ : Loops 𝓤 H) (fm : FmC 𝓤 H (W .laws) C) (known-lowest : Triple 𝓤 (C #lent·lowest-unused) (LowestUnused 𝓤 H A at-mem run)) (known-callee : Triple 𝓤 (C #lending·place·open-at) (Callee 𝓤 H A at-mem run)) (known-put : Triple 𝓤 (C #lent·put-record) (PutRecord 𝓤 H A at-mem run)) where
+  module _ (C : Calls 𝓤 H) (Λ : Loops 𝓤 H) (fm : FmC 𝓤 H (W .laws) C) (known-lowest : Triple 𝓤 (C #lent·lowest-unused) (LowestUnused 𝓤 H A at-mem run)) (known-callee : Triple 𝓤 (C #single·place·open-at) (Callee 𝓤 H A at-mem run)) (known-put : Triple 𝓤 (C #lent·put-record) (PutRecord 𝓤 H A at-mem run)) where
     walk : ent 𝓤 (onEntry 𝓤 H A f.signature (κ₀, (κ₁, (κ₂, tt))) (q₀, (q₁, (q₂, tt))) args vals) (WpFn 𝓤 H C Λ code.function (img-val ∷ row-val b o rows ∷ s-val ∷ vint w32 access ∷ []) Ends)
     walk =
         qed W ((‵ (flft κ₀ q₀) ⊛ ‵ (flft κ₁ q₁) ⊛ ‵ (flft κ₂ q₂) ⊛ ‵ ftrue) ∷ ‵ (owns (ShrSlice (named 0) κ₀ u8 ∷ MutSlice (named 1) κ₁ Rec.the-row ∷ ShrSlice (named 2) κ₂ u8 ∷ u32 ∷ []) args vals) ∷ []) ∵ enter ! C Λ code.function (img-val ∷ row-val b o rows ∷ s-val ∷ vint w32 access ∷ []) _ $
@@ -179,11 +179,11 @@ module _ {M : Type 1} (𝓤 : URA M) (H : Heap 𝓤) (A : Atoms 𝓤) (W : Given
         move ! (29 ∷ 30 ∷ []) $ free1 ! $ move ! (27 ∷ 28 ∷ []) $ free1 ! $ move ! (25 ∷ 26 ∷ []) $ free1 ! $ move ! (23 ∷ 24 ∷ []) $ free1 ! $ move ! (21 ∷ 22 ∷ []) $ free1 ! $ move ! (19 ∷ 20 ∷ []) $ free1 ! $ move ! (17 ∷ 18 ∷ []) $ free1 ! $ move ! (15 ∷ 16 ∷ []) $ free1 ! $ move ! (13 ∷ 14 ∷ []) $ free1 ! $ move ! (11 ∷ 12 ∷ []) $ free1 ! $ move ! (9 ∷ 10 ∷ []) $ free1 ! $ move ! (7 ∷ 8 ∷ []) $ free1 ! $ free0 ! $ keep ! (0 ∷ 1 ∷ 2 ∷ 4 ∷ 3 ∷ 6 ∷ 5 ∷ []) $ by ! (exits (d .answer) after len (open-through img-list s-list access rows fits free e₁ (d .answer) (d .place) (d .held) e₂ after e₃) (answer-is d w₂ is₂)))))))))))))))))))))))))
 
 module _ {M : Type 1} (𝓤 : URA M) (H : Heap 𝓤) (A : Atoms 𝓤) (W : Given 𝓤 H A) (at-mem : Memory → SProp 𝓤) (run : Routine → Fun 𝓤) (𝓣 : Tables 𝓤 H) where
-  walks : Triple 𝓤 (𝓣 .C #lent·lowest-unused) (LowestUnused 𝓤 H A at-mem run) → Triple 𝓤 (𝓣 .C #lending·place·open-at) (Callee 𝓤 H A at-mem run) → Triple 𝓤 (𝓣 .C #lent·put-record) (PutRecord 𝓤 H A at-mem run) → Walks 𝓤 H A f.ended stayed (WpFn 𝓤 H (𝓣 .C) (𝓣 .Λ) code.function) (f.clauses 𝓤 H A at-mem run)
+  walks : Triple 𝓤 (𝓣 .C #lent·lowest-unused) (LowestUnused 𝓤 H A at-mem run) → Triple 𝓤 (𝓣 .C #single·place·open-at) (Callee 𝓤 H A at-mem run) → Triple 𝓤 (𝓣 .C #lent·put-record) (PutRecord 𝓤 H A at-mem run) → Walks 𝓤 H A f.ended stayed (WpFn 𝓤 H (𝓣 .C) (𝓣 .Λ) code.function) (f.clauses 𝓤 H A at-mem run)
   walks known-lowest known-callee known-put = walked 𝓤 H A f.ended stayed (f.clauses 𝓤 H A at-mem run) (WpFn 𝓤 H (𝓣 .C) (𝓣 .Λ) code.function) (λ κs. (slice-vals, (slice-vals, (slice-vals, (uint-vals w32, tt))))) (λ κs. (shr-slice-tells (named 0) (κs .0) u8, (mut-slice-tells (named 1) (κs .1 .0) Rec.the-row, (shr-slice-tells (named 2) (κs .1 .1 .0) u8, (uint-tells w32, tt)))))
       (λ κs qs bounds a g are. via 𝓤 _ (fst∗ 𝓤 _ (emp 𝓤)) (walk 𝓤 H A W at-mem run (κs .0) (κs .1 .0) (κs .1 .1 .0) (qs .0) (qs .1 .0) (qs .1 .1 .0) (a .0 .ptr .0) (a .0 .ptr .1) (a .0 .name) (a .0 .now) (a .1 .0 .ptr .0) (a .1 .0 .ptr .1) (a .1 .0 .name) (a .1 .0 .now) (a .1 .1 .0 .ptr .0) (a .1 .1 .0 .ptr .1) (a .1 .1 .0 .name) (a .1 .1 .0 .now) (a .1 .1 .1 .0) (are .0 .0 .1) (are .1 .0 .0 .1) (are .1 .1 .0 .0 .1) (are .1 .1 .1 .0 .1) (𝓣 .C) (𝓣 .Λ) (fmOf 𝓤 H (W .laws) 𝓣) known-lowest known-callee known-put))
 
-  meets : Triple 𝓤 (𝓣 .C #lent·lowest-unused) (LowestUnused 𝓤 H A at-mem run) → Triple 𝓤 (𝓣 .C #lending·place·open-at) (Callee 𝓤 H A at-mem run) → Triple 𝓤 (𝓣 .C #lent·put-record) (PutRecord 𝓤 H A at-mem run) → Meets 𝓤 H A f.signature (WpFn 𝓤 H (𝓣 .C) (𝓣 .Λ) code.function) (f.spec 𝓤 H A at-mem run)
+  meets : Triple 𝓤 (𝓣 .C #lent·lowest-unused) (LowestUnused 𝓤 H A at-mem run) → Triple 𝓤 (𝓣 .C #single·place·open-at) (Callee 𝓤 H A at-mem run) → Triple 𝓤 (𝓣 .C #lent·put-record) (PutRecord 𝓤 H A at-mem run) → Meets 𝓤 H A f.signature (WpFn 𝓤 H (𝓣 .C) (𝓣 .Λ) code.function) (f.spec 𝓤 H A at-mem run)
   meets known-lowest known-callee known-put = walk-meets 𝓤 H A f.ended stayed W (goes-none-slice 𝓤 H A W 3 (0 ∷ []) tt (plain (λ _. u8)) yes, (goes-slice 𝓤 H A W 3 1 tt (plain (λ _. Rec.the-row)), (goes-none-slice 𝓤 H A W 3 (2 ∷ []) tt (plain (λ _. u8)) yes, (goes-none 𝓤 H A W 3 (λ _. u32) yes (λ κs x f. refl), tt)))) (f.clauses 𝓤 H A at-mem run) (WpFn 𝓤 H (𝓣 .C) (𝓣 .Λ) code.function) (WpFn-mono 𝓤 H (W .laws) 𝓣 code.function) (walks known-lowest known-callee known-put)
 
 pub open-spec : {M : Type 1} → stated.statement M
@@ -193,5 +193,5 @@ open-spec 𝓤 H 𝓜 𝓖 𝓡 =
     (tables 𝓤 H 𝓜 𝓡 code.env .C) (tables 𝓤 H 𝓜 𝓡 code.env .Λ) #lending·open code.function (code.unfolded 𝓤 H 𝓜 𝓡)
     (meets 𝓤 H (𝓖 .A) (givenOf 𝓤 H 𝓜 𝓖) (𝓜 .mem) (𝓡 .run) (tablesOf 𝓤 H 𝓜 (tables 𝓤 H 𝓜 𝓡 code.env))
     (cited 𝓤 H (LowestUnused 𝓤 H (𝓖 .A) (𝓜 .mem) (𝓡 .run)) 𝓜 𝓡 code.env #lent·lowest-unused lowest-def.routine code.calls-lent·lowest-unused (lowest-thm.met 𝓤 H 𝓜 𝓖 𝓡))
-    (cited 𝓤 H (Callee 𝓤 H (𝓖 .A) (𝓜 .mem) (𝓡 .run)) 𝓜 𝓡 code.env #lending·place·open-at callee-def.routine code.calls-lending·place·open-at (callee-thm.met 𝓤 H 𝓜 𝓖 𝓡))
+    (cited 𝓤 H (Callee 𝓤 H (𝓖 .A) (𝓜 .mem) (𝓡 .run)) 𝓜 𝓡 code.env #single·place·open-at callee-def.routine code.calls-single·place·open-at (callee-thm.met 𝓤 H 𝓜 𝓖 𝓡))
     (cited 𝓤 H (PutRecord 𝓤 H (𝓖 .A) (𝓜 .mem) (𝓡 .run)) 𝓜 𝓡 code.env #lent·put-record put-def.routine code.calls-lent·put-record (put-thm.met 𝓤 H 𝓜 𝓖 𝓡)))

@@ -18,7 +18,7 @@ use Rattle.writing.specs.Write.{writeOutcome}
 use Rattle.records.specs.Row.{rowOf, recordAt, withRecordAt, lowestUnusedIn}
 use Rattle.records.specs.Laws.Alike.{unused-alike}
 use Rattle.records.specs.declared.OpenRecord.{OpenRecord}
-use Rattle.lending.specs.Rows.{bytesOf, LeavesRow}
+use Rattle.single.specs.Rows.{bytesOf, LeavesRow}
 use Rattle.lending.specs.Laws.Bytes.{AllFit, says-fit, bytes-back}
 use Rattle.lending.specs.Laws.Same.{Same}
 use Rattle.lending.specs.Laws.SameCalls.{seek-same, read-same, write-same, close-same}

@@ -16,7 +16,7 @@ use Rattle.opened.specs.Laws.Records.{slot-small, pointer-small}
 use Rattle.records.specs.Row.{unused, recordAt, recordOf, rowFrom, rowOf}
 use Rattle.records.specs.Laws.Alike.{row-length, row-reads, record-of}
 use Rattle.records.specs.declared.OpenRecord.{OpenRecord}
-use Rattle.lending.specs.Rows.{placeBytes, bytesOf}
+use Rattle.single.specs.Rows.{placeBytes, bytesOf}
 
 -- a record's numbers fit their bytes
 pub record FitsIn (r : OpenRecord) : Type 0 where

@@ -20,7 +20,7 @@ use Rattle.records.specs.Row.{recordOf, rowOf, withRecordAt, lowestUnusedIn}
 use Rattle.records.specs.Laws.Alike.{record-of, unused-alike}
 use Rattle.records.specs.Laws.Stores.{row-set}
 use Rattle.records.specs.declared.OpenRecord.{OpenRecord}
-use Rattle.lending.specs.Rows.{bytesOf}
+use Rattle.single.specs.Rows.{bytesOf}
 use Rattle.lending.specs.Laws.Bytes.{AllFit, bytes-back}
 
 -- ---- a place taken holds what the record's own bytes say, whether or not its numbers fit

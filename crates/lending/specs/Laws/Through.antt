@@ -14,7 +14,7 @@ use Rattle.reading.specs.Read.{readOutcome}
 use Rattle.writing.specs.Write.{writeOutcome}
 use Rattle.records.specs.Row.{unused, rowOf, recordAt, withRecordAt}
 use Rattle.records.specs.declared.OpenRecord.{OpenRecord}
-use Rattle.lending.specs.Rows.{bytesOf, LeavesRow}
+use Rattle.single.specs.Rows.{bytesOf, LeavesRow}
 use Rattle.lending.specs.Laws.Bytes.{FitsIn, AllFit, fits-at, bytes-back}
 use Rattle.lending.specs.Laws.Same.{Same}
 use Rattle.lending.specs.Laws.SameCalls.{seek-same, read-same, write-same, close-same}

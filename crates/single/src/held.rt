@@ -10,7 +10,7 @@ ghost use Rattle.opening.specs.Open.{openOutcome};
 ghost use Rattle.seeking.specs.Seek.{seekOutcome};
 ghost use Rattle.reading.specs.Read.{readOutcome};
 ghost use Rattle.writing.specs.Write.{writeOutcome};
-ghost use Rattle.lending.specs.Rows.{bytesOf, LeavesRow};
+ghost use Rattle.single.specs.Rows.{bytesOf, LeavesRow};
 
 // What a call answers, and the record after it.
 pub struct Done {

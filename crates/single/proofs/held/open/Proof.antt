@@ -1,8 +1,8 @@
 -- The record that the table of one record says after the call.
-use Rattle.lending.specs.Laws.Held.{open-held}
+use Rattle.single.specs.Laws.Held.{open-held}
 use borrow.Author.Needs.{needs}
-use Rattle.lending.proofs.held.open.Statement.{statement}
-use Rattle.lending.proofs.held.open.Tie as tie
+use Rattle.single.proofs.held.open.Statement.{statement}
+use Rattle.single.proofs.held.open.Tie as tie
 
 table-of-requires : tie.Need-table-of-requires
 table-of-requires c κs = search needs

@@ -1,8 +1,8 @@
 -- A free record or a used one.
-use Rattle.lending.specs.Laws.OpenAt.{spare-free, spare-none}
+use Rattle.single.specs.Laws.OpenAt.{spare-free, spare-none}
 use borrow.Author.Needs.{needs}
-use Rattle.lending.proofs.place.spare.Statement.{statement}
-use Rattle.lending.proofs.place.spare.Tie as tie
+use Rattle.single.proofs.place.spare.Statement.{statement}
+use Rattle.single.proofs.place.spare.Tie as tie
 
 enum-told : tie.Need-enum-told
 enum-told c = search needs

@@ -12,7 +12,7 @@ use Rattle.calls.specs.declared.Answer.{Answer}
 use Rattle.opening.specs.Open.{openOutcome}
 use Rattle.records.specs.Row.{unused, rowOf}
 use Rattle.records.specs.declared.OpenRecord.{OpenRecord}
-use Rattle.lending.specs.Rows.{bytesOf}
+use Rattle.single.specs.Rows.{bytesOf}
 
 -- the one record: a free place, or a used one where none is free
 unfoldable pub spareFor : Found → OpenRecord

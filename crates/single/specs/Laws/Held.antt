@@ -21,7 +21,7 @@ use Rattle.reading.specs.Read.{readOutcome, Reads}
 use Rattle.writing.specs.Write.{writeOutcome, Writes}
 use Rattle.records.specs.Row.{rowFrom, rowOf, recordAt}
 use Rattle.records.specs.declared.OpenRecord.{OpenRecord}
-use Rattle.lending.specs.Rows.{placeBytes, bytesOf, LeavesRow}
+use Rattle.single.specs.Rows.{placeBytes, bytesOf, LeavesRow}
 
 -- ---- the table made
 

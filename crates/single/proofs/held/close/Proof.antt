@@ -1,17 +1,17 @@
 -- The record that the table of one record says after the call.
-use Rattle.lending.specs.Laws.Held.{write-held}
+use Rattle.single.specs.Laws.Held.{close-held}
 use borrow.Author.Needs.{needs}
-use Rattle.lending.proofs.held.write.Statement.{statement}
-use Rattle.lending.proofs.held.write.Tie as tie
+use Rattle.single.proofs.held.close.Statement.{statement}
+use Rattle.single.proofs.held.close.Tie as tie
 
 table-of-requires : tie.Need-table-of-requires
 table-of-requires c κs = search needs
 
-slice-aggregate-write : tie.Need-slice-aggregate-write
-slice-aggregate-write c = search needs
+slice-aggregate-close : tie.Need-slice-aggregate-close
+slice-aggregate-close c = search needs
 
-write-requires : tie.Need-write-requires
-write-requires c κs = search needs
+close-requires : tie.Need-close-requires
+close-requires c κs = search needs
 
 slice-aggregate-from-bytes : tie.Need-slice-aggregate-from-bytes
 slice-aggregate-from-bytes c = search needs
@@ -23,15 +23,15 @@ same-length : tie.Need-same-length
 same-length c = search needs
 
 returns : tie.Need-returns
-returns c = search write-held
+returns c = search close-held
 
-pub write-spec : {M : Type 1} → statement M
-write-spec =
+pub close-spec : {M : Type 1} → statement M
+close-spec =
     tie.close
     (tie.spec
     table-of-requires
-    slice-aggregate-write
-    write-requires
+    slice-aggregate-close
+    close-requires
     slice-aggregate-from-bytes
     from-bytes-requires
     same-length

@@ -1,8 +1,8 @@
 -- The two marks are stored last.
-use Rattle.lending.specs.Laws.Held.{table-made}
+use Rattle.single.specs.Laws.Held.{table-made}
 use borrow.Author.Needs.{needs}
-use Rattle.lending.proofs.held.table_of.Statement.{statement}
-use Rattle.lending.proofs.held.table_of.Tie as tie
+use Rattle.single.proofs.held.table_of.Statement.{statement}
+use Rattle.single.proofs.held.table_of.Tie as tie
 
 slice-aggregate-put-record : tie.Need-slice-aggregate-put-record
 slice-aggregate-put-record c = search needs

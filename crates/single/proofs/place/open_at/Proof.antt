@@ -1,8 +1,8 @@
 -- The place found goes with an answer that is well, and none with a refusal.
-use Rattle.lending.specs.Laws.OpenAt.{opened-well, opened-refused}
+use Rattle.single.specs.Laws.OpenAt.{opened-well, opened-refused}
 use borrow.Author.Needs.{needs}
-use Rattle.lending.proofs.place.open_at.Statement.{statement}
-use Rattle.lending.proofs.place.open_at.Tie as tie
+use Rattle.single.proofs.place.open_at.Statement.{statement}
+use Rattle.single.proofs.place.open_at.Tie as tie
 
 spare-requires : tie.Need-spare-requires
 spare-requires c κs = search needs

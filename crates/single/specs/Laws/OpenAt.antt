@@ -13,9 +13,9 @@ use Rattle.calls.specs.declared.Answer.{Answer}
 use Rattle.opening.specs.Open.{openOutcome}
 use Rattle.records.specs.Row.{unused}
 use Rattle.records.specs.declared.OpenRecord.{OpenRecord}
-use Rattle.lending.specs.declared.held.Done.{Done}
-use Rattle.lending.specs.Rows.{bytesOf, LeavesRow}
-use Rattle.lending.specs.OpenAt.{spareFor, OpensAt}
+use Rattle.single.specs.declared.held.Done.{Done}
+use Rattle.single.specs.Rows.{bytesOf, LeavesRow}
+use Rattle.single.specs.OpenAt.{spareFor, OpensAt}
 
 pub spare-free : (free : Found) (p : ℕ) → free ≡ At p → unused ≡ spareFor free
 unfolding spareFor
