@@ -13,7 +13,7 @@ use Rattle.directory.specs.Search.{slotFrom}
 use Rattle.sound.specs.Judged.{checkOfArea}
 use Rattle.sound.specs.declared.Verdict.{Verdict}
 use Rattle.sound.specs.declared.Verdict.the-variants.{Sound, Finding}
-use Rattle.text.specs.Lines.{fileText, soundText, unsoundText}
+use Rattle.lines.specs.Lines.{fileText, soundText, unsoundText}
 
 -- ---- the files
 

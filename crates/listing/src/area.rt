@@ -7,7 +7,7 @@ ghost use lib.ListN.{length};
 ghost use Rattle.diskette.specs.Images.{AreaOf};
 ghost use Rattle.sound.specs.declared.Verdict.the-variants.{Sound};
 ghost use Rattle.text.specs.Puts.{PutsIn};
-ghost use Rattle.text.specs.Lines.{fileRoom};
+ghost use Rattle.lines.specs.Lines.{fileRoom};
 ghost use Rattle.listing.specs.Listing.{entryText, slotText, filesText, volumeText, listingOf, listingRoom};
 
 // The lines of the plain file whose entry stands at byte a.
@@ -22,7 +22,7 @@ fn put_entry(area: &[u8], a: usize, out: &mut [u8], at: usize) -> usize
     let start = directory::start_at(area, a);
     let date = directory::date_at(area, a);
     let time = directory::time_at(area, a);
-    text::put_file(out, at, name, attr, size, start, date, time)
+    lines::put_file(out, at, name, attr, size, start, date, time)
 }
 
 // The same of any entry: nothing where there is no plain file.
@@ -69,7 +69,7 @@ fn put_volume(
 {
     let root = k.root_at();
     let count = k.root_entries();
-    let first = text::put_sound(out, 0, k.byte, k.clusters(), free, held, aside, files);
+    let first = lines::put_sound(out, 0, k.byte, k.clusters(), free, held, aside, files);
     put_files(area, root, count, out, first)
 }
 
@@ -83,8 +83,8 @@ pub fn list(area: &[u8], out: &mut [u8]) -> usize
             Verdict::Sound(files, free, held, aside) => {
                 put_volume(area, k, out, files, free, held, aside)
             }
-            Verdict::Finding(finding, place) => text::put_unsound(out, 0, finding, place),
+            Verdict::Finding(finding, place) => lines::put_unsound(out, 0, finding, place),
         },
-        WhichKind::Unknown => text::put_unsound(out, 0, 1, 0),
+        WhichKind::Unknown => lines::put_unsound(out, 0, 1, 0),
     }
 }

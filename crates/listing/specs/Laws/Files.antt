@@ -11,7 +11,7 @@ use Rattle.directory.specs.Fields.{nameOf, attrOf, timeOf, dateOf, startOf, siz
 use Rattle.directory.specs.Slots.{standingOf, isPlain}
 use Rattle.directory.specs.Search.{slotFrom}
 use Rattle.text.specs.Puts.{PutsIn}
-use Rattle.text.specs.Lines.{fileText, fileRoom}
+use Rattle.lines.specs.Lines.{fileText, fileRoom}
 use Rattle.text.specs.Laws.Puts.{puts-nothing}
 use Rattle.listing.specs.Listing.{entryText, slotText, filesText}
 

@@ -19,7 +19,7 @@ use Rattle.sound.specs.Judged.{checkOfArea}
 use Rattle.sound.specs.Laws.OneAnswer.{area-is}
 use Rattle.sound.specs.declared.Verdict.{Verdict}
 use Rattle.sound.specs.declared.Verdict.the-variants.{Sound, Finding}
-use Rattle.text.specs.Lines.{fileRoom, soundText, soundRoom, unsoundText, unsoundRoom}
+use Rattle.lines.specs.Lines.{fileRoom, soundText, soundRoom, unsoundText, unsoundRoom}
 use Rattle.text.specs.Puts.{PutsIn}
 use Rattle.text.specs.Laws.Puts.{puts-then}
 use Rattle.listing.specs.Listing.{filesText, volumeText, listingBy, listingOf, listingRoom}

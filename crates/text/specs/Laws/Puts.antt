@@ -7,7 +7,6 @@ use lib.ListN.{length-append}
 use Rattle.image.specs.Store.{stored}
 use Rattle.image.specs.Laws.Store.{stored-append}
 use Rattle.text.specs.Ascii.{ascii}
-use Rattle.text.specs.Lines.{line}
 use Rattle.text.specs.Puts.{Puts, PutsIn}
 use Rattle.text.specs.Stamps.{threeText, timeShown, timeText}
 use Rattle.stamps.specs.Stamps.{timeRead}
@@ -28,11 +27,6 @@ puts-then s t l at r m r′ m′ p q =
       stores = rw (stored-append l at s t, ← p .next, ← p .stores) (q .stores);
       next = rw (length-append s t) (omega arith);
     }
-
-pub puts-line : (key value l : List ℕ) (at a : ℕ) (m : List ℕ) (b : ℕ) (n : List ℕ) (r : ℕ) (o : List ℕ)
-    → Puts key l at a m → Puts value m a b n → Puts (ascii "\n") n b r o → Puts (line key value) l at r o
-unfolding line
-puts-line key value l at a m b n r o p q e = puts-then key (value ++ ascii "\n") l at a m r o p (puts-then value (ascii "\n") m a b n r o q e)
 
 -- a value that was told apart is shown as what it is
 pub puts-shown : {A : Type 0} (show : A → List ℕ) (read told a : A) (l : List ℕ) (at r : ℕ) (m : List ℕ) → a ≡ read → a ≡ told → Puts (show told) l at r m → Puts (show read) l at r m
