@@ -8,6 +8,7 @@
 #   x86.sh --sanitizers        prints gcc's words for those of its sanitizers that run here
 #   x86.sh --cargo [WORDS..]   runs cargo for x86-64; what it makes is under target/x86_64-unknown-linux-gnu/
 #   x86.sh --count PLUGIN PROGRAM [WORDS..]   runs it under the emulator, on any machine, with a plugin of the emulator
+#   x86.sh --prepare           installs all that the words above need here
 #   x86.sh --native            says by its exit status whether x86-64 programs run here without the emulator
 set -eu
 
@@ -44,6 +45,12 @@ need_rust() {
   fi
 }
 
+need_all() {
+  need_emulator
+  need_compiler
+  need_rust
+}
+
 # with_target FIRST [WORDS..]: cargo's words with the target after the first, the subcommand.
 with_target() {
   local subcommand=$1
@@ -73,12 +80,13 @@ case ${1:-} in
   need_emulator
   exec $emulator $loader --preload "$library" --library-path /lib/x86_64-linux-gnu "$@"
   ;;
+--prepare)
+  $native || need_all
+  ;;
 --cargo)
   shift
   $native && with_target "$@"
-  need_emulator
-  need_compiler
-  need_rust
+  need_all
   export RUSTC=/usr/bin/rustc
   export CARGO_TARGET_X86_64_UNKNOWN_LINUX_GNU_LINKER=x86_64-linux-gnu-gcc
   export CARGO_TARGET_X86_64_UNKNOWN_LINUX_GNU_RUNNER="$emulator $loader --library-path /lib/x86_64-linux-gnu"
