@@ -1,7 +1,7 @@
 -- Number and value go over to pack as they are.
 use borrow.Author.Needs.{needs}
-use Rattle.scale.proofs.answer.hand.Statement.{statement}
-use Rattle.scale.proofs.answer.hand.Tie as tie
+use Rattle.packing.proofs.answer.hand.Statement.{statement}
+use Rattle.packing.proofs.answer.hand.Tie as tie
 
 pack-requires : tie.Need-pack-requires
 pack-requires c κs = search needs

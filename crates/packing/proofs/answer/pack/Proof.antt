@@ -1,8 +1,8 @@
 -- Both halves are below 2^32, so each can be had back.
-use Rattle.scale.specs.Laws.Packing.{packs}
+use Rattle.packing.specs.Laws.Packing.{packs}
 use borrow.Author.Needs.{needs}
-use Rattle.scale.proofs.answer.pack.Statement.{statement}
-use Rattle.scale.proofs.answer.pack.Tie as tie
+use Rattle.packing.proofs.answer.pack.Statement.{statement}
+use Rattle.packing.proofs.answer.pack.Tie as tie
 
 mul-result : tie.Need-mul-result
 mul-result c = search needs
