@@ -16,8 +16,8 @@ use Rattle.table.specs.Entries.{tableOf}
 use Rattle.table.specs.Values.{meaningOf}
 use Rattle.table.specs.declared.Meaning.{Meaning}
 use Rattle.table.specs.declared.Meaning.the-variants.{Free, Next, Aside, End, NoneOfThese}
+use Rattle.walks.specs.Laws.Meanings.{isEnd, isNext, end-said, link-said}
 use Rattle.chaincheck.specs.Laws.Searches.{search-hit, search-miss}
-use Rattle.chaincheck.specs.Laws.Meanings.{isEnd, isNext, end-said, link-said}
 
 -- ---- finding 6
 

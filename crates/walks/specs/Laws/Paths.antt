@@ -13,7 +13,7 @@ use Rattle.chains.specs.Values.{Link}
 use Rattle.chains.specs.Laws.Chain.{chain-once}
 use Rattle.chains.specs.Laws.Lists.{dec-mem, mem-occ, occ-append, occ-not}
 use Rattle.chains.specs.Laws.Marks.{marks-at}
-use Rattle.chaincheck.specs.Walks.{Path, Tails}
+use Rattle.walks.specs.Walks.{Path, Tails}
 
 -- ---- paths
 

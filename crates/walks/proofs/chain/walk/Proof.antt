@@ -5,10 +5,10 @@ use Prim.Native.Nat.{_-_}
 use mathlib.Core.Path.{_≡_}
 use lib.ListN.{length}
 use Rattle.table.specs.Entries.{tableOf}
-use Rattle.chaincheck.specs.Walks.{Walking}
-use Rattle.chaincheck.specs.Laws.WalkTurns.{walk-begins, walk-circles, walk-joins, mark-fits, walk-ends-stored, walk-ends, walk-goes-on, walk-free, walk-aside, walk-bad, walk-spent}
-use Rattle.chaincheck.proofs.walks.walk.Statement.{statement}
-use Rattle.chaincheck.proofs.walks.walk.Tie as tie
+use Rattle.walks.specs.Walks.{Walking}
+use Rattle.walks.specs.Laws.WalkTurns.{walk-begins, walk-circles, walk-joins, mark-fits, walk-ends-stored, walk-ends, walk-goes-on, walk-free, walk-aside, walk-bad, walk-spent}
+use Rattle.walks.proofs.chain.walk.Statement.{statement}
+use Rattle.walks.proofs.chain.walk.Tie as tie
 
 abbrev Inv-loop : tie.InvT-loop
 Inv-loop img marks₀ left last start clusters met₀ c₀ marks met c = (length marks ≡ length marks₀) × Walking last (tableOf last img) start marks₀ met c marks

@@ -22,11 +22,10 @@ use Rattle.table.specs.Entries.{tableOf}
 use Rattle.table.specs.Values.{Values, meaningOf}
 use Rattle.table.specs.declared.Meaning.{Meaning}
 use Rattle.table.specs.declared.Meaning.the-variants.{Free, Next, Aside, End, NoneOfThese}
-use Rattle.chaincheck.specs.Walks.{Tails, Walked, Walking}
-use Rattle.chaincheck.specs.Visits.{ValueIs}
-use Rattle.chaincheck.specs.Laws.Meanings.{isEnd, isNext, meaning-says, end-said, link-said}
-use Rattle.chaincheck.specs.Laws.Paths.{path-on, path-leads, path-head, path-rising, leads-chain, path-split, path-once, mark-of, mark-unmet, marks-rising, tail-twice}
-use Rattle.chaincheck.specs.declared.Walk.the-variants.{Ends, Endless}
+use Rattle.walks.specs.Walks.{ValueIs, Tails, Walked, Walking}
+use Rattle.walks.specs.Laws.Meanings.{isEnd, isNext, meaning-says, end-said, link-said}
+use Rattle.walks.specs.Laws.Paths.{path-on, path-leads, path-head, path-rising, leads-chain, path-split, path-once, mark-of, mark-unmet, marks-rising, tail-twice}
+use Rattle.walks.specs.declared.Walk.the-variants.{Ends, Endless}
 
 pub walk-begins : (last : ℕ) (l : List ℕ) (start : ℕ) (m : List ℕ) → 2 ≤ start → start ≤ last → Walking last (tableOf last l) start m 0 start m
 walk-begins last l start m a b = record { from = a; to = b; met = []; path = refl; many = refl; marks-are = unfold marks in refl }

@@ -13,9 +13,9 @@ use Rattle.table.specs.Values.{Values, meaningOf}
 use Rattle.table.specs.Laws.OneCopy.{entry-small}
 use Rattle.table.specs.Laws.Values.{meaning-is}
 use Rattle.table.specs.Laws.View.{table-inside}
-use Rattle.chaincheck.specs.Visits.{ValueIs}
 use Rattle.table.specs.declared.Meaning.{Meaning}
 use Rattle.table.specs.declared.Meaning.the-variants.{Free, Next, Aside, End, NoneOfThese}
+use Rattle.walks.specs.Walks.{ValueIs}
 
 pub value-is : (last : ℕ) (l : List ℕ) (c v : ℕ) → Bytes l → 2 ≤ c → c ≤ last → v ≡ entryOf l c → ValueIs last l c v
 value-is last l c v bytes from to r = record { is = r ∙ sym (table-inside last l c from to); small = rw r (entry-small 512 l c bytes) }

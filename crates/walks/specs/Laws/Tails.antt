@@ -17,12 +17,11 @@ use Rattle.chains.specs.Values.{Link}
 use Rattle.chains.specs.Laws.Chain.{chain-length}
 use Rattle.chains.specs.Laws.Lists.{dec-mem, mem-append}
 use Rattle.table.specs.Entries.{tableOf}
-use Rattle.chaincheck.specs.Walks.{LeadsTo, Tails, WalkEnds, Walked, walkedBy, leftStored, Visited}
-use Rattle.chaincheck.specs.Visits.{ValueIs}
-use Rattle.chaincheck.specs.Laws.Paths.{leads-chain, chain-leads, mark-of, mark-unmet, marks-rising}
-use Rattle.chaincheck.specs.declared.Length.the-variants.{Of, NoEnd}
-use Rattle.chaincheck.specs.declared.Walk.{Walk}
-use Rattle.chaincheck.specs.declared.Walk.the-variants.{Ends, Endless}
+use Rattle.walks.specs.Walks.{ValueIs, LeadsTo, Tails, WalkEnds, Walked, walkedBy, leftStored, Visited}
+use Rattle.walks.specs.Laws.Paths.{leads-chain, chain-leads, mark-of, mark-unmet, marks-rising}
+use Rattle.walks.specs.declared.Length.the-variants.{Of, NoEnd}
+use Rattle.walks.specs.declared.Walk.{Walk}
+use Rattle.walks.specs.declared.Walk.the-variants.{Ends, Endless}
 
 -- ---- in the beginning
 

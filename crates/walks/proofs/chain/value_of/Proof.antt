@@ -1,9 +1,9 @@
 -- Bytes make entries of 12 bits.
-use Rattle.chaincheck.specs.Laws.Meanings.{value-is}
+use Rattle.walks.specs.Laws.Meanings.{value-is}
 use native.Mathlib.Omega.{arith}
 use borrow.Author.Needs.{needs}
-use Rattle.chaincheck.proofs.walks.value_of.Statement.{statement}
-use Rattle.chaincheck.proofs.walks.value_of.Tie as tie
+use Rattle.walks.proofs.chain.value_of.Statement.{statement}
+use Rattle.walks.proofs.chain.value_of.Tie as tie
 
 entry-requires : tie.Need-entry-requires
 entry-requires c κs = search needs

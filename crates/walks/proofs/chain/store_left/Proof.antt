@@ -4,10 +4,10 @@ use Prim.Native.Nat.{_-_, _≤_}
 use mathlib.Core.Path.{_≡_}
 use lib.ListN.{length}
 use Rattle.table.specs.Entries.{tableOf}
-use Rattle.chaincheck.specs.Walks.{LeadsTo, leftStored}
-use Rattle.chaincheck.specs.Laws.Tails.{store-from, store-to, store-at, store-inside, store-on, store-turn, store-end}
-use Rattle.chaincheck.proofs.walks.store_left.Statement.{statement}
-use Rattle.chaincheck.proofs.walks.store_left.Tie as tie
+use Rattle.walks.specs.Walks.{LeadsTo, leftStored}
+use Rattle.walks.specs.Laws.Tails.{store-from, store-to, store-at, store-inside, store-on, store-turn, store-end}
+use Rattle.walks.proofs.chain.store_left.Statement.{statement}
+use Rattle.walks.proofs.chain.store_left.Tie as tie
 
 abbrev Inv-loop : tie.InvT-loop
 Inv-loop img left₀ last start n known c₀ rest₀ left c rest = (known ≤ rest) × (rest ≤ n) × (length left ≡ length left₀) × LeadsTo last (tableOf last img) c rest × (leftStored (tableOf last img) left c rest (rest - known) ≡ leftStored (tableOf last img) left₀ start n (n - known))

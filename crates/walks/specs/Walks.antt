@@ -1,5 +1,5 @@
 -- An aid to the proofs: the walk along one chain, and what the two buffers hold between the files.
-use Prim.Native.Nat.{ℕ, zero, suc, _+_, _-_, _≤_}
+use Prim.Native.Nat.{ℕ, zero, suc, _+_, _-_, _≤_, _<_}
 use mathlib.Core.List.{List, [], _∷_, _++_}
 use mathlib.Core.Logic.{_≢_}
 use mathlib.Core.Path.{_≡_}
@@ -8,10 +8,16 @@ use Rattle.chains.specs.Chain.{Chain, Leads}
 use Rattle.chains.specs.Lists.{_∈_}
 use Rattle.chains.specs.Marks.{marks}
 use Rattle.chains.specs.Values.{Link}
-use Rattle.chaincheck.specs.declared.Length.{Length}
-use Rattle.chaincheck.specs.declared.Length.the-variants.{Of, NoEnd}
-use Rattle.chaincheck.specs.declared.Walk.{Walk}
-use Rattle.chaincheck.specs.declared.Walk.the-variants.{Ends, Endless}
+use Rattle.table.specs.Entries.{tableOf}
+use Rattle.walks.specs.declared.Length.{Length}
+use Rattle.walks.specs.declared.Length.the-variants.{Of, NoEnd}
+use Rattle.walks.specs.declared.Walk.{Walk}
+use Rattle.walks.specs.declared.Walk.the-variants.{Ends, Endless}
+
+-- r is the value of cluster c, which has 12 bits
+pub record ValueIs (last : ℕ) (l : List ℕ) (c r : ℕ) : Type 0 where
+  pub is : r ≡ tableOf last l c
+  pub small : r < 4096
 
 -- v leads to n clusters
 pub record LeadsTo (last : ℕ) (f : ℕ → ℕ) (v n : ℕ) : Type 0 where

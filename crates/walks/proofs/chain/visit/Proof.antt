@@ -1,8 +1,8 @@
 -- The walk answers, and where it met clusters again the number left is stored for all it met.
-use Rattle.chaincheck.specs.Laws.Tails.{visit-empty, visit-below, visit-above, visit-endless, walk-leads, walk-known, walk-few, visit-ends}
+use Rattle.walks.specs.Laws.Tails.{visit-empty, visit-below, visit-above, visit-endless, walk-leads, walk-known, walk-few, visit-ends}
 use borrow.Author.Needs.{needs}
-use Rattle.chaincheck.proofs.walks.visit.Statement.{statement}
-use Rattle.chaincheck.proofs.walks.visit.Tie as tie
+use Rattle.walks.proofs.chain.visit.Statement.{statement}
+use Rattle.walks.proofs.chain.visit.Tie as tie
 
 returns : tie.Need-returns
 returns c = search visit-empty
