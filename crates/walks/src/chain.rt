@@ -1,7 +1,7 @@
 // The walk along one chain.
 use crate::Length;
 use crate::Walk;
-use table::Meaning;
+use values::Meaning;
 ghost use mathlib.Core.Path.{_≡_};
 ghost use Prim.Native.Nat.{_+_, _-_, _≤_, _<_};
 ghost use lib.ListN.{length};
@@ -43,7 +43,7 @@ fn walk(img: &[u8], marks: &mut [u8], left: &[u16], last: usize, start: usize) -
         }
         marks[c] = before + 1;
         met += 1;
-        match table::meaning_of(value_of(img, last, c), last) {
+        match values::meaning_of(value_of(img, last, c), last) {
             Meaning::End => {
                 // Along a chain marks do not fall: where its last cluster was not met before, none was.
                 if before == 1 {

@@ -8,13 +8,13 @@ use Rattle.image.specs.Bytes.{Bytes}
 use Rattle.chains.specs.Values.{endb, linkb}
 use Rattle.chains.specs.Laws.Tests.{true-says, false-says}
 use Rattle.chains.specs.Laws.Values.{says-end, says-link}
+use Rattle.values.specs.Values.{Values, meaningOf}
+use Rattle.values.specs.Laws.Values.{meaning-is}
+use Rattle.values.specs.declared.Meaning.{Meaning}
+use Rattle.values.specs.declared.Meaning.the-variants.{Free, Next, Aside, End, NoneOfThese}
 use Rattle.table.specs.Entries.{entryOf}
-use Rattle.table.specs.Values.{Values, meaningOf}
 use Rattle.table.specs.Laws.OneCopy.{entry-small}
-use Rattle.table.specs.Laws.Values.{meaning-is}
 use Rattle.table.specs.Laws.View.{table-inside}
-use Rattle.table.specs.declared.Meaning.{Meaning}
-use Rattle.table.specs.declared.Meaning.the-variants.{Free, Next, Aside, End, NoneOfThese}
 use Rattle.walks.specs.Walks.{ValueIs}
 
 pub value-is : (last : ℕ) (l : List ℕ) (c v : ℕ) → Bytes l → 2 ≤ c → c ≤ last → v ≡ entryOf l c → ValueIs last l c v

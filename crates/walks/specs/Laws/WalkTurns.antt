@@ -18,10 +18,10 @@ use Rattle.chains.specs.Laws.Chain.{chain-length}
 use Rattle.chains.specs.Laws.Marks.{marks-append, marks-length, marks-stay}
 use Rattle.chains.specs.Laws.Tests.{says-false}
 use Rattle.chains.specs.Laws.Values.{says-end, says-link}
+use Rattle.values.specs.Values.{Values, meaningOf}
+use Rattle.values.specs.declared.Meaning.{Meaning}
+use Rattle.values.specs.declared.Meaning.the-variants.{Free, Next, Aside, End, NoneOfThese}
 use Rattle.table.specs.Entries.{tableOf}
-use Rattle.table.specs.Values.{Values, meaningOf}
-use Rattle.table.specs.declared.Meaning.{Meaning}
-use Rattle.table.specs.declared.Meaning.the-variants.{Free, Next, Aside, End, NoneOfThese}
 use Rattle.walks.specs.Walks.{ValueIs, Tails, Walked, Walking}
 use Rattle.walks.specs.Laws.Meanings.{isEnd, isNext, meaning-says, end-said, link-said}
 use Rattle.walks.specs.Laws.Paths.{path-on, path-leads, path-head, path-rising, leads-chain, path-split, path-once, mark-of, mark-unmet, marks-rising, tail-twice}

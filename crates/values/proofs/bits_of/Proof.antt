@@ -1,7 +1,7 @@
 -- Even or odd picks the half.
-use Rattle.table.specs.Laws.Bits.{bits-even, bits-odd}
-use Rattle.table.proofs.bits_of.Statement.{statement}
-use Rattle.table.proofs.bits_of.Tie as tie
+use Rattle.values.specs.Laws.Bits.{bits-even, bits-odd}
+use Rattle.values.proofs.bits_of.Statement.{statement}
+use Rattle.values.proofs.bits_of.Tie as tie
 
 returns : tie.Need-returns
 returns c = search bits-even

@@ -1,8 +1,8 @@
 -- Even or odd picks the half.
-use Rattle.table.specs.Laws.Bits.{word-even, word-odd}
+use Rattle.values.specs.Laws.Bits.{word-even, word-odd}
 use borrow.Author.Needs.{needs}
-use Rattle.table.proofs.with_bits.Statement.{statement}
-use Rattle.table.proofs.with_bits.Tie as tie
+use Rattle.values.proofs.with_bits.Statement.{statement}
+use Rattle.values.proofs.with_bits.Tie as tie
 
 mul-result : tie.Need-mul-result
 mul-result c = search needs

@@ -5,9 +5,9 @@ use native.Mathlib.Decide.{ℕ-discrete, decLe, decLt}
 use mathlib.Core.Logic.{_≢_, _↔_}
 use mathlib.Core.Path.{_≡_, refl, sym, subst}
 use borrow.Author.Tests.{eq-eqb, ne-eqb, lt-ltb, le-ltb, le-leb, lt-leb}
-use Rattle.table.specs.Values.{Values, meaningOf}
-use Rattle.table.specs.declared.Meaning.{Meaning}
-use Rattle.table.specs.declared.Meaning.the-variants.{Free, Next, Aside, End, NoneOfThese}
+use Rattle.values.specs.Values.{Values, meaningOf}
+use Rattle.values.specs.declared.Meaning.{Meaning}
+use Rattle.values.specs.declared.Meaning.the-variants.{Free, Next, Aside, End, NoneOfThese}
 
 module _ (last v : ℕ) where
   -- ---- in the form of the code's needs, test by test

@@ -1,7 +1,7 @@
 -- Each test passed or failed picks its case.
-use Rattle.table.specs.Laws.Values.{means-free, means-one, means-next, means-end, means-aside, means-between}
-use Rattle.table.proofs.meaning_of.Statement.{statement}
-use Rattle.table.proofs.meaning_of.Tie as tie
+use Rattle.values.specs.Laws.Values.{means-free, means-one, means-next, means-end, means-aside, means-between}
+use Rattle.values.proofs.meaning_of.Statement.{statement}
+use Rattle.values.proofs.meaning_of.Tie as tie
 
 returns : tie.Need-returns
 returns c = search means-free

@@ -5,7 +5,7 @@ use mathlib.Core.Bool.{Bool, true, false}
 use mathlib.Core.Logic.{_≢_}
 use mathlib.Core.Path.{_≡_}
 use borrow.Author.Tests.{eq-eqb, ne-eqb}
-use Rattle.table.specs.Entries.{even, taken, kept}
+use Rattle.values.specs.Bits.{even, taken, kept}
 
 pub taken-small : (e : Bool) (w : ℕ) → w < 65536 → taken e w < 4096
 unfolding taken
