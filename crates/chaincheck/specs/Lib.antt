@@ -2,6 +2,5 @@
 -- has the definitions.
 pub mod Held
 pub mod Entries
-pub mod Walks
 pub mod Visits
 pub mod Laws

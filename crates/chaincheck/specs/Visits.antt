@@ -1,5 +1,5 @@
 -- An aid to the proofs: what the loops of check find on their way, two things in one pass.
-use Prim.Native.Nat.{ℕ, _+_, _*_, _-_, _≤_, _<_}
+use Prim.Native.Nat.{ℕ, _+_, _*_, _-_, _≤_}
 use mathlib.Core.Bool.{Bool, true, false}
 use mathlib.Core.List.{List}
 use mathlib.Core.Option.{Option, none, some}
@@ -17,19 +17,13 @@ use Rattle.table.specs.Entries.{tableOf}
 use Rattle.directory.specs.Fields.{sizeOf}
 use Rattle.directory.specs.Slots.{standingOf, isPlain}
 use Rattle.directory.specs.Search.{slotFrom}
+use Rattle.walks.specs.Walks.{Tails}
 use Rattle.chaincheck.specs.Held.{plainSlot, heldBy}
 use Rattle.chaincheck.specs.Entries.{holderAt, badChainSlot, chainsOf}
-use Rattle.chaincheck.specs.Walks.{Tails}
 use Rattle.chaincheck.specs.declared.Slot.{Slot}
 use Rattle.chaincheck.specs.declared.Slot.the-variants.{NoFile, Bad, Clusters}
 use Rattle.chaincheck.specs.declared.Chains.{Chains}
 use Rattle.chaincheck.specs.declared.Chains.the-variants.{BadChain, Held}
-
--- ---- the value of cluster c, which has 12 bits
-
-pub record ValueIs (last : ℕ) (l : List ℕ) (c r : ℕ) : Type 0 where
-  pub is : r ≡ tableOf last l c
-  pub small : r < 4096
 
 -- ---- the entry at byte a: no file, one with a bad chain, or the number of its clusters
 

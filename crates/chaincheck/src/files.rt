@@ -1,12 +1,11 @@
 // The files of a directory, one after the other.
 use crate::Chains;
-use crate::Length;
 use crate::Slot;
-use crate::walks;
+use walks::Length;
 ghost use Prim.Native.Nat.{_+_, _*_, _-_, _≤_, _<_};
 ghost use lib.ListN.{length};
 ghost use Rattle.table.specs.Entries.{wordAt, tableOf};
-ghost use Rattle.chaincheck.specs.Walks.{Tails};
+ghost use Rattle.walks.specs.Walks.{Tails};
 ghost use Rattle.chaincheck.specs.Visits.{SlotVisited, FilesVisited};
 
 // Visits the chain of the entry at byte a, if it is a plain file, and holds its length against the size. A cluster has cb
@@ -31,7 +30,7 @@ fn visit_slot(
         return Slot::NoFile;
     }
     let needed = (directory::size_at(img, a) as usize + (cb - 1)) / cb;
-    match walks::visit(img, marks, left, last, directory::start_at(img, a) as usize) {
+    match walks::chain::visit(img, marks, left, last, directory::start_at(img, a) as usize) {
         Length::Of(n) => {
             if n == needed {
                 Slot::Clusters(n)

@@ -1,7 +1,6 @@
 // Findings 6 and 7, by the marks of all chains.
-use crate::walks;
 use search::Found;
-use table::Meaning;
+use values::Meaning;
 ghost use mathlib.Core.Path.{_≡_};
 ghost use Prim.Native.Nat.{_+_, _-_, _≤_, _<_};
 ghost use lib.ListN.{length};
@@ -38,7 +37,7 @@ fn is_lost(img: &[u8], marks: &[u8], last: usize, c: usize) -> bool
     if marks[c] != 0 {
         return false;
     }
-    match table::meaning_of(walks::value_of(img, last, c), last) {
+    match values::meaning_of(walks::chain::value_of(img, last, c), last) {
         Meaning::Free => false,
         Meaning::Next(_) => true,
         Meaning::Aside => false,

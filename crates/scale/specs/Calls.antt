@@ -8,7 +8,6 @@ use lib.Dec.{eqb}
 use Rattle.sound.specs.Judged.{checkOf, checkOfArea}
 use Rattle.sound.specs.declared.Verdict.{Verdict}
 use Rattle.sound.specs.declared.Verdict.the-variants.{Sound, Finding}
-use Rattle.stamps.specs.declared.Stamp.{Stamp}
 use Rattle.entries.specs.Entry.{entryTold}
 use Rattle.formatting.specs.Format.{formatted}
 use Rattle.freespace.specs.FreeSpace.{freeSpace}
@@ -16,7 +15,7 @@ use Rattle.entries.specs.declared.EntryAnswer.{EntryAnswer}
 use Rattle.freespace.specs.declared.FreeAnswer.{FreeAnswer}
 use Rattle.calls.specs.Outcome.{Outcome, outcome}
 use Rattle.viewing.specs.View.{viewOutcome}
-use Rattle.scale.specs.Packing.{upper, lower}
+use Rattle.packing.specs.Packing.{upper, lower}
 use Rattle.scale.specs.Out.{put, words, fields}
 
 -- What every call promises of its answer and of image, table and buffer after it. `out` is a buffer; a slice that a call only
@@ -71,8 +70,3 @@ entryCall img slot out = toldOf img (entryTaken (entryTold img slot) out)
 -- "bm_view_number: image, name, offset; value 0 (its upper half is view's refusal number)"
 unfoldable pub viewNumberCall : List ℕ → List ℕ → ℕ → Outcome
 viewNumberCall img name offset = outcome (viewOutcome img name offset .number) 0 img [] []
-
--- ---- "hour, minute, step, year, month, day": a caller's stamp is these six numbers
-
-abbrev pub stampOf : ℕ → ℕ → ℕ → ℕ → ℕ → ℕ → Stamp
-stampOf hour minute step year month day = record { hour = hour; minute = minute; step = step; year = year; month = month; day = day }

@@ -1,5 +1,4 @@
 -- The laws of the definitions beside this folder.
-pub mod Packing
 pub mod Out
 pub mod Calls
 pub mod Fits

@@ -1,8 +1,5 @@
 // The calls over an open table, and view's number: a file's name and the table are byte slices too.
-use crate::answer;
-use stamps::Stamp;
 ghost use mathlib.Core.List.{[]};
-ghost use mathlib.Core.Path.{_≡_};
 ghost use Rattle.closing.specs.Close.{closeOutcome};
 ghost use Rattle.marking.specs.Mode.{modeOutcome};
 ghost use Rattle.opening.specs.Open.{openOutcome};
@@ -12,28 +9,15 @@ ghost use Rattle.creating.specs.Create.{createOutcome};
 ghost use Rattle.deleting.specs.Delete.{deleteOutcome};
 ghost use Rattle.reading.specs.Read.{readOutcome};
 ghost use Rattle.writing.specs.Write.{writeOutcome};
-ghost use Rattle.scale.specs.Calls.{Leaves, viewNumberCall, stampOf};
-
-// The six numbers of a caller's stamp.
-fn stamp(hour: u32, minute: u32, step: u32, year: u32, month: u32, day: u32) -> Stamp
-    ensures { λ r. ⌜ r ≡ stampOf hour minute step year month day ⌝ }
-{
-    Stamp {
-        hour,
-        minute,
-        step,
-        year,
-        month,
-        day,
-    }
-}
+ghost use Rattle.packing.specs.Stamps.{stampOf};
+ghost use Rattle.scale.specs.Calls.{Leaves, viewNumberCall};
 
 // Opens a file: the value is its handle.
 #[no_mangle]
 pub extern "C" fn bm_open(img: &[u8], t: &mut [u8], name: &[u8], access: u32) -> u64
     ensures { λ r. ⌜ Leaves (openOutcome (now (img .entry)) (now (t .entry)) (now (name .entry)) access) r (now (img .entry)) (now (t .exit)) [] ⌝ }
 {
-    answer::hand(opening::open::open(img, t, name, access))
+    packing::answer::hand(opening::open::open(img, t, name, access))
 }
 
 // Creates or empties a file and opens it: the value is its handle.
@@ -52,8 +36,8 @@ pub extern "C" fn bm_create(
 ) -> u64
     ensures { λ r. ⌜ Leaves (createOutcome (now (img .entry)) (now (t .entry)) (now (name .entry)) attr (stampOf hour minute step year month day)) r (now (img .exit)) (now (t .exit)) [] ⌝ }
 {
-    let created = stamp(hour, minute, step, year, month, day);
-    answer::hand(creating::create::create(img, t, name, attr, created))
+    let created = packing::stamp::stamp(hour, minute, step, year, month, day);
+    packing::answer::hand(creating::create::create(img, t, name, attr, created))
 }
 
 // Reads from the pointer on: the value is the count.
@@ -61,7 +45,7 @@ pub extern "C" fn bm_create(
 pub extern "C" fn bm_read(img: &[u8], t: &mut [u8], handle: u32, buf: &mut [u8]) -> u64
     ensures { λ r. ⌜ Leaves (readOutcome (now (img .entry)) (now (t .entry)) handle (now (buf .entry))) r (now (img .entry)) (now (t .exit)) (now (buf .exit)) ⌝ }
 {
-    answer::hand(reading::read::read(img, t, handle, buf))
+    packing::answer::hand(reading::read::read(img, t, handle, buf))
 }
 
 // Writes from the pointer on: the value is the count.
@@ -69,7 +53,7 @@ pub extern "C" fn bm_read(img: &[u8], t: &mut [u8], handle: u32, buf: &mut [u8])
 pub extern "C" fn bm_write(img: &mut [u8], t: &mut [u8], handle: u32, bytes: &[u8]) -> u64
     ensures { λ r. ⌜ Leaves (writeOutcome (now (img .entry)) (now (t .entry)) handle (now (bytes .entry))) r (now (img .exit)) (now (t .exit)) [] ⌝ }
 {
-    answer::hand(writing::write::write(img, t, handle, bytes))
+    packing::answer::hand(writing::write::write(img, t, handle, bytes))
 }
 
 // Moves a pointer: the value is where it then stands.
@@ -77,7 +61,7 @@ pub extern "C" fn bm_write(img: &mut [u8], t: &mut [u8], handle: u32, bytes: &[u
 pub extern "C" fn bm_seek(img: &[u8], t: &mut [u8], handle: u32, method: u32, offset: i32) -> u64
     ensures { λ r. ⌜ Leaves (seekOutcome (now (img .entry)) (now (t .entry)) handle method offset) r (now (img .entry)) (now (t .exit)) [] ⌝ }
 {
-    answer::hand(seeking::seek::seek(img, t, handle, method, offset))
+    packing::answer::hand(seeking::seek::seek(img, t, handle, method, offset))
 }
 
 // Closes a file.
@@ -95,8 +79,8 @@ pub extern "C" fn bm_close(
 ) -> u64
     ensures { λ r. ⌜ Leaves (closeOutcome (now (img .entry)) (now (t .entry)) handle (stampOf hour minute step year month day)) r (now (img .exit)) (now (t .exit)) [] ⌝ }
 {
-    let closed = stamp(hour, minute, step, year, month, day);
-    answer::hand(closing::close::close(img, t, handle, closed))
+    let closed = packing::stamp::stamp(hour, minute, step, year, month, day);
+    packing::answer::hand(closing::close::close(img, t, handle, closed))
 }
 
 // Deletes a file.
@@ -104,7 +88,7 @@ pub extern "C" fn bm_close(
 pub extern "C" fn bm_delete(img: &mut [u8], t: &[u8], name: &[u8]) -> u64
     ensures { λ r. ⌜ Leaves (deleteOutcome (now (img .entry)) (now (t .entry)) (now (name .entry))) r (now (img .exit)) (now (t .entry)) [] ⌝ }
 {
-    answer::hand(deleting::delete::delete(img, t, name))
+    packing::answer::hand(deleting::delete::delete(img, t, name))
 }
 
 // Renames a file.
@@ -112,7 +96,7 @@ pub extern "C" fn bm_delete(img: &mut [u8], t: &[u8], name: &[u8]) -> u64
 pub extern "C" fn bm_rename(img: &mut [u8], t: &[u8], name: &[u8], new: &[u8]) -> u64
     ensures { λ r. ⌜ Leaves (renameOutcome (now (img .entry)) (now (t .entry)) (now (name .entry)) (now (new .entry))) r (now (img .exit)) (now (t .entry)) [] ⌝ }
 {
-    answer::hand(renaming::rename::rename(img, t, name, new))
+    packing::answer::hand(renaming::rename::rename(img, t, name, new))
 }
 
 // Answers a file's attribute (function 0) or sets it (function 1).
@@ -120,7 +104,7 @@ pub extern "C" fn bm_rename(img: &mut [u8], t: &[u8], name: &[u8], new: &[u8]) -
 pub extern "C" fn bm_mode(img: &mut [u8], t: &[u8], name: &[u8], function: u32, attr: u32) -> u64
     ensures { λ r. ⌜ Leaves (modeOutcome (now (img .entry)) (now (t .entry)) (now (name .entry)) function attr) r (now (img .exit)) (now (t .entry)) [] ⌝ }
 {
-    answer::hand(marking::mode::mode(img, t, name, function, attr))
+    packing::answer::hand(marking::mode::mode(img, t, name, function, attr))
 }
 
 // The number by which view refuses, or 0.
@@ -129,5 +113,5 @@ pub extern "C" fn bm_view_number(img: &[u8], name: &[u8], offset: u32) -> u64
     ensures { λ r. ⌜ Leaves (viewNumberCall (now (img .entry)) (now (name .entry)) offset) r (now (img .entry)) [] [] ⌝ }
 {
     let number = viewing::view::view_number(img, name, offset);
-    answer::pack(number, 0)
+    packing::answer::pack(number, 0)
 }

@@ -1,5 +1,4 @@
 // The calls as the scale's C program sees them (include/balladmoor.h): plain numbers and byte slices in, one number out.
-pub mod answer;
 pub mod files;
 pub mod put;
 
@@ -16,7 +15,7 @@ pub extern "C" fn bm_format(img: &mut [u8], kind: u32) -> u64
     ensures { λ r. ⌜ Leaves (formatCall (now (img .entry)) kind) r (now (img .exit)) [] [] ⌝ }
 {
     let number = formatting::format::format(img, kind);
-    answer::pack(number, 0)
+    packing::answer::pack(number, 0)
 }
 
 // A verdict as check answers it: the counts in out where the volume is sound, else the finding and its place.
@@ -27,12 +26,12 @@ fn tell_verdict(v: Verdict, out: &mut [u8]) -> u64
     match v {
         Verdict::Sound(files, free, held, aside) => {
             put::four_words(out, files, free, held, aside);
-            answer::pack(0, 0)
+            packing::answer::pack(0, 0)
         }
         Verdict::Finding(number, place) => {
             let finding = number as u32;
             let at = place as u32;
-            answer::pack(finding, at)
+            packing::answer::pack(finding, at)
         }
     }
 }
@@ -62,9 +61,9 @@ fn tell_space(a: FreeAnswer, out: &mut [u8]) -> u64
 {
     if a.number == 0 {
         put::four_words(out, a.free, a.clusters, a.sector, a.per);
-        return answer::pack(0, a.free as u32);
+        return packing::answer::pack(0, a.free as u32);
     }
-    answer::pack(a.number, 0)
+    packing::answer::pack(a.number, 0)
 }
 
 // Counts the free clusters of a sound volume.
@@ -83,9 +82,9 @@ fn tell_entry(e: EntryAnswer, out: &mut [u8]) -> u64
     if e.found {
         let name = e.name;
         put::entry_fields(out, name, e.attr, e.time, e.date, e.start, e.size);
-        return answer::pack(0, 1);
+        return packing::answer::pack(0, 1);
     }
-    answer::pack(e.number, 0)
+    packing::answer::pack(e.number, 0)
 }
 
 // Gives the directory entry at a slot of the root.

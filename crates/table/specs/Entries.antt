@@ -1,30 +1,18 @@
 -- Entries of the table: 12 bits each, two of them in three bytes. A copy of the table starts at byte base: copy 1 at byte
 -- 512, copy 2 at byte second.
-use Prim.Native.Nat.{ℕ, _+_, _*_, _/_, _%_, _≤_, _<_}
-use mathlib.Core.Bool.{Bool, true, false, cond, _&&_}
+use Prim.Native.Nat.{ℕ, _+_, _*_, _/_, _≤_, _<_}
+use mathlib.Core.Bool.{cond, _&&_}
 use mathlib.Core.List.{List}
 use mathlib.Core.Path.{_≡_}
-use lib.Dec.{eqb, leb}
+use lib.Dec.{leb}
 use lib.ListN.{length, getD}
 use Rattle.image.specs.Store.{stored}
 use Rattle.image.specs.Numbers.{number, digits}
+use Rattle.values.specs.Bits.{even, taken, kept}
 
 -- "Entry n is the 16-bit little-endian word at byte n times 3 divided by 2, rounded down"
 abbrev pub wordAt : ℕ → ℕ → ℕ
 wordAt base n = base + n * 3 / 2
-
-abbrev pub even : ℕ → Bool
-even n = eqb (n % 2) 0
-
--- "low 12 bits for even n, high 12 for odd"
-unfoldable pub taken : Bool → ℕ → ℕ
-taken true w = w % 4096
-taken false w = w / 16
-
--- the word with v put in. "Writing it keeps the neighbour's four bits"
-unfoldable pub kept : Bool → ℕ → ℕ → ℕ
-kept true w v = w / 4096 * 4096 + v
-kept false w v = v * 16 + w % 16
 
 -- entry n of the copy at byte base
 unfoldable pub entryAt : ℕ → List ℕ → ℕ → ℕ

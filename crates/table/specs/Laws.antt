@@ -1,7 +1,5 @@
 -- The laws of the definitions beside this folder.
-pub mod Bits
 pub mod OneCopy
 pub mod Copies
 pub mod View
-pub mod Values
 pub mod Counts

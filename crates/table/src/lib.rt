@@ -1,34 +1,16 @@
-// The table's entries: read, written in both copies, what their values mean, how many are free or set aside.
+// The table's entries: read, written in both copies, how many are free or set aside.
 use image::get16;
 use image::put16;
 use search::Found;
+use values::bits_of;
+use values::with_bits;
 ghost use mathlib.Core.Path.{_≡_};
 ghost use Prim.Native.Nat.{_+_, _-_, _≤_, _<_};
 ghost use lib.ListN.{length};
 ghost use Rattle.chains.specs.Values.{freeCount, asideCount};
 ghost use Rattle.chains.specs.Sums.{tally};
-ghost use Rattle.table.specs.Entries.{wordAt, even, taken, kept, entryAt, entryOf, setAt, setBoth, Reaches, tableOf};
-ghost use Rattle.table.specs.Values.{meaningOf};
+ghost use Rattle.table.specs.Entries.{wordAt, entryAt, entryOf, setAt, setBoth, Reaches, tableOf};
 ghost use Rattle.table.specs.Counts.{among, amongAt, lowestFree};
-
-// The 12 bits of entry n in its word.
-fn bits_of(n: usize, w: u16) -> u16
-    ensures { λ r. ⌜ r ≡ taken (even n) w ⌝ }
-{
-    if n % 2 == 0 { w % 4096 } else { w / 16 }
-}
-
-// The word of entry n with v put in; the other four bits are the neighbour's.
-fn with_bits(n: usize, w: u16, v: u16) -> u16
-    requires { ⌜ v < 4096 ⌝ }
-    ensures { λ r. ⌜ r ≡ kept (even n) w v ⌝ }
-{
-    if n % 2 == 0 {
-        w / 4096 * 4096 + v
-    } else {
-        v * 16 + w % 16
-    }
-}
 
 // Entry n of the copy that starts at byte base.
 pub fn entry_at(img: &[u8], base: usize, n: usize) -> u16
@@ -69,37 +51,6 @@ pub fn set_entry(img: &mut [u8], second: usize, n: usize, v: u16)
 {
     set_at(img, 512, n, v);
     set_at(img, second, n, v);
-}
-
-// What a value means.
-pub enum Meaning {
-    Free,
-    Next(usize),
-    Aside,
-    End,
-    NoneOfThese,
-}
-
-pub fn meaning_of(v: u16, last: usize) -> Meaning
-    ensures { λ r. ⌜ r ≡ meaningOf last v ⌝ }
-{
-    if v == 0 {
-        return Meaning::Free;
-    }
-    if v < 2 {
-        return Meaning::NoneOfThese;
-    }
-    let next = v as usize;
-    if next <= last {
-        return Meaning::Next(next);
-    }
-    if 0xFF8 <= v {
-        return Meaning::End;
-    }
-    if 0xFF0 <= v {
-        return Meaning::Aside;
-    }
-    Meaning::NoneOfThese
 }
 
 // Is a value one of low to high?

@@ -1,6 +1,6 @@
 // Findings 2 and 3: the copies of the table, and the values of its entries.
 use search::Found;
-use table::Meaning;
+use values::Meaning;
 ghost use mathlib.Core.Path.{_≡_};
 ghost use Prim.Native.Nat.{_+_, _≤_, _<_};
 ghost use lib.ListN.{length};
@@ -90,7 +90,7 @@ pub fn take_census(img: &[u8], last: usize) -> Census
     let mut aside: usize = 0;
     let mut c: usize = 2;
     while c < after {
-        match table::meaning_of(table::entry(img, c), last) {
+        match values::meaning_of(table::entry(img, c), last) {
             Meaning::Free => free += 1,
             Meaning::Aside => aside += 1,
             Meaning::NoneOfThese => return Census::BadValue(c),

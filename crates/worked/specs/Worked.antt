@@ -8,7 +8,8 @@ use Rattle.image.specs.Numbers.{number, digits}
 use Rattle.diskette.specs.Kinds.{kindFE, kindFD}
 use Rattle.diskette.specs.Places.{clusterBytes, sectorOf}
 use Rattle.chains.specs.Sizes.{clustersFor}
-use Rattle.table.specs.Entries.{entryAt, setAt, taken, kept}
+use Rattle.values.specs.Bits.{taken, kept}
+use Rattle.table.specs.Entries.{entryAt, setAt}
 use Rattle.stamps.specs.Stamps.{packed, timeFits, dateFits}
 use Rattle.stamps.specs.declared.Stamp.{Stamp}
 use Rattle.stamps.specs.declared.Packed.{Packed}

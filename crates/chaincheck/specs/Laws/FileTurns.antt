@@ -26,9 +26,9 @@ use Rattle.table.specs.Entries.{tableOf}
 use Rattle.directory.specs.Fields.{startOf, sizeOf}
 use Rattle.directory.specs.Search.{slotFrom}
 use Rattle.directory.specs.Slots.{standingOf, isPlain}
+use Rattle.walks.specs.Walks.{Tails}
 use Rattle.chaincheck.specs.Held.{plainSlot, heldBy}
 use Rattle.chaincheck.specs.Entries.{holderAt, badChainSlot, chainsOf}
-use Rattle.chaincheck.specs.Walks.{Tails}
 use Rattle.chaincheck.specs.Visits.{chainsFound, slotBy, slotFound, chainAt, SlotMarked, markedUnlessBad, SlotVisited, Underway, FilesVisited}
 use Rattle.chaincheck.specs.Laws.SlotTurns.{holder-none, holder-file}
 use Rattle.chaincheck.specs.declared.Slot.{Slot}

@@ -12,12 +12,12 @@ use Rattle.chains.specs.Values.{endb, linkb}
 use Rattle.chains.specs.Verdict.{first}
 use Rattle.search.specs.Laws.Theory.{optional}
 use Rattle.search.specs.declared.Found.the-variants.{At}
+use Rattle.values.specs.Values.{meaningOf}
+use Rattle.values.specs.declared.Meaning.{Meaning}
+use Rattle.values.specs.declared.Meaning.the-variants.{Free, Next, Aside, End, NoneOfThese}
 use Rattle.table.specs.Entries.{tableOf}
-use Rattle.table.specs.Values.{meaningOf}
-use Rattle.table.specs.declared.Meaning.{Meaning}
-use Rattle.table.specs.declared.Meaning.the-variants.{Free, Next, Aside, End, NoneOfThese}
+use Rattle.walks.specs.Laws.Meanings.{isEnd, isNext, end-said, link-said}
 use Rattle.chaincheck.specs.Laws.Searches.{search-hit, search-miss}
-use Rattle.chaincheck.specs.Laws.Meanings.{isEnd, isNext, end-said, link-said}
 
 -- ---- finding 6
 

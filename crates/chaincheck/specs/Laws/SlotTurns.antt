@@ -22,11 +22,11 @@ use Rattle.directory.specs.Fields.{startOf, sizeOf}
 use Rattle.directory.specs.Slots.{standingOf, isPlain}
 use Rattle.directory.specs.declared.Standing.{Standing}
 use Rattle.directory.specs.declared.Standing.the-variants.{NeverUsed, Erased, Label, Plain}
+use Rattle.walks.specs.Walks.{Tails, Chained, visitedBy, Visited}
+use Rattle.walks.specs.declared.Length.{Length}
+use Rattle.walks.specs.declared.Length.the-variants.{Of, NoEnd}
 use Rattle.chaincheck.specs.Entries.{holderBy, holderAt}
-use Rattle.chaincheck.specs.Walks.{Tails, Chained, visitedBy, Visited}
 use Rattle.chaincheck.specs.Visits.{slotFound, chainAt, SlotVisited}
-use Rattle.chaincheck.specs.declared.Length.{Length}
-use Rattle.chaincheck.specs.declared.Length.the-variants.{Of, NoEnd}
 use Rattle.chaincheck.specs.declared.Slot.the-variants.{NoFile, Bad, Clusters}
 
 -- ---- who holds the chain

@@ -19,7 +19,8 @@ use Rattle.diskette.specs.Laws.Images.{image-of-kind}
 use Rattle.diskette.specs.Laws.Places.{entry-within}
 use Rattle.diskette.specs.declared.Kind.{Kind}
 use Rattle.diskette.specs.declared.WhichKind.the-variants.{Known}
-use Rattle.table.specs.Entries.{wordAt, taken, even, entryAt, entryOf, Agree, tableOf}
+use Rattle.values.specs.Bits.{taken, even}
+use Rattle.table.specs.Entries.{wordAt, entryAt, entryOf, Agree, tableOf}
 use Rattle.table.specs.Laws.View.{table-inside, table-outside}
 use Rattle.directory.specs.Slots.{NeverUsedAt}
 use Rattle.formatting.specs.Format.{zerosAndData, tableHead, blank}

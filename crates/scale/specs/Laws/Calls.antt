@@ -26,9 +26,9 @@ use Rattle.calls.specs.declared.Answer.{Answer}
 use Rattle.creating.specs.Create.{createOutcome, Creates}
 use Rattle.viewing.specs.View.{ViewNumbers}
 use Rattle.stamps.specs.declared.Stamp.{Stamp}
-use Rattle.scale.specs.Packing.{Packs}
+use Rattle.packing.specs.Packing.{Packs}
+use Rattle.packing.specs.Laws.Packing.{same-halves}
 use Rattle.scale.specs.Out.{put, words, fields}
-use Rattle.scale.specs.Laws.Packing.{same-halves}
 use Rattle.scale.specs.Calls.{Leaves, formatCall, toldOf, verdictTold, checkCall, checkSystemCall, spaceTold, freeSpaceCall, entryTaken, entryCall, viewNumberCall}
 
 -- ---- no second outcome satisfies the contract of a call

@@ -1,6 +1,6 @@
 -- The visit of all files decides finding 5, and its marks the rest.
 use native.Mathlib.Omega.{arith}
-use Rattle.chaincheck.specs.Laws.Tails.{tails-begin}
+use Rattle.walks.specs.Laws.Tails.{tails-begin}
 use Rattle.sound.specs.Laws.Judged.{visited-bad, visited-good}
 use borrow.Author.Needs.{needs}
 use Rattle.sound.proofs.judge_chains.Statement.{statement}

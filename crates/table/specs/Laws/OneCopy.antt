@@ -13,8 +13,9 @@ use Rattle.image.specs.Store.{stored, part, Outside, Apart}
 use Rattle.image.specs.Numbers.{number, digits}
 use Rattle.image.specs.Laws.Store.{length-stored, bytes-stored, stored-outside, stored-inside, part-apart}
 use Rattle.image.specs.Laws.Numbers.{length-digits, bytes-digits, number-small, number-stored, number-apart}
-use Rattle.table.specs.Entries.{wordAt, even, taken, kept, entryAt, setAt}
-use Rattle.table.specs.Laws.Bits.{taken-small, kept-small, taken-kept, taken-after, taken-before}
+use Rattle.values.specs.Bits.{even, taken, kept}
+use Rattle.values.specs.Laws.Bits.{taken-small, kept-small, taken-kept, taken-after, taken-before}
+use Rattle.table.specs.Entries.{wordAt, entryAt, setAt}
 
 -- ---- a word
 

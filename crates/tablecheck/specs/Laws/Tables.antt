@@ -25,13 +25,13 @@ use Rattle.chains.specs.Laws.SearchTurns.{first-hit, first-miss, first-end, clu
 use Rattle.chains.specs.Laws.CountTurns.{free-start, aside-start}
 use Rattle.search.specs.Laws.Theory.{optional}
 use Rattle.search.specs.declared.Found.the-variants.{At, Nothing}
+use Rattle.values.specs.Values.{meaningOf}
+use Rattle.values.specs.Values as values
+use Rattle.values.specs.declared.Meaning.{Meaning}
+use Rattle.values.specs.declared.Meaning.the-variants.{Free, Next, Aside, End, NoneOfThese}
+use Rattle.values.specs.Laws.Values.{meaning-is}
 use Rattle.table.specs.Entries.{tableOf, entryOf}
-use Rattle.table.specs.Values.{meaningOf}
-use Rattle.table.specs.Values as table
-use Rattle.table.specs.declared.Meaning.{Meaning}
-use Rattle.table.specs.declared.Meaning.the-variants.{Free, Next, Aside, End, NoneOfThese}
 use Rattle.table.specs.Laws.OneCopy.{entry-small}
-use Rattle.table.specs.Laws.Values.{meaning-is}
 use Rattle.table.specs.Laws.View.{table-inside}
 use Rattle.tablecheck.specs.Copies.{differsAt, Alike, FourAlike}
 use Rattle.tablecheck.specs.Values.{censusBy, censusOf}
@@ -174,7 +174,7 @@ isAside End = false
 isAside NoneOfThese = false
 
 module _ (last v : ℕ) (low : last ≤ 4079) where
-  bad-said : (m : Meaning) → table.Values m last v → not (freeb v || (linkb last v || (endb v || asideb v))) ≡ isBad m
+  bad-said : (m : Meaning) → values.Values m last v → not (freeb v || (linkb last v || (endb v || asideb v))) ≡ isBad m
   bad-said Free x = false-says (says-not (says-valid last v)) (λ n. n (free x))
   bad-said (Next n) x = false-says (says-not (says-valid last v)) (λ n. n (used (inl (x .0))))
   bad-said Aside x = false-says (says-not (says-valid last v)) (λ n. n (aside x))
@@ -187,14 +187,14 @@ module _ (last v : ℕ) (low : last ≤ 4079) where
       no-value (used (inr u)) = x .3 u
       no-value (aside u) = x .2 u
 
-  free-said : (m : Meaning) → table.Values m last v → freeb v ≡ isFree m
+  free-said : (m : Meaning) → values.Values m last v → freeb v ≡ isFree m
   free-said Free x = eq-eqb v 0 x
   free-said (Next n) x = ne-eqb v 0 (omega arith)
   free-said Aside x = ne-eqb v 0 (omega arith)
   free-said End x = ne-eqb v 0 (omega arith)
   free-said NoneOfThese x = ne-eqb v 0 (x .0)
 
-  aside-said : (m : Meaning) → table.Values m last v → asideb v ≡ isAside m
+  aside-said : (m : Meaning) → values.Values m last v → asideb v ≡ isAside m
   aside-said Free x = false-says (says-aside v) (λ y. omega arith)
   aside-said (Next n) x = false-says (says-aside v) (λ y. omega arith)
   aside-said Aside x = true-says (says-aside v) x
@@ -221,7 +221,7 @@ module _ (last : ℕ) (l : List ℕ) (free aside c v : ℕ) (m : Meaning) (fit :
   value : v ≡ f c
   value = r ∙ sym (table-inside last l c (inv .from) (omega arith))
 
-  fits : table.Values m last v
+  fits : values.Values m last v
   fits = meaning-is last v low (rw r (entry-small 512 l c bytes)) m .0 e
 
   bad : badValue last f c ≡ isBad m

@@ -1,0 +1,3 @@
+-- The laws of the definitions beside this folder.
+pub mod Bits
+pub mod Values
