@@ -1,6 +1,6 @@
 # make             proves every crate, builds the programs, shows the worked numbers and lists the sample volume
 # make test        the gate: everything from nothing, with the must-fail edits and all tests
-# make compare     the archive against the independent implementation; N=1000000 volumes and 3,000,000 calls, SEED=5
+# make compare     the archive against the independent implementation; N=1000000 volumes and 2,000,000 calls, SEED=5
 #                  from this seed on
 # make bench       the archive's speed against the independent implementation's
 # make balladmoor  the command for members and the service bench: target/c/balladmoor, for x86-64

@@ -9,6 +9,8 @@ use crate::volumes::calls::{perform_and_tell, Call, Scene};
 pub struct Both {
     pub(super) library: Library,
     pub(super) guard: usize,
+    /// Whether the last call altered the image.
+    altered: bool,
     /// As it was before the last call.
     pub before: Scene,
     pub plain: Scene,
@@ -32,6 +34,7 @@ impl Both {
         Both {
             library,
             guard,
+            altered: false,
             before: scene.clone(),
             plain: scene,
             other,
@@ -69,10 +72,16 @@ impl Both {
         if lent != *call {
             return Err(format!("{ending}, the caller's name or data was altered"));
         }
-        if refusal.is_some() && self.plain != self.before {
+        self.altered = self.plain.image != self.before.image;
+        if refusal.is_some() && (self.altered || self.others_altered()) {
             return Err(format!("{ending}, and the refusal altered something"));
         }
         Ok(Ending { answer, refusal })
+    }
+
+    /// Whether the last call altered the table or the buffer.
+    fn others_altered(&self) -> bool {
+        self.plain.table != self.before.table || self.plain.buffer != self.before.buffer
     }
 
     fn compare_bytes(&self) -> Result<(), String> {
@@ -88,7 +97,7 @@ impl Both {
 
     /// Takes the last call back on both.
     pub fn take_back(&mut self) {
-        if self.plain.image != self.before.image {
+        if self.altered {
             self.plain.image.copy_from_slice(&self.before.image);
             self.other.image.copy_from_slice(&self.before.image);
         }
@@ -98,7 +107,7 @@ impl Both {
 
     /// Lets the last call stand: the next one comes after it.
     pub fn go_on(&mut self) {
-        if self.plain.image != self.before.image {
+        if self.altered {
             self.before.image.copy_from_slice(&self.plain.image);
         }
         self.before.table.copy_from_slice(&self.plain.table);
