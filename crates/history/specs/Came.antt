@@ -5,8 +5,8 @@ use mathlib.Core.Logic.{_≢_}
 use mathlib.Core.Path.{_≡_}
 use Rattle.image.specs.Bytes.{Bytes}
 use Rattle.diskette.specs.declared.Kind.{Kind}
-use Rattle.history.specs.Changed.{SlotChanged}
-use Rattle.history.specs.Files.{Files, Shows, ShowsAt}
+use Rattle.changes.specs.Changed.{SlotChanged}
+use Rattle.changes.specs.Files.{Files, Shows, ShowsAt}
 use Rattle.history.specs.History.{after}
 use Rattle.history.specs.World.{World, Call, Names, step}
 

@@ -15,7 +15,7 @@ use Rattle.opened.specs.Records.{slotOf, pointerOf, writtenOf}
 use Rattle.calls.specs.Outcome.{Outcome}
 use Rattle.calls.specs.Refusals.{fileSlot}
 use Rattle.closing.specs.Close.{archived}
-use Rattle.history.specs.Files.{File, file, Files}
+use Rattle.changes.specs.Files.{File, file, Files}
 use Rattle.history.specs.World.{World, Call, outcomeOf, step, check, countFree, tellEntry, openFile, create, read, write, seek, close, delete, rename, mode, view}
 
 -- ---- what is done to one file, if there is one

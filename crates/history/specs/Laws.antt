@@ -1,18 +1,6 @@
 -- The laws of the definitions beside this folder.
-pub mod Changed
-pub mod Frames
-pub mod Given
-pub mod Root
-pub mod Slots
-pub mod SameSlot
-pub mod Emptied
-pub mod Marks
 pub mod Ended
-pub mod Made
 pub mod Count
-pub mod Lengthened
-pub mod Put
-pub mod Wrote
 pub mod Rows
 pub mod Passed
 pub mod Found
@@ -30,10 +18,8 @@ pub mod Tare
 pub mod Promises
 pub mod Blank
 pub mod Room
-pub mod Verdict
 pub mod EndsWell
 pub mod OneSlot
-pub mod NewSlot
 pub mod Stamped
 pub mod OneFile
 pub mod HasFiles

@@ -18,7 +18,7 @@ use Rattle.sound.specs.Judged.{checkOf}
 use Rattle.sound.specs.declared.Verdict.the-variants.{Sound}
 use Rattle.formatting.specs.Format.{formatted}
 use Rattle.calls.specs.Outcome.{Outcome}
-use Rattle.history.specs.Files.{file, Files, Shows}
+use Rattle.changes.specs.Files.{file, Files, Shows}
 use Rattle.history.specs.World.{World, Call, world, run, answers, create, write, close}
 
 -- ---- the names, as a caller gives them and as the 11 bytes of an entry

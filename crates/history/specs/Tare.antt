@@ -10,7 +10,7 @@ use Rattle.directory.specs.Entries.{SameBytes}
 use Rattle.opened.specs.Places.{isOpen}
 use Rattle.calls.specs.Refusals.{fileSlot, readOnly}
 use Rattle.holding.specs.Holding.{FileIn}
-use Rattle.history.specs.Files.{File, Holds}
+use Rattle.changes.specs.Files.{File, Holds}
 use Rattle.history.specs.Promises.{AllGiven, Begins}
 use Rattle.history.specs.World.{World, Call, outcomeOf, step, run, check, countFree, tellEntry, openFile, create, read, write, seek, close, delete, rename, mode, view}
 

@@ -24,7 +24,7 @@ use Rattle.sound.specs.Laws.Copies.{no-difference-from}
 use Rattle.sound.specs.Laws.IsSound.{known-says}
 use Rattle.formatting.specs.Format.{blank, formatted}
 use Rattle.formatting.specs.Laws.Blank.{blank-head, blank-agrees, blank-table, blank-slot, blank-bytes, kind-of-blank}
-use Rattle.history.specs.Files.{Shows}
+use Rattle.changes.specs.Files.{Shows}
 use Rattle.history.specs.Promises.{Begins}
 use Rattle.history.specs.World.{world}
 

@@ -12,10 +12,10 @@ use Rattle.diskette.specs.declared.Kind.{Kind}
 use Rattle.directory.specs.Entries.{SameBytes}
 use Rattle.calls.specs.Ready.{OnVolume}
 use Rattle.history.specs.Came.{Came, Changes, stays, changes}
-use Rattle.history.specs.Files.{File, Files, Shows, ShowsAt}
+use Rattle.changes.specs.Files.{File, Files, Shows, ShowsAt}
 use Rattle.history.specs.History.{after}
 use Rattle.history.specs.World.{World, Call, Names, step}
-use Rattle.history.specs.Laws.Changed.{changed-on, other-none, other-holds}
+use Rattle.changes.specs.Laws.Changed.{changed-on, other-none, other-holds}
 
 module _ (k : Kind) (w : World) (c : Call) (v : OnVolume (w .image) k) where
   pub came-on : Came k w c → OnVolume (step w c .image) k

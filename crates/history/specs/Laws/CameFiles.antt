@@ -40,20 +40,20 @@ use Rattle.creating.specs.Laws.Create.{open-below}
 use Rattle.putting.specs.Written.{writtenIn}
 use Rattle.writing.specs.Write.{writeCount, writeRows, writeEffect, writeOutcome, writeAt}
 use Rattle.history.specs.Came.{Came, stays}
-use Rattle.history.specs.Changed.{SlotChanged}
-use Rattle.history.specs.Files.{file, Holds}
+use Rattle.changes.specs.Changed.{SlotChanged}
+use Rattle.changes.specs.Files.{file, Holds}
 use Rattle.history.specs.History as history
 use Rattle.history.specs.Promises.{Begins}
 use Rattle.history.specs.World.{World, outcomeOf, step, create, delete, write}
 use Rattle.history.specs.Laws.Count.{taken-fits, bytes-take}
 use Rattle.history.specs.Laws.Ended.{delete-changed, delete-ends, delete-bytes}
 use Rattle.history.specs.Laws.Looks.{came-refused, after-well}
-use Rattle.history.specs.Laws.Made.{empty-changed, empty-holds, empty-bytes, new-changed, new-holds, new-bytes}
+use Rattle.changes.specs.Laws.Made.{empty-changed, empty-holds, empty-bytes, new-changed, new-holds, new-bytes}
 use Rattle.history.specs.Laws.Found.{good-name, found-at, place-counts, file-found, file-there, no-file-found, live-there}
 use Rattle.history.specs.Laws.Passed.{passed-row}
 use Rattle.history.specs.Laws.Rows.{decided-cases}
 use Rattle.history.specs.Laws.Well.{came-put, came-at}
-use Rattle.history.specs.Laws.Wrote.{wrote-changed, wrote-holds, wrote-bytes}
+use Rattle.changes.specs.Laws.Wrote.{wrote-changed, wrote-holds, wrote-bytes}
 
 module _ (k : Kind) (w : World) (b : Begins k w) where
   abbrev l : List ℕ

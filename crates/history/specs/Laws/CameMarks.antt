@@ -27,7 +27,7 @@ use Rattle.history.specs.History as history
 use Rattle.history.specs.Promises.{Begins}
 use Rattle.history.specs.World.{World, outcomeOf, step, rename, mode, close}
 use Rattle.history.specs.Laws.Looks.{came-refused, after-well}
-use Rattle.history.specs.Laws.Marks.{rename-changed, rename-holds, rename-bytes, mode-changed, mode-holds, mode-bytes, close-changed, close-holds, close-bytes}
+use Rattle.changes.specs.Laws.Marks.{rename-changed, rename-holds, rename-bytes, mode-changed, mode-holds, mode-bytes, close-changed, close-holds, close-bytes}
 use Rattle.history.specs.Laws.Found.{good-name, file-there, no-file-found, live-there}
 use Rattle.history.specs.Laws.Passed.{passed-row}
 use Rattle.history.specs.Laws.Rows.{decided-cases}

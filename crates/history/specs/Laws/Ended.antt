@@ -20,9 +20,9 @@ use Rattle.holding.specs.Holding.{FileIn}
 use Rattle.holding.specs.Laws.Chain.{file-within}
 use Rattle.freeing.specs.Freed.{chainFreed}
 use Rattle.deleting.specs.Delete.{erasedIn}
-use Rattle.history.specs.Changed.{SlotChanged}
-use Rattle.history.specs.Laws.Emptied.{Emptied, file-emptied, entry-emptied, emptied-changed}
-use Rattle.history.specs.Laws.Slots.{used-lower}
+use Rattle.changes.specs.Changed.{SlotChanged}
+use Rattle.changes.specs.Laws.Emptied.{Emptied, file-emptied, entry-emptied, emptied-changed}
+use Rattle.changes.specs.Laws.Slots.{used-lower}
 
 module _ (k : Kind) (l : List ℕ) (v : OnVolume l k) (b : Bytes l) (s : ℕ) (i : FileIn l k s) where
   emptied : Emptied k l (erasedIn k l s) s

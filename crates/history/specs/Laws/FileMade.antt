@@ -32,14 +32,14 @@ use Rattle.closing.specs.Close.{archived, stamped, closeEffect}
 use Rattle.holding.specs.Laws.Clusters.{on-clusters}
 use Rattle.creating.specs.Create.{made}
 use Rattle.putting.specs.Written.{writtenIn}
-use Rattle.history.specs.Files.{File, file, Files, ShowsAt}
+use Rattle.changes.specs.Files.{File, file, Files, ShowsAt}
 use Rattle.history.specs.History as history
 use Rattle.history.specs.ListingCase.{fileCalls, HasStamp, answered}
 use Rattle.history.specs.World.{World, outcomeOf, step, run, answers, create, write, close}
 use Rattle.history.specs.Laws.EndsWell.{TakenFor, place-free, taken-made, taken-written, create-well, write-well, close-well}
 use Rattle.history.specs.Laws.Looks.{after-well}
 use Rattle.history.specs.Laws.OneSlot.{Stands, stands-step, others-step, free-step, aside-step}
-use Rattle.history.specs.Laws.NewSlot.{none-of-name, lowest-open}
+use Rattle.changes.specs.Laws.NewSlot.{none-of-name, lowest-open}
 use Rattle.history.specs.Laws.Room.{needed}
 use Rattle.history.specs.Laws.HasFiles.{HasFiles, GoodFile}
 use Rattle.history.specs.Laws.Stamped.{stamped-words, same-stamp}

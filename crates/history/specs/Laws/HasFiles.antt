@@ -20,11 +20,11 @@ use Rattle.sound.specs.Counts.{fileCount, freeOf, heldOf, asideOf}
 use Rattle.sound.specs.Judged.{checkOf}
 use Rattle.sound.specs.declared.Verdict.the-variants.{Sound}
 use Rattle.calls.specs.Refusals.{badAttr}
-use Rattle.history.specs.Files.{File, Files, ShowsAt}
+use Rattle.changes.specs.Files.{File, Files, ShowsAt}
 use Rattle.history.specs.World.{World}
 use Rattle.history.specs.Laws.OneSlot.{Stands}
 use Rattle.history.specs.Laws.Runs.{total-of}
-use Rattle.history.specs.Laws.Verdict.{sound-verdict, first-count}
+use Rattle.changes.specs.Laws.Verdict.{sound-verdict, first-count}
 
 -- files in the slots below n, the others never used; so many clusters are free, none is set aside, and the one place of the
 -- table is not taken

@@ -26,7 +26,7 @@ use Rattle.formatting.specs.Format.{blank, formatted}
 use Rattle.formatting.specs.Laws.Blank.{blank-slot}
 use Rattle.calls.specs.Refusals.{badAttr}
 use Rattle.closing.specs.Close.{archived}
-use Rattle.history.specs.Files.{File, file, Files, ShowsAt}
+use Rattle.changes.specs.Files.{File, file, Files, ShowsAt}
 use Rattle.history.specs.ListingCase.{tareGiven, tareName, dayGiven, dayName, timeThen, fileCalls, listingFiles, ListingEnds, ListingCase}
 use Rattle.history.specs.World.{World, world, run}
 use Rattle.history.specs.Laws.Blank.{blank-begins, blank-shows, blank-free, blank-aside, formatted-blank}

@@ -9,7 +9,7 @@ use Rattle.chains.specs.Put.{put}
 use Rattle.chains.specs.Write.{written}
 use Rattle.chains.specs.Laws.Put.{put-same, put-other}
 use Rattle.chains.specs.Laws.Splice.{splice-end}
-use Rattle.history.specs.Files.{File, Files}
+use Rattle.changes.specs.Files.{File, Files}
 use Rattle.history.specs.History as history
 
 put-again : (fs : Files) (n : ℕ) (x y : Option File) (t : ℕ) → put (put fs n x) n y t ≡ put fs n y t

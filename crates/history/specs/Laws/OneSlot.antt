@@ -11,7 +11,7 @@ use Rattle.directory.specs.Laws.Entries.{same-fields}
 use Rattle.sound.specs.Counts.{freeOf, asideOf}
 use Rattle.calls.specs.Laws.Files.{slot-within}
 use Rattle.history.specs.Came.{Came}
-use Rattle.history.specs.Files.{Files, Shows, ShowsAt}
+use Rattle.changes.specs.Files.{Files, Shows, ShowsAt}
 use Rattle.history.specs.History.{after}
 use Rattle.history.specs.Promises.{Given, Begins}
 use Rattle.history.specs.World.{World, Call, Names, step}

@@ -25,11 +25,11 @@ use Rattle.holding.specs.Holding.{fileChain, fileBytes, FileIn}
 use Rattle.holding.specs.Laws.Chain.{chain-long, file-holds}
 use Rattle.holding.specs.Laws.Clusters.{on-clusters}
 use Rattle.history.specs.Came.{Came, stays, changes}
-use Rattle.history.specs.Changed.{SlotChanged}
-use Rattle.history.specs.Files.{File, ShowsAt}
+use Rattle.changes.specs.Changed.{SlotChanged}
+use Rattle.changes.specs.Files.{File, ShowsAt}
 use Rattle.history.specs.World.{World, Call, Names, step}
-use Rattle.history.specs.Laws.Changed.{on-theory, changed-on}
-use Rattle.history.specs.Laws.Root.{root-file, root-none}
+use Rattle.changes.specs.Laws.Changed.{on-theory, changed-on}
+use Rattle.changes.specs.Laws.Root.{root-file, root-none}
 use Rattle.history.specs.Laws.Shown.{holds-bytes}
 
 -- how many clusters a file needs, by its bytes

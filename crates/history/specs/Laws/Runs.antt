@@ -10,12 +10,12 @@ use Rattle.sound.specs.Counts.{freeOf, heldOf, asideOf}
 use Rattle.sound.specs.Laws.Total.{total}
 use Rattle.calls.specs.Laws.Ready.{on-usable}
 use Rattle.history.specs.Came.{Came}
-use Rattle.history.specs.Files.{Files, Shows}
+use Rattle.changes.specs.Files.{Files, Shows}
 use Rattle.history.specs.History.{history, after}
 use Rattle.history.specs.Promises.{Given, AllGiven, Begins}
 use Rattle.history.specs.World.{World, Call, step, run}
 use Rattle.history.specs.Laws.Came.{came-on, came-bytes, came-shows}
-use Rattle.history.specs.Laws.Changed.{on-sound}
+use Rattle.changes.specs.Laws.Changed.{on-sound}
 
 module _ (k : Kind) (came : (w : World) (c : Call) → Begins k w → Given c → Came k w c) where
   begins-step : (w : World) (c : Call) → Begins k w → Given c → Begins k (step w c)

@@ -28,10 +28,10 @@ use Rattle.calls.specs.Laws.Ready.{on-usable, on-kind}
 use Rattle.holding.specs.Holding.{fileChain, fileBytes, FileIn}
 use Rattle.holding.specs.Laws.Chain.{file-owned}
 use Rattle.reading.specs.Read.{readRows, readEffect, readOutcome}
-use Rattle.history.specs.Files.{File, file, Files, Holds, Shows, ShowsAt}
+use Rattle.changes.specs.Files.{File, file, Files, Holds, Shows, ShowsAt}
 use Rattle.history.specs.Promises.{Begins, FirstFiles, ReadsAreOfHistory}
 use Rattle.history.specs.World.{World, outcomeOf, read}
-use Rattle.history.specs.Laws.Changed.{on-sound}
+use Rattle.changes.specs.Laws.Changed.{on-sound}
 use Rattle.history.specs.Laws.Rows.{decided-cases}
 
 module _ (k : Kind) (l : List ℕ) (v : OnVolume l k) where

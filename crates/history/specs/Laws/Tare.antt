@@ -20,7 +20,7 @@ use Rattle.calls.specs.Refusals.{readOnly}
 use Rattle.calls.specs.Laws.Ready.{on-kind}
 use Rattle.viewing.specs.View.{viewOutcome}
 use Rattle.history.specs.Came.{Came}
-use Rattle.history.specs.Files.{File, Holds}
+use Rattle.changes.specs.Files.{File, Holds}
 use Rattle.history.specs.Promises.{Given, AllGiven, Begins}
 use Rattle.history.specs.Tare.{Tare, SetsMode, NoModeSet, SameFile}
 use Rattle.history.specs.World.{World, Call, Names, verdictIn, outcomeOf, step, run, check, countFree, tellEntry, openFile, create, read, write, seek, close, delete, rename, mode, view}

@@ -2,7 +2,7 @@
 //! take no open table, on volumes of all sorts.
 //!
 //! Makes COUNT volumes from the seeds SEED (0), SEED + 1 and so on. On each,
-//! every such call is made on both libraries, format on every fourth. The
+//! every such call is made on both libraries, format on one of sixteen. The
 //! seed picks lengths, slots and kinds among those that matter. Answers and
 //! all bytes of all buffers must agree, and so must the guard bytes around
 //! the buffers. The first difference is printed with its seed and ends the
@@ -59,7 +59,7 @@ impl Trial {
         self.archive
             .compare("image that was only read", &self.plain)?;
         // What format does depends on nothing of the volume but its length.
-        match self.random.one_in(4) {
+        match self.random.one_in(16) {
             true => self.format(),
             false => Ok(()),
         }

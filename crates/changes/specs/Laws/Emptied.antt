@@ -31,10 +31,10 @@ use Rattle.holding.specs.Holding.{fileChain, FileIn}
 use Rattle.holding.specs.Laws.Chain.{file-chain}
 use Rattle.holding.specs.Laws.Clusters.{copies-reach}
 use Rattle.freeing.specs.Freed.{chainFreed}
-use Rattle.history.specs.Changed.{Framed, GoodSlot, SlotChanged}
-use Rattle.history.specs.Laws.Changed.{on-theory}
-use Rattle.history.specs.Laws.Frames.{frame-same, frame-then, entry-frame, entry-table, entry-touches, links-frame, links-touch}
-use Rattle.history.specs.Laws.Root.{root-file, root-none}
+use Rattle.changes.specs.Changed.{Framed, GoodSlot, SlotChanged}
+use Rattle.changes.specs.Laws.Changed.{on-theory}
+use Rattle.changes.specs.Laws.Frames.{frame-same, frame-then, entry-frame, entry-table, entry-touches, links-frame, links-touch}
+use Rattle.changes.specs.Laws.Root.{root-file, root-none}
 
 -- n is l without the clusters of slot s; its entry may be any
 pub record Emptied (k : Kind) (l n : List ℕ) (s : ℕ) : Type 0 where

@@ -34,8 +34,8 @@ use Rattle.holding.specs.Laws.Chain.{file-chain, file-holds, file-within}
 use Rattle.putting.specs.Longer.{chainAfter, withClusters, lengthened, CanGrow}
 use Rattle.putting.specs.Laws.Longer.{linked-leaves, start-small}
 use Rattle.putting.specs.Laws.Room.{room-fits}
-use Rattle.history.specs.Changed.{Framed}
-use Rattle.history.specs.Laws.Frames.{entry-frame, entry-touches, frame-then, links-frame, links-touch}
+use Rattle.changes.specs.Changed.{Framed}
+use Rattle.changes.specs.Laws.Frames.{entry-frame, entry-touches, frame-then, links-frame, links-touch}
 
 module _ (k : Kind) (l : List ℕ) (s size : ℕ) (g : CanGrow k l s size) where
   v : OnVolume l k

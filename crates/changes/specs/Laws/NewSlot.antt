@@ -18,7 +18,7 @@ use Rattle.calls.specs.Ready.{OnVolume}
 use Rattle.calls.specs.Refusals.{fileFound, slotForNew}
 use Rattle.calls.specs.Laws.Files.{root-within}
 use Rattle.calls.specs.Laws.Ready.{on-kind}
-use Rattle.history.specs.Files.{File, Files, Shows, ShowsAt}
+use Rattle.changes.specs.Files.{File, Files, Shows, ShowsAt}
 
 module _ (k : Kind) (l : List ℕ) (v : OnVolume l k) (fs : Files) (shows : Shows k l fs) where
   -- no file that is shown has the name

@@ -57,10 +57,10 @@ use Rattle.closing.specs.Laws.Close.{archived-fits}
 use Rattle.holding.specs.Holding.{FileIn}
 use Rattle.holding.specs.Laws.Chain.{file-within}
 use Rattle.holding.specs.Laws.Clusters.{on-clusters}
-use Rattle.history.specs.Files.{File, file, Holds}
-use Rattle.history.specs.Changed.{Framed, SlotChanged}
-use Rattle.history.specs.Laws.Changed.{on-sound, on-theory}
-use Rattle.history.specs.Laws.Frames.{frame-then, entry-frame, entry-table, entry-touches}
+use Rattle.changes.specs.Files.{File, file, Holds}
+use Rattle.changes.specs.Changed.{Framed, SlotChanged}
+use Rattle.changes.specs.Laws.Changed.{on-sound, on-theory}
+use Rattle.changes.specs.Laws.Frames.{frame-then, entry-frame, entry-table, entry-touches}
 
 -- ---- stores within one entry
 

@@ -42,8 +42,8 @@ use Rattle.sound.specs.Laws.Theory.{theory-sound}
 use Rattle.calls.specs.Ready.{OnVolume}
 use Rattle.calls.specs.Laws.Ready.{on-usable, on-of-kind, on-area}
 use Rattle.holding.specs.Laws.Clusters.{on-clusters}
-use Rattle.history.specs.Files.{File, Holds}
-use Rattle.history.specs.Changed.{GoodSlot, SlotChanged}
+use Rattle.changes.specs.Files.{File, Holds}
+use Rattle.changes.specs.Changed.{GoodSlot, SlotChanged}
 
 module _ (k : Kind) (l : List ℕ) (v : OnVolume l k) where
   u : Usable k

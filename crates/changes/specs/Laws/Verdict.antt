@@ -23,7 +23,7 @@ use Rattle.sound.specs.Laws.Sound.{sound-exactly}
 use Rattle.sound.specs.declared.Verdict.the-variants.{Sound}
 use Rattle.calls.specs.Ready.{OnVolume}
 use Rattle.calls.specs.Laws.Ready.{on-usable}
-use Rattle.history.specs.Laws.Changed.{on-sound}
+use Rattle.changes.specs.Laws.Changed.{on-sound}
 
 pub sound-verdict : (k : Kind) (l : List ℕ) → OnVolume l k → checkOf l ≡ Sound (fileCount k l) (freeOf k l) (heldOf k l) (asideOf k l)
 sound-verdict k l v =

@@ -11,7 +11,7 @@ use Rattle.directory.specs.Fields.{nameOf}
 use Rattle.directory.specs.Slots.{NeverUsedAt, PlainAt}
 use Rattle.calls.specs.Ready.{OnVolume}
 use Rattle.holding.specs.Holding.{FileIn}
-use Rattle.history.specs.Laws.Changed.{on-sound}
+use Rattle.changes.specs.Laws.Changed.{on-sound}
 
 module _ (k : Kind) (l : List ℕ) (v : OnVolume l k) (s : ℕ) (i : FileIn l k s) where
   -- every lower slot was used

@@ -14,8 +14,8 @@ use Rattle.directory.specs.Slots.{PlainAt}
 use Rattle.sound.specs.Findings.{BadSlot}
 use Rattle.calls.specs.Ready.{OnVolume}
 use Rattle.holding.specs.Holding.{FileIn}
-use Rattle.history.specs.Changed.{GoodSlot}
-use Rattle.history.specs.Laws.Changed.{on-sound}
+use Rattle.changes.specs.Changed.{GoodSlot}
+use Rattle.changes.specs.Laws.Changed.{on-sound}
 
 module _ (k : Kind) (l m : List ℕ) (s : ℕ) (v : OnVolume l k) (i : FileIn l k s) (first : getD m (slotAt k s) 0 ≡ getD l (slotAt k s) 0)
     (name : nameOf m (slotAt k s) ≡ nameOf l (slotAt k s)) (attr : attrOf m (slotAt k s) ≡ attrOf l (slotAt k s)) where

@@ -13,8 +13,8 @@ use Rattle.diskette.specs.declared.Kind.{Kind}
 use Rattle.directory.specs.Entries.{SameFields}
 use Rattle.directory.specs.Laws.Entries.{same-fields}
 use Rattle.sound.specs.Files.{valueOf}
-use Rattle.history.specs.Changed.{Framed}
-use Rattle.history.specs.Laws.Frames.{data-frame, frame-then}
+use Rattle.changes.specs.Changed.{Framed}
+use Rattle.changes.specs.Laws.Frames.{data-frame, frame-then}
 
 module _ (k : Kind) (u : Usable k) (l cs : List ℕ) (size pointer : ℕ) (bs : List ℕ) where
   abbrev base : ℕ

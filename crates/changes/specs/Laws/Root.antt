@@ -16,7 +16,7 @@ use Rattle.calls.specs.Ready.{OnVolume}
 use Rattle.calls.specs.Laws.Ready.{on-usable}
 use Rattle.holding.specs.Holding.{fileChain, FileIn}
 use Rattle.holding.specs.Laws.Chain.{file-owned}
-use Rattle.history.specs.Laws.Changed.{on-theory}
+use Rattle.changes.specs.Laws.Changed.{on-theory}
 
 module _ (k : Kind) (l : List ℕ) (v : OnVolume l k) (s : ℕ) where
   module _ (i : FileIn l k s) where

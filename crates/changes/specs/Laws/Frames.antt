@@ -19,7 +19,7 @@ use Rattle.table.specs.Entries.{wordAt, Agree}
 use Rattle.table.specs.Laws.View.{table-beside, agree-beside}
 use Rattle.links.specs.Leaves.{Leaves}
 use Rattle.sound.specs.Files.{valueOf}
-use Rattle.history.specs.Changed.{Framed}
+use Rattle.changes.specs.Changed.{Framed}
 
 module _ (k : Kind) (u : Usable k) (s : ℕ) where
   pub frame-same : (l : List ℕ) → Framed k l l s

@@ -41,14 +41,14 @@ use Rattle.putting.specs.Put.{CanPut}
 use Rattle.putting.specs.Written.{sizeAfter, writtenIn}
 use Rattle.putting.specs.Laws.Longer.{longer-length, longer-table}
 use Rattle.putting.specs.Laws.Put.{can-grow}
-use Rattle.history.specs.Files.{File, file, Holds}
-use Rattle.history.specs.Changed.{Framed, SlotChanged}
-use Rattle.history.specs.Laws.Changed.{on-theory}
-use Rattle.history.specs.Laws.Frames.{frame-then}
-use Rattle.history.specs.Laws.Lengthened.{longer-attr, longer-bytes, longer-content, longer-first, longer-frame, longer-name, longer-size, longer-start, longer-touches}
-use Rattle.history.specs.Laws.Put.{put-before, put-bytes, put-entry, put-frame, put-table}
-use Rattle.history.specs.Laws.Root.{root-file, root-file-holder}
-use Rattle.history.specs.Laws.SameSlot.{same-good, same-plain}
+use Rattle.changes.specs.Files.{File, file, Holds}
+use Rattle.changes.specs.Changed.{Framed, SlotChanged}
+use Rattle.changes.specs.Laws.Changed.{on-theory}
+use Rattle.changes.specs.Laws.Frames.{frame-then}
+use Rattle.changes.specs.Laws.Lengthened.{longer-attr, longer-bytes, longer-content, longer-first, longer-frame, longer-name, longer-size, longer-start, longer-touches}
+use Rattle.changes.specs.Laws.Put.{put-before, put-bytes, put-entry, put-frame, put-table}
+use Rattle.changes.specs.Laws.Root.{root-file, root-file-holder}
+use Rattle.changes.specs.Laws.SameSlot.{same-good, same-plain}
 
 -- the bytes bs are put into the file in slot s
 module _ (k : Kind) (l : List ℕ) (s pointer : ℕ) (bs : List ℕ) (p : CanPut k l s pointer (length bs)) where

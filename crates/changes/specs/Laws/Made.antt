@@ -37,11 +37,11 @@ use Rattle.calls.specs.Laws.Files.{root-within, slot-within}
 use Rattle.calls.specs.Laws.Ready.{on-usable}
 use Rattle.holding.specs.Holding.{FileIn}
 use Rattle.freeing.specs.Freed.{chainFreed}
-use Rattle.history.specs.Changed.{SlotChanged}
-use Rattle.history.specs.Files.{file, Holds}
-use Rattle.history.specs.Laws.Emptied.{Emptied, file-emptied, none-emptied, entry-emptied, emptied-changed}
-use Rattle.history.specs.Laws.Given.{GoodAttr, good-attr}
-use Rattle.history.specs.Laws.Slots.{used-lower, name-once}
+use Rattle.changes.specs.Changed.{SlotChanged}
+use Rattle.changes.specs.Files.{file, Holds}
+use Rattle.changes.specs.Laws.Emptied.{Emptied, file-emptied, none-emptied, entry-emptied, emptied-changed}
+use Rattle.changes.specs.Laws.Given.{GoodAttr, good-attr}
+use Rattle.changes.specs.Laws.Slots.{used-lower, name-once}
 
 -- ---- the entry
 
