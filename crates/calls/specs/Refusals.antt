@@ -11,7 +11,7 @@ use Rattle.diskette.specs.declared.WhichKind.{WhichKind}
 use Rattle.diskette.specs.declared.WhichKind.the-variants.{Known, Unknown}
 use Rattle.search.specs.declared.Found.{Found}
 use Rattle.search.specs.declared.Found.the-variants.{At, Nothing}
-use Rattle.directory.specs.Fields.{attrOf}
+use Rattle.fields.specs.Fields.{attrOf}
 use Rattle.directory.specs.Slots.{hasBit}
 use Rattle.directory.specs.Search.{lowestOpenSlot, slotNamed}
 use Rattle.names.specs.Reading.{nameOf}

@@ -23,7 +23,7 @@ pub fn is_read_only(img: &[u8], k: Kind, slot: usize) -> bool
     requires { ⌜ slot < rootEntries k ⌝ }
     ensures { λ r. ⌜ r ≡ readOnly (now (img .entry)) slot ⌝ }
 {
-    directory::has_bit(directory::attr_at(img, k.slot_at(slot)), 0x01)
+    directory::has_bit(fields::attr_at(img, k.slot_at(slot)), 0x01)
 }
 
 // The slot of the file that the handle reaches.

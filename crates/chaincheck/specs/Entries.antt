@@ -8,7 +8,7 @@ use Rattle.chains.specs.Lists.{joined}
 use Rattle.chains.specs.Check.{ownsb, chainOf}
 use Rattle.chains.specs.Rows.{rows}
 use Rattle.table.specs.Entries.{tableOf}
-use Rattle.directory.specs.Fields.{startOf, sizeOf}
+use Rattle.fields.specs.Fields.{startOf, sizeOf}
 use Rattle.directory.specs.Slots.{standingOf}
 use Rattle.directory.specs.Search.{slotFrom}
 use Rattle.directory.specs.declared.Standing.{Standing}

@@ -14,7 +14,7 @@ use Rattle.chains.specs.Verdict.{first}
 use Rattle.chains.specs.Check.{chainOf, ownsb}
 use Rattle.chains.specs.Sizes.{clustersFor}
 use Rattle.table.specs.Entries.{tableOf}
-use Rattle.directory.specs.Fields.{sizeOf}
+use Rattle.fields.specs.Fields.{sizeOf}
 use Rattle.directory.specs.Slots.{standingOf, isPlain}
 use Rattle.directory.specs.Search.{slotFrom}
 use Rattle.walks.specs.Walks.{Tails}

@@ -29,8 +29,8 @@ fn visit_slot(
     if !directory::plain_at(img, a) {
         return Slot::NoFile;
     }
-    let needed = (directory::size_at(img, a) as usize + (cb - 1)) / cb;
-    match walks::chain::visit(img, marks, left, last, directory::start_at(img, a) as usize) {
+    let needed = (fields::size_at(img, a) as usize + (cb - 1)) / cb;
+    match walks::chain::visit(img, marks, left, last, fields::start_at(img, a) as usize) {
         Length::Of(n) => {
             if n == needed {
                 Slot::Clusters(n)

@@ -10,7 +10,7 @@ use Rattle.chains.specs.Replace.{Replaced}
 use Rattle.diskette.specs.Places.{firstData, clusterBytes, copyTwo, lastCluster, rootEntries, slotAt}
 use Rattle.diskette.specs.declared.Kind.{Kind}
 use Rattle.directory.specs.Entries.{SameBytes}
-use Rattle.directory.specs.Fields.{nameOf}
+use Rattle.fields.specs.Fields.{nameOf}
 use Rattle.directory.specs.Slots.{NeverUsedAt, LabelAt, PlainAt}
 use Rattle.table.specs.Entries.{Agree}
 use Rattle.chaincheck.specs.Entries.{holderAt}

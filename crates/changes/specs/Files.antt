@@ -6,7 +6,7 @@ use mathlib.Core.Path.{_≡_}
 use Rattle.chains.specs.Content.{content}
 use Rattle.diskette.specs.Places.{firstData, clusterBytes, slotAt}
 use Rattle.diskette.specs.declared.Kind.{Kind}
-use Rattle.directory.specs.Fields.{nameOf, attrOf, sizeOf}
+use Rattle.fields.specs.Fields.{nameOf, attrOf, sizeOf}
 use Rattle.sound.specs.Files.{IsFile, ChainOf}
 
 pub record File : Type 0 where

@@ -4,7 +4,7 @@ use Prim.Native.Nat.{ℕ, _+_}
 use mathlib.Core.Bool.{cond}
 use mathlib.Core.List.{List, [], _∷_}
 use mathlib.Core.Path.{_≡_}
-use Rattle.directory.specs.Fields.{attrOf, withAttr, withTime, withDate}
+use Rattle.fields.specs.Fields.{attrOf, withAttr, withTime, withDate}
 use Rattle.directory.specs.Slots.{hasBit}
 use Rattle.stamps.specs.Stamps.{packed}
 use Rattle.stamps.specs.declared.Stamp.{Stamp}

@@ -31,10 +31,10 @@ fn stamp_entry(img: &mut [u8], a: usize, time: u16, date: u16)
     requires { ⌜ a + 32 ≤ length (now img) ⌝ }
     ensures { λ _. ⌜ now (img .exit) ≡ stamped (now (img .entry)) a time date ⌝ }
 {
-    let attr = with_archive_bit(directory::attr_at(img, a));
-    directory::put_attr(img, a, attr);
-    directory::put_time(img, a, time);
-    directory::put_date(img, a, date);
+    let attr = with_archive_bit(fields::attr_at(img, a));
+    fields::put_attr(img, a, attr);
+    fields::put_time(img, a, time);
+    fields::put_date(img, a, date);
 }
 
 // The same where the place says written.

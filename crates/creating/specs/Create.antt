@@ -7,7 +7,7 @@ use mathlib.Core.List.{List, [], _∷_}
 use mathlib.Core.Path.{_≡_}
 use Rattle.diskette.specs.Places.{rootAt, rootEntries, slotAt}
 use Rattle.diskette.specs.declared.Kind.{Kind}
-use Rattle.directory.specs.Fields.{withEntry}
+use Rattle.fields.specs.Fields.{withEntry}
 use Rattle.directory.specs.Search.{lowestOpenSlot}
 use Rattle.names.specs.Reading.{nameOf}
 use Rattle.stamps.specs.Stamps.{packed}

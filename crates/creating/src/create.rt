@@ -51,7 +51,7 @@ fn empty_old(
             opened::put_record(t, place, 2, slot as u32, 0);
             let a = k.slot_at(slot);
             freed::free_file(img, k, slot);
-            directory::write_entry(img, a, name, attr, time, date, 0, 0);
+            fields::write_entry(img, a, name, attr, time, date, 0, 0);
             Answer::well(place as u32)
         }
     }
@@ -75,7 +75,7 @@ fn make_new(
         Found::At(slot) => match opened::lowest_unused(t) {
             Found::Nothing => Answer::refused(4),
             Found::At(place) => {
-                directory::write_entry(img, k.slot_at(slot), name, attr, time, date, 0, 0);
+                fields::write_entry(img, k.slot_at(slot), name, attr, time, date, 0, 0);
                 opened::put_record(t, place, 2, slot as u32, 0);
                 Answer::well(place as u32)
             }

@@ -19,7 +19,7 @@ fn erase_in(img: &mut [u8], k: Kind, slot: usize)
 {
     let a = k.slot_at(slot);
     freed::free_file(img, k, slot);
-    directory::put_first(img, a, 0xE5);
+    fields::put_first(img, a, 0xE5);
 }
 
 // Deletes the file in the slot, where it is not open nor read-only.

@@ -4,7 +4,7 @@ use mathlib.Core.List.{List}
 use mathlib.Core.Path.{_≡_}
 use lib.ListN.{getD, replicate}
 use Rattle.image.specs.Store.{Outside, Apart}
-use Rattle.directory.specs.Fields.{nameOf, attrOf, reservedOf, timeOf, dateOf, startOf, sizeOf}
+use Rattle.fields.specs.Fields.{nameOf, attrOf, reservedOf, timeOf, dateOf, startOf, sizeOf}
 use Rattle.directory.specs.Slots.{standingOf}
 
 -- the fields of a fresh entry: name, attribute, zero reserved bytes, time, date, start, size

@@ -1,5 +1,4 @@
 -- The laws of the definitions beside this folder.
-pub mod Fields
 pub mod Slots
 pub mod Entries
 pub mod Names

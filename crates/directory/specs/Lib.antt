@@ -1,5 +1,4 @@
--- The 32 bytes of a directory entry, by the address of the first: its fields, what it stands for, and where an entry is found.
-pub mod Fields
+-- What an entry of a directory stands for, and where an entry is found.
 pub mod Slots
 pub mod Entries
 pub mod Search

@@ -6,7 +6,7 @@ use lib.Dec.{eqb}
 use lib.ListN.{getD}
 use Rattle.search.specs.Search.{lowest}
 use Rattle.search.specs.declared.Found.{Found}
-use Rattle.directory.specs.Fields.{nameOf}
+use Rattle.fields.specs.Fields.{nameOf}
 use Rattle.directory.specs.Slots.{standingOf, isOpen, isPlain}
 
 -- ---- names

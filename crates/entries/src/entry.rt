@@ -31,12 +31,12 @@ fn fields_at(img: &[u8], a: usize) -> EntryAnswer
     EntryAnswer {
         number: 0,
         found: true,
-        name: directory::name_at(img, a),
-        attr: directory::attr_at(img, a),
-        time: directory::time_at(img, a),
-        date: directory::date_at(img, a),
-        start: directory::start_at(img, a),
-        size: directory::size_at(img, a),
+        name: fields::name_at(img, a),
+        attr: fields::attr_at(img, a),
+        time: fields::time_at(img, a),
+        date: fields::date_at(img, a),
+        start: fields::start_at(img, a),
+        size: fields::size_at(img, a),
     }
 }
 

@@ -12,7 +12,7 @@ pub fn free_file(img: &mut [u8], k: Kind, slot: usize)
     ensures { λ _. ⌜ now (img .exit) ≡ chainFreed k (now (img .entry)) slot ⌝ }
 {
     let a = k.slot_at(slot);
-    let start = directory::start_at(img, a) as usize;
-    let count = k.needed_for(directory::size_at(img, a));
+    let start = fields::start_at(img, a) as usize;
+    let count = k.needed_for(fields::size_at(img, a));
     links::free_chain(img, k.copy_two(), k.last_cluster(), start, count);
 }

@@ -10,7 +10,7 @@ use Rattle.image.specs.Bytes.{Bytes}
 use Rattle.diskette.specs.Kinds.{kindFE}
 use Rattle.diskette.specs.Places.{slotAt}
 use Rattle.diskette.specs.declared.Kind.{Kind}
-use Rattle.directory.specs.Fields.{timeOf, dateOf}
+use Rattle.fields.specs.Fields.{timeOf, dateOf}
 use Rattle.stamps.specs.Stamps.{packed}
 use Rattle.stamps.specs.declared.Stamp.{Stamp}
 use Rattle.stamps.specs.declared.Packed.the-variants.{Words}

@@ -5,7 +5,7 @@ use Rattle.chains.specs.Content.{content}
 use Rattle.contents.specs.Contents.{chainFrom}
 use Rattle.diskette.specs.Places.{firstData, clusterBytes, lastCluster, rootEntries, slotAt}
 use Rattle.diskette.specs.declared.Kind.{Kind}
-use Rattle.directory.specs.Fields.{startOf, sizeOf}
+use Rattle.fields.specs.Fields.{startOf, sizeOf}
 use Rattle.directory.specs.Slots.{PlainAt}
 
 -- its clusters

@@ -16,12 +16,12 @@ fn put_entry(area: &[u8], a: usize, out: &mut [u8], at: usize) -> usize
     requires { ⌜ at + fileRoom ≤ length (now out) ⌝ }
     ensures { λ r. ⌜ PutsIn fileRoom (entryText (now (area .entry)) a) (now (out .entry)) at r (now (out .exit)) ⌝ }
 {
-    let name = directory::name_at(area, a);
-    let attr = directory::attr_at(area, a);
-    let size = directory::size_at(area, a);
-    let start = directory::start_at(area, a);
-    let date = directory::date_at(area, a);
-    let time = directory::time_at(area, a);
+    let name = fields::name_at(area, a);
+    let attr = fields::attr_at(area, a);
+    let size = fields::size_at(area, a);
+    let start = fields::start_at(area, a);
+    let date = fields::date_at(area, a);
+    let time = fields::time_at(area, a);
     lines::put_file(out, at, name, attr, size, start, date, time)
 }
 

@@ -4,7 +4,7 @@ use mathlib.Core.Bool.{cond, _&&_}
 use mathlib.Core.List.{List, [], _∷_}
 use mathlib.Core.Path.{_≡_}
 use lib.Dec.{eqb, ltb}
-use Rattle.directory.specs.Fields.{attrOf, withAttr}
+use Rattle.fields.specs.Fields.{attrOf, withAttr}
 use Rattle.opened.specs.Places.{isOpen}
 use Rattle.calls.specs.Outcome.{Row, Outcome, outcome, decided}
 use Rattle.calls.specs.Refusals.{notOfKind, notSound, badName, noFile, fileSlot, addressOf, badAttr}

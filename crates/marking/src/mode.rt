@@ -28,7 +28,7 @@ fn mode_on(img: &mut [u8], k: Kind, t: &[u8], s: &[u8], function: u32, attr: u32
         Found::At(slot) => {
             let a = k.slot_at(slot);
             if function == 0 {
-                return Answer::well(directory::attr_at(img, a) as u32);
+                return Answer::well(fields::attr_at(img, a) as u32);
             }
             if attribute::is_bad_attr(attr) {
                 return Answer::refused(5);
@@ -36,7 +36,7 @@ fn mode_on(img: &mut [u8], k: Kind, t: &[u8], s: &[u8], function: u32, attr: u32
             if opened::is_open(t, slot) {
                 return Answer::refused(5);
             }
-            directory::put_attr(img, a, attr as u8);
+            fields::put_attr(img, a, attr as u8);
             Answer::well(0)
         }
     }

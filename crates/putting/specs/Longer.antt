@@ -10,7 +10,7 @@ use Rattle.chains.specs.Lists as lists
 use Rattle.contents.specs.Contents.{chainFrom, Area}
 use Rattle.diskette.specs.Places.{firstData, clusterBytes, copyTwo, lastCluster, slotAt}
 use Rattle.diskette.specs.declared.Kind.{Kind}
-use Rattle.directory.specs.Fields.{sizeOf, withStart, withSize}
+use Rattle.fields.specs.Fields.{sizeOf, withStart, withSize}
 use Rattle.links.specs.Linked.{endOf, linked, newClusters}
 use Rattle.sound.specs.Counts.{freeOf}
 use Rattle.calls.specs.Ready.{OnVolume}

@@ -6,7 +6,7 @@ use lib.ListN.{length}
 use Rattle.chains.specs.Write.{writtenImage}
 use Rattle.diskette.specs.Places.{firstData, clusterBytes, slotAt}
 use Rattle.diskette.specs.declared.Kind.{Kind}
-use Rattle.directory.specs.Fields.{sizeOf}
+use Rattle.fields.specs.Fields.{sizeOf}
 use Rattle.putting.specs.Longer.{chainAfter, lengthened}
 
 -- "size becomes the larger of old size and pointer plus count"

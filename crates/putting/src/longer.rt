@@ -6,7 +6,7 @@ ghost use mathlib.Core.Path.{_≡_};
 ghost use lib.Dec.{eqb};
 ghost use lib.ListN.{length};
 ghost use Rattle.image.specs.Bytes.{Bytes};
-ghost use Rattle.directory.specs.Fields.{withStart, withSize};
+ghost use Rattle.fields.specs.Fields.{withStart, withSize};
 ghost use Rattle.links.specs.Linked.{endOf};
 ghost use Rattle.calls.specs.Ready.{OnVolume};
 ghost use Rattle.holding.specs.Holding.{fileChain, FileIn};
@@ -18,7 +18,7 @@ pub fn own_clusters(img: &[u8], k: Kind, slot: usize) -> usize
     requires { ⌜ FileIn (now img) k slot ⌝ }
     ensures { λ r. ⌜ r ≡ length (fileChain k (now (img .entry)) slot) ⌝ }
 {
-    k.needed_for(directory::size_at(img, k.slot_at(slot)))
+    k.needed_for(fields::size_at(img, k.slot_at(slot)))
 }
 
 // The last of them, 0 where it has none.
@@ -28,7 +28,7 @@ fn end_of_file(img: &[u8], k: Kind, slot: usize) -> usize
     ensures { λ r. ⌜ r ≡ endOf (fileChain k (now (img .entry)) slot) ⌝ }
 {
     let own = own_clusters(img, k, slot);
-    let start = directory::start_at(img, k.slot_at(slot)) as usize;
+    let start = fields::start_at(img, k.slot_at(slot)) as usize;
     links::last_of(img, k.last_cluster(), start, own)
 }
 
@@ -56,8 +56,8 @@ fn put_extent(img: &mut [u8], a: usize, start: usize, size: u32)
     requires { ⌜ start < 65536 ⌝ }
     ensures { λ _. ⌜ now (img .exit) ≡ withSize (withStart (now (img .entry)) a start) a size ⌝ }
 {
-    directory::put_start(img, a, start as u16);
-    directory::put_size(img, a, size);
+    fields::put_start(img, a, start as u16);
+    fields::put_size(img, a, size);
 }
 
 // Gives the file in the slot the clusters that it lacks for that size. Answers where its chain starts then.
@@ -66,7 +66,7 @@ fn grow_chain(img: &mut [u8], k: Kind, slot: usize, size: u32) -> usize
     ensures { λ r. ⌜ Grows k (now (img .entry)) slot size r (now (img .exit)) ⌝ }
 {
     let own = own_clusters(img, k, slot);
-    let start = directory::start_at(img, k.slot_at(slot)) as usize;
+    let start = fields::start_at(img, k.slot_at(slot)) as usize;
     let first = add_behind(img, k, slot, k.needed_for(size) - own);
     start_then(own, start, first)
 }

@@ -72,7 +72,7 @@ fn put_in_file(img: &mut [u8], k: Kind, slot: usize, pointer: u32, bytes: &[u8])
     requires { ⌜ CanPut k (now img) slot pointer (length (now bytes)) ⌝ }
     ensures { λ _. ⌜ now (img .exit) ≡ writtenIn k (now (img .entry)) slot pointer (now (bytes .entry)) ⌝ }
 {
-    let size = directory::size_at(img, k.slot_at(slot));
+    let size = fields::size_at(img, k.slot_at(slot));
     let start = longer::lengthen(img, k, slot, larger(size, pointer + bytes.len() as u32));
     put_along(img, k, start, size, pointer, bytes);
 }

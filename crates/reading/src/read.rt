@@ -10,7 +10,7 @@ ghost use mathlib.Core.Path.{_≡_};
 ghost use lib.ListN.{length};
 ghost use Rattle.image.specs.Store.{stored, part};
 ghost use Rattle.diskette.specs.Places.{slotAt};
-ghost use Rattle.directory.specs.Fields.{sizeOf};
+ghost use Rattle.fields.specs.Fields.{sizeOf};
 ghost use Rattle.holding.specs.Holding.{fileBytes, FileIn};
 ghost use Rattle.reading.specs.Read.{readCount, Reads};
 ghost use Rattle.calls.specs.Ready.{OnVolume};
@@ -42,7 +42,7 @@ fn copy_out(img: &[u8], k: Kind, slot: usize, pointer: u32, buf: &mut [u8], n: u
         return;
     }
     let base = 512 * k.first_data();
-    let start = directory::start_at(img, k.slot_at(slot)) as usize;
+    let start = fields::start_at(img, k.slot_at(slot)) as usize;
     contents::fetch(
         img,
         base,
@@ -68,7 +68,7 @@ fn read_on(img: &[u8], k: Kind, t: &mut [u8], handle: u32, buf: &mut [u8]) -> An
                 return Answer::refused(5);
             }
             let pointer = opened::pointer_at(t, place);
-            let n = count_of(buf.len(), directory::size_at(img, k.slot_at(slot)), pointer);
+            let n = count_of(buf.len(), fields::size_at(img, k.slot_at(slot)), pointer);
             copy_out(img, k, slot, pointer, buf, n);
             opened::put_pointer(t, place, pointer + n);
             Answer::well(n)

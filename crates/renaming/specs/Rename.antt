@@ -5,7 +5,7 @@ use mathlib.Core.List.{List, [], _∷_}
 use mathlib.Core.Path.{_≡_}
 use Rattle.diskette.specs.Places.{rootAt, rootEntries, slotAt}
 use Rattle.diskette.specs.declared.Kind.{Kind}
-use Rattle.directory.specs.Fields.{withName}
+use Rattle.fields.specs.Fields.{withName}
 use Rattle.directory.specs.Search.{slotNamed}
 use Rattle.names.specs.Reading.{nameOf}
 use Rattle.opened.specs.Places.{isOpen}

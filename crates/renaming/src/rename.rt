@@ -9,7 +9,7 @@ ghost use Prim.Native.Nat.{_<_};
 ghost use mathlib.Core.Bool.{not};
 ghost use mathlib.Core.Path.{_≡_};
 ghost use Rattle.diskette.specs.Places.{rootAt, rootEntries, slotAt};
-ghost use Rattle.directory.specs.Fields.{withName};
+ghost use Rattle.fields.specs.Fields.{withName};
 ghost use Rattle.directory.specs.Search.{slotNamed};
 ghost use Rattle.calls.specs.Ready.{OnVolume};
 ghost use Rattle.calls.specs.Refusals.{isNothing};
@@ -32,7 +32,7 @@ fn put_name_in(img: &mut [u8], k: Kind, slot: usize, name: [u8; 11])
     requires { ⌜ slot < rootEntries k ⌝ }
     ensures { λ _. ⌜ now (img .exit) ≡ withName (now (img .entry)) (slotAt k slot) name ⌝ }
 {
-    directory::put_name(img, k.slot_at(slot), name);
+    fields::put_name(img, k.slot_at(slot), name);
 }
 
 // Renames the file in the slot, where it is not open nor read-only and the new name is not taken.

@@ -6,7 +6,7 @@ use lib.Dec.{ltb}
 use lib.ListN.{length}
 use Rattle.image.specs.Store.{stored}
 use Rattle.image.specs.Numbers.{digits}
-use Rattle.directory.specs.Fields.{tailBytes}
+use Rattle.fields.specs.Fields.{tailBytes}
 
 -- "as 32-bit words, low byte first"
 unfoldable pub words : List ℕ → List ℕ

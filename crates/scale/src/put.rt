@@ -5,7 +5,7 @@ ghost use Prim.Native.Nat.{_+_, _≤_};
 ghost use lib.ListN.{length};
 ghost use Rattle.image.specs.Store.{stored};
 ghost use Rattle.image.specs.Numbers.{digits};
-ghost use Rattle.directory.specs.Fields.{tailBytes};
+ghost use Rattle.fields.specs.Fields.{tailBytes};
 ghost use Rattle.scale.specs.Out.{put, words, fields};
 
 // Stores one byte.

@@ -27,7 +27,7 @@ fn base_of(img: &[u8], k: Kind, t: &[u8], place: usize, slot: usize, method: u32
     if method == 1 {
         return opened::pointer_at(t, place);
     }
-    directory::size_at(img, k.slot_at(slot))
+    fields::size_at(img, k.slot_at(slot))
 }
 
 // Moves a pointer on a volume that is ready.

@@ -6,7 +6,7 @@ use mathlib.Core.List.{List}
 use mathlib.Core.Logic.{_≢_}
 use mathlib.Core.Path.{_≡_}
 use lib.ListN.{length, getD}
-use Rattle.directory.specs.Fields.{nameOf}
+use Rattle.fields.specs.Fields.{nameOf}
 use Rattle.directory.specs.Slots.{PlainAt}
 use Rattle.directory.specs.Search.{slotFrom}
 use Rattle.slotcheck.specs.Slots.{nameTwiceSlot, badSlotBy}

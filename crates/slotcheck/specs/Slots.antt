@@ -4,7 +4,7 @@ use mathlib.Core.Bool.{Bool, true, false, _&&_, _||_, not}
 use mathlib.Core.List.{List}
 use lib.Dec.{eqb}
 use lib.ListN.{getD}
-use Rattle.directory.specs.Fields.{nameOf, attrOf}
+use Rattle.fields.specs.Fields.{nameOf, attrOf}
 use Rattle.directory.specs.Slots.{hasBit, standingOf, isPlain}
 use Rattle.directory.specs.Search.{slotFrom, slotNamed}
 use Rattle.directory.specs.declared.Standing.{Standing}

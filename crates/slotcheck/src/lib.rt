@@ -6,7 +6,7 @@ ghost use mathlib.Core.Path.{_≡_};
 ghost use Prim.Native.Nat.{_+_, _*_, _≤_};
 ghost use lib.ListN.{length};
 ghost use Rattle.chains.specs.Verdict.{first};
-ghost use Rattle.directory.specs.Fields.{nameOf};
+ghost use Rattle.fields.specs.Fields.{nameOf};
 ghost use Rattle.search.specs.Laws.Theory.{optional};
 ghost use Rattle.slotcheck.specs.Slots.{isLabel, isLive, isFound, neverUsedSlot, labelSlot, strange, strangeSlot, badSlotAt};
 ghost use Rattle.slotcheck.specs.Checksums.{withByte, checksum, NamesMet, NameTold, SlotTold};
@@ -91,7 +91,7 @@ fn is_strange_slot(img: &[u8], root: usize, s: usize) -> bool
 {
     let a = root + 32 * s;
     if stands_for_live(directory::standing_at(img, a)) {
-        is_strange(img[a], directory::attr_at(img, a))
+        is_strange(img[a], fields::attr_at(img, a))
     } else {
         false
     }
@@ -133,7 +133,7 @@ fn is_name_twice(img: &[u8], met: &mut [u8], root: usize, s: usize) -> bool
         met[sum] = 1;
         return false;
     }
-    has_found(directory::slot_named(img, root, s, directory::name_at(img, a)))
+    has_found(directory::slot_named(img, root, s, fields::name_at(img, a)))
 }
 
 // Whether slot s is bad; never and label say what was met in lower slots, and met has the marks of their names.

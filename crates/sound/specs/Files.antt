@@ -6,7 +6,7 @@ use Rattle.chains.specs.Holders.{FileClusters}
 use Rattle.diskette.specs.Places.{clusterBytes, lastCluster, rootEntries, slotAt}
 use Rattle.diskette.specs.declared.Kind.{Kind}
 use Rattle.table.specs.Entries.{tableOf}
-use Rattle.directory.specs.Fields.{startOf, sizeOf}
+use Rattle.fields.specs.Fields.{startOf, sizeOf}
 use Rattle.directory.specs.Slots.{PlainAt}
 
 -- the value of a cluster's table entry

@@ -10,7 +10,7 @@ use Rattle.chains.specs.Lists.{_∈_}
 use Rattle.chains.specs.Values.{Link, Used, Valid}
 use Rattle.diskette.specs.Places.{lastCluster, rootEntries, copyOne, copyTwo, slotAt}
 use Rattle.diskette.specs.declared.Kind.{Kind}
-use Rattle.directory.specs.Fields.{nameOf, attrOf}
+use Rattle.fields.specs.Fields.{nameOf, attrOf}
 use Rattle.directory.specs.Slots.{hasBit, NeverUsedAt, LiveAt, LabelAt, PlainAt}
 use Rattle.sound.specs.Files.{valueOf, IsFile, ChainOf}
 

@@ -9,7 +9,7 @@ use Rattle.image.specs.Store.{part}
 use Rattle.contents.specs.Contents.{placeOf}
 use Rattle.diskette.specs.Places.{firstData, clusterBytes, lastCluster, slotAt}
 use Rattle.diskette.specs.declared.Kind.{Kind}
-use Rattle.directory.specs.Fields.{startOf, sizeOf}
+use Rattle.fields.specs.Fields.{startOf, sizeOf}
 use Rattle.calls.specs.Outcome.{Row, Outcome, outcome, decided}
 use Rattle.calls.specs.Refusals.{theKind, notOfKind, notSound, badName, noFile, fileSlot}
 

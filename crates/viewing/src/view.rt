@@ -35,7 +35,7 @@ fn see_file(img: &[u8], k: Kind, slot: usize, offset: u32) -> Seen
     ensures { λ r. ⌜ SeesFile (now (img .entry)) k slot offset (r .number) (r .at) (r .bytes) ⌝ }
 {
     let a = k.slot_at(slot);
-    let size = directory::size_at(img, a);
+    let size = fields::size_at(img, a);
     if size <= offset {
         return Seen {
             number: 0,
@@ -45,7 +45,7 @@ fn see_file(img: &[u8], k: Kind, slot: usize, offset: u32) -> Seen
     }
     let base = 512 * k.first_data();
     let cb = k.cluster_bytes();
-    let start = directory::start_at(img, a) as usize;
+    let start = fields::start_at(img, a) as usize;
     let at = contents::place_of(img, base, cb, k.last_cluster(), start, offset as usize);
     let bytes = bytes_from(cb, size, offset);
     Seen {

@@ -10,7 +10,7 @@ use Rattle.diskette.specs.declared.Kind.{Kind}
 use Rattle.search.specs.Laws.Meaning.{LowestIs, lowest-is}
 use Rattle.search.specs.declared.Found.{Found}
 use Rattle.search.specs.declared.Found.the-variants.{At, Nothing}
-use Rattle.directory.specs.Fields.{attrOf}
+use Rattle.fields.specs.Fields.{attrOf}
 use Rattle.directory.specs.Slots.{hasBit}
 use Rattle.directory.specs.Search.{namedSlot, slotNamed}
 use Rattle.names.specs.Reading.{nameOf}

@@ -23,7 +23,7 @@ use Rattle.chains.specs.Laws.Sizes.{fits-exact}
 use Rattle.chains.specs.Laws.TallyTurns.{tally-hit, tally-miss, tally-end}
 use Rattle.chains.specs.Laws.Tests.{says-true, true-says}
 use Rattle.table.specs.Entries.{tableOf}
-use Rattle.directory.specs.Fields.{startOf, sizeOf}
+use Rattle.fields.specs.Fields.{startOf, sizeOf}
 use Rattle.directory.specs.Search.{slotFrom}
 use Rattle.directory.specs.Slots.{standingOf, isPlain}
 use Rattle.walks.specs.Walks.{Tails}

@@ -18,7 +18,7 @@ use Rattle.chains.specs.Laws.Sizes.{fits-exact}
 use Rattle.chains.specs.Laws.Tests.{false-says, not-false, not-true, true-says}
 use Rattle.chains.specs.Laws.Walk.{chain-walk}
 use Rattle.table.specs.Entries.{tableOf}
-use Rattle.directory.specs.Fields.{startOf, sizeOf}
+use Rattle.fields.specs.Fields.{startOf, sizeOf}
 use Rattle.directory.specs.Slots.{standingOf, isPlain}
 use Rattle.directory.specs.declared.Standing.{Standing}
 use Rattle.directory.specs.declared.Standing.the-variants.{NeverUsed, Erased, Label, Plain}

@@ -24,7 +24,7 @@ use Rattle.diskette.specs.Places.{firstData, clusterBytes, lastCluster, rootEnt
 use Rattle.diskette.specs.declared.Kind.{Kind}
 use Rattle.diskette.specs.declared.WhichKind.the-variants.{Known}
 use Rattle.directory.specs.Entries.{SameFields}
-use Rattle.directory.specs.Fields.{nameOf, attrOf, startOf, sizeOf}
+use Rattle.fields.specs.Fields.{nameOf, attrOf, startOf, sizeOf}
 use Rattle.directory.specs.Slots.{NeverUsedAt, LiveAt, LabelAt, PlainAt}
 use Rattle.directory.specs.Laws.Entries.{same-fields}
 use Rattle.sound.specs.Files.{valueOf, IsFile, ChainOf}

@@ -16,7 +16,7 @@ use Rattle.chains.specs.Laws.Changes.{gives-back}
 use Rattle.diskette.specs.Kinds.{Usable}
 use Rattle.diskette.specs.Places.{firstData, clusterBytes, copyTwo, lastCluster, rootEntries, slotAt}
 use Rattle.diskette.specs.declared.Kind.{Kind}
-use Rattle.directory.specs.Fields.{startOf}
+use Rattle.fields.specs.Fields.{startOf}
 use Rattle.directory.specs.Slots.{PlainAt}
 use Rattle.links.specs.Leaves.{Leaves, Holds}
 use Rattle.links.specs.Laws.Freed.{table-freed}

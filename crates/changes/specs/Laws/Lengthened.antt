@@ -21,7 +21,7 @@ use Rattle.diskette.specs.Kinds.{Usable}
 use Rattle.diskette.specs.Places.{firstData, clusterBytes, copyTwo, lastCluster, slotAt}
 use Rattle.diskette.specs.declared.Kind.{Kind}
 use Rattle.directory.specs.Entries.{SameFields, Untouched}
-use Rattle.directory.specs.Fields.{nameOf, attrOf, startOf, sizeOf, withStart, withSize}
+use Rattle.fields.specs.Fields.{nameOf, attrOf, startOf, sizeOf, withStart, withSize}
 use Rattle.directory.specs.Laws.Entries.{same-fields, word-leaves, long-leaves, word-back, long-back}
 use Rattle.links.specs.Leaves.{Leaves}
 use Rattle.sound.specs.Files.{valueOf}

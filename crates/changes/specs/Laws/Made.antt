@@ -19,11 +19,11 @@ use Rattle.diskette.specs.declared.Kind.{Kind}
 use Rattle.search.specs.Search.{LowestBelow, Answers}
 use Rattle.search.specs.declared.Found.the-variants.{At, Nothing}
 use Rattle.directory.specs.Entries as Entries
-use Rattle.directory.specs.Fields.{nameOf, attrOf, startOf, sizeOf, tailBytes, entryBytes, withEntry}
+use Rattle.fields.specs.Fields.{nameOf, attrOf, startOf, sizeOf, tailBytes, entryBytes, withEntry}
 use Rattle.directory.specs.Search.{lowestOpenSlot, slotNamed}
 use Rattle.directory.specs.Slots.{hasBit, NeverUsedAt, OpenAt, PlainAt}
 use Rattle.directory.specs.Laws.Entries.{fresh}
-use Rattle.directory.specs.Laws.Fields.{length-entry, bytes-entry}
+use Rattle.fields.specs.Laws.Fields.{length-entry, bytes-entry}
 use Rattle.directory.specs.Laws.Search.{open-slot-answers, slot-named-answers}
 use Rattle.names.specs.Reading as Given
 use Rattle.names.specs.Spelling.{Proper}

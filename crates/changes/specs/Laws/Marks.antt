@@ -31,7 +31,7 @@ use Rattle.diskette.specs.Kinds.{Usable}
 use Rattle.diskette.specs.Places.{firstData, clusterBytes, lastCluster, rootAt, rootEntries, slotAt}
 use Rattle.diskette.specs.declared.Kind.{Kind}
 use Rattle.directory.specs.Entries.{Untouched}
-use Rattle.directory.specs.Fields.{nameOf, attrOf, startOf, sizeOf, withName, withAttr}
+use Rattle.fields.specs.Fields.{nameOf, attrOf, startOf, sizeOf, withName, withAttr}
 use Rattle.directory.specs.Search.{slotNamed}
 use Rattle.directory.specs.Slots.{hasBit, NeverUsedAt, PlainAt}
 use Rattle.directory.specs.Laws.Entries.{untouched, byte-leaves, word-leaves, byte-back, run-back}

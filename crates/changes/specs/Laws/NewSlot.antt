@@ -9,7 +9,7 @@ use Rattle.diskette.specs.Places.{rootAt, rootEntries, slotAt}
 use Rattle.diskette.specs.declared.Kind.{Kind}
 use Rattle.search.specs.Laws.Below.{only-answer}
 use Rattle.search.specs.declared.Found.the-variants.{At, Nothing}
-use Rattle.directory.specs.Fields as fields
+use Rattle.fields.specs.Fields as fields
 use Rattle.directory.specs.Search.{lowestOpenSlot, slotNamed}
 use Rattle.directory.specs.Slots.{NeverUsedAt, OpenAt, PlainAt}
 use Rattle.directory.specs.Laws.Search.{open-slot-answers, slot-named-answers}

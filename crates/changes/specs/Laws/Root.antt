@@ -6,7 +6,7 @@ use Rattle.chains.specs.Holders.{Holder, Owns, fileHolder}
 use Rattle.chains.specs.Laws.Holders.{owns-same, owns-nobody}
 use Rattle.diskette.specs.Places.{clusterBytes, lastCluster, rootEntries, slotAt}
 use Rattle.diskette.specs.declared.Kind.{Kind}
-use Rattle.directory.specs.Fields.{startOf, sizeOf}
+use Rattle.fields.specs.Fields.{startOf, sizeOf}
 use Rattle.directory.specs.Slots.{PlainAt}
 use Rattle.sound.specs.Files.{valueOf}
 use Rattle.sound.specs.Holders.{rootHolders, rootChains}

@@ -9,7 +9,7 @@ use lib.ListN.{getD}
 use Rattle.chains.specs.Laws.Tests.{clash}
 use Rattle.diskette.specs.Places.{rootEntries, slotAt}
 use Rattle.diskette.specs.declared.Kind.{Kind}
-use Rattle.directory.specs.Fields.{nameOf, attrOf}
+use Rattle.fields.specs.Fields.{nameOf, attrOf}
 use Rattle.directory.specs.Slots.{PlainAt}
 use Rattle.sound.specs.Findings.{BadSlot}
 use Rattle.calls.specs.Ready.{OnVolume}

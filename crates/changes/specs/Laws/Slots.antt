@@ -7,7 +7,7 @@ use mathlib.Core.Logic.{_≢_, inl, inr}
 use mathlib.Core.Path.{sym}
 use Rattle.diskette.specs.Places.{rootEntries, slotAt}
 use Rattle.diskette.specs.declared.Kind.{Kind}
-use Rattle.directory.specs.Fields.{nameOf}
+use Rattle.fields.specs.Fields.{nameOf}
 use Rattle.directory.specs.Slots.{NeverUsedAt, PlainAt}
 use Rattle.calls.specs.Ready.{OnVolume}
 use Rattle.holding.specs.Holding.{FileIn}

@@ -22,7 +22,7 @@ use Rattle.diskette.specs.Kinds.{Usable}
 use Rattle.diskette.specs.Places.{firstData, clusterBytes, lastCluster, slotAt}
 use Rattle.diskette.specs.declared.Kind.{Kind}
 use Rattle.directory.specs.Entries.{SameFields}
-use Rattle.directory.specs.Fields.{nameOf, attrOf, startOf, sizeOf}
+use Rattle.fields.specs.Fields.{nameOf, attrOf, startOf, sizeOf}
 use Rattle.directory.specs.Slots.{PlainAt}
 use Rattle.links.specs.Linked.{newClusters}
 use Rattle.chaincheck.specs.Entries.{holderAt}

@@ -9,7 +9,7 @@ use Rattle.diskette.specs.Places.{rootAt, rootEntries, slotAt}
 use Rattle.diskette.specs.declared.Kind.{Kind}
 use Rattle.search.specs.declared.Found.{Found}
 use Rattle.search.specs.declared.Found.the-variants.{At, Nothing}
-use Rattle.directory.specs.Fields.{attrOf, withAttr, withTime, withDate}
+use Rattle.fields.specs.Fields.{attrOf, withAttr, withTime, withDate}
 use Rattle.directory.specs.Slots.{hasBit}
 use Rattle.stamps.specs.Stamps.{packed}
 use Rattle.stamps.specs.declared.Stamp.{Stamp}

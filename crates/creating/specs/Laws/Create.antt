@@ -10,7 +10,7 @@ use Rattle.diskette.specs.declared.Kind.{Kind}
 use Rattle.search.specs.Laws.Meaning.{lowest-is}
 use Rattle.search.specs.declared.Found.{Found}
 use Rattle.search.specs.declared.Found.the-variants.{At, Nothing}
-use Rattle.directory.specs.Fields.{withEntry}
+use Rattle.fields.specs.Fields.{withEntry}
 use Rattle.directory.specs.Search.{openSlot, lowestOpenSlot, slotNamed}
 use Rattle.names.specs.Reading.{nameOf}
 use Rattle.names.specs.declared.Spelled.{Spelled}

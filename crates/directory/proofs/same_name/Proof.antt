@@ -3,7 +3,7 @@ use native.Mathlib.Omega.{arith}
 use borrow.Author.Needs.{needs}
 use mathlib.Core.Path.{_≡_}
 use Prim.Native.Nat.{_-_, _≤_, _<_}
-use Rattle.directory.specs.Fields.{nameOf}
+use Rattle.fields.specs.Fields.{nameOf}
 use Rattle.directory.specs.Search.{sameFrom, sameName}
 use Rattle.directory.specs.Laws.Names.{same-all, same-more, same-differs, same-end}
 use Rattle.directory.proofs.same_name.Statement.{statement}

@@ -11,10 +11,10 @@ use Rattle.image.specs.Store.{stored, part, Outside, Apart}
 use Rattle.image.specs.Numbers.{number, digits}
 use Rattle.image.specs.Laws.Store.{length-stored, stored-inside, stored-outside, part-same, part-at, part-stored, part-apart}
 use Rattle.image.specs.Laws.Numbers.{length-digits, number-same, number-stored, number-apart}
-use Rattle.directory.specs.Fields.{attrOf, withFirst, withAttr, withName, withEntry, headBytes, tailBytes, entryBytes}
+use Rattle.fields.specs.Fields.{attrOf, withFirst, withAttr, withName, withEntry, headBytes, tailBytes, entryBytes}
 use Rattle.directory.specs.Slots.{standingBy, standingOf}
 use Rattle.directory.specs.Entries.{Holds, SameBytes, SameFields, Untouched}
-use Rattle.directory.specs.Laws.Fields.{length-head, length-entry}
+use Rattle.fields.specs.Laws.Fields.{length-head, length-entry}
 
 same-standing : (f f′ v v′ : ℕ) → f ≡ f′ → v ≡ v′ → standingBy f v ≡ standingBy f′ v′
 same-standing f f′ v v′ p q = rw (p, q)

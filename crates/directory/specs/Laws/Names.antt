@@ -11,7 +11,7 @@ use lib.ListN.{length, getD}
 use lib.Seq.{ext-getD}
 use borrow.Author.Tests.{eqb-true, eq-eqb, ne-eqb}
 use Rattle.image.specs.Laws.Store.{length-part, part-at}
-use Rattle.directory.specs.Fields.{nameOf}
+use Rattle.fields.specs.Fields.{nameOf}
 use Rattle.directory.specs.Slots.{PlainAt, standingOf, isPlain}
 use Rattle.directory.specs.Search.{sameFrom, sameName, isNamed}
 use Rattle.directory.specs.Laws.Slots.{plain-is}

@@ -10,7 +10,7 @@ use Rattle.search.specs.Laws.Turns as turns
 use Rattle.search.specs.Laws.Below.{lowest-answers}
 use Rattle.search.specs.declared.Found.{Found}
 use Rattle.search.specs.declared.Found.the-variants.{At, Nothing}
-use Rattle.directory.specs.Fields.{nameOf}
+use Rattle.fields.specs.Fields.{nameOf}
 use Rattle.directory.specs.Slots.{PlainAt, OpenAt}
 use Rattle.directory.specs.Search.{slotFrom, openSlot, namedSlot, lowestOpenSlot, slotNamed}
 use Rattle.directory.specs.Laws.Slots.{open-is}

@@ -8,7 +8,7 @@ use mathlib.Core.Logic.{_≢_, inl, inr, _↔_}
 use mathlib.Core.Path.{_≡_, refl, sym, _∙_, ap, subst}
 use lib.ListN.{getD}
 use borrow.Author.Tests.{eq-eqb, ne-eqb}
-use Rattle.directory.specs.Fields.{attrOf}
+use Rattle.fields.specs.Fields.{attrOf}
 use Rattle.directory.specs.Slots.{hasBit, NeverUsedAt, ErasedAt, LiveAt, LabelAt, PlainAt, OpenAt, standingBy, standingOf, isOpen, isPlain}
 use Rattle.directory.specs.declared.Standing.{Standing}
 use Rattle.directory.specs.declared.Standing.the-variants.{NeverUsed, Erased, Label, Plain}

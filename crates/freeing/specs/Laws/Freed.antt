@@ -8,7 +8,7 @@ use Rattle.image.specs.Bytes.{Bytes}
 use Rattle.chains.specs.Sizes.{clustersFor}
 use Rattle.diskette.specs.Places.{clusterBytes, copyTwo, lastCluster, slotAt}
 use Rattle.diskette.specs.declared.Kind.{Kind}
-use Rattle.directory.specs.Fields.{startOf, sizeOf}
+use Rattle.fields.specs.Fields.{startOf, sizeOf}
 use Rattle.links.specs.Freed.{freedFrom}
 use Rattle.links.specs.Laws.Freed.{chain-freed}
 use Rattle.calls.specs.Ready.{OnVolume}

@@ -17,7 +17,7 @@ use Rattle.diskette.specs.declared.Kind.{Kind}
 use Rattle.search.specs.Search.{Answers}
 use Rattle.search.specs.declared.Found.{Found}
 use Rattle.search.specs.declared.Found.the-variants.{At, Nothing}
-use Rattle.directory.specs.Fields.{withEntry}
+use Rattle.fields.specs.Fields.{withEntry}
 use Rattle.directory.specs.Search.{lowestOpenSlot}
 use Rattle.names.specs.Reading.{nameOf}
 use Rattle.stamps.specs.Stamps.{packed}

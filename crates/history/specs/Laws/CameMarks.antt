@@ -9,7 +9,7 @@ use lib.Dec.{eqb}
 use borrow.Author.Tests.{not-false}
 use Rattle.diskette.specs.Places.{slotAt}
 use Rattle.diskette.specs.declared.Kind.{Kind}
-use Rattle.directory.specs.Fields.{withName, withAttr}
+use Rattle.fields.specs.Fields.{withName, withAttr}
 use Rattle.names.specs.Reading.{nameOf}
 use Rattle.stamps.specs.Stamps.{packed}
 use Rattle.stamps.specs.declared.Stamp.{Stamp}

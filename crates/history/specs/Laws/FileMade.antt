@@ -17,7 +17,7 @@ use Rattle.chains.specs.Sizes.{clustersFor}
 use Rattle.chains.specs.Laws.Sizes.{clusters-zero}
 use Rattle.diskette.specs.Places.{clusterBytes, rootEntries, slotAt}
 use Rattle.diskette.specs.declared.Kind.{Kind}
-use Rattle.directory.specs.Fields.{timeOf, dateOf}
+use Rattle.fields.specs.Fields.{timeOf, dateOf}
 use Rattle.names.specs.Reading.{nameOf}
 use Rattle.stamps.specs.declared.Stamp.{Stamp}
 use Rattle.stamps.specs.declared.Packed.the-variants.{Words}

@@ -12,7 +12,7 @@ use Rattle.chains.specs.Content.{content}
 use Rattle.chains.specs.Holders as Theory
 use Rattle.diskette.specs.Places.{firstData, clusterBytes, lastCluster, rootAt, rootEntries, slotAt}
 use Rattle.diskette.specs.declared.Kind.{Kind}
-use Rattle.directory.specs.Fields.{nameOf, attrOf, sizeOf}
+use Rattle.fields.specs.Fields.{nameOf, attrOf, sizeOf}
 use Rattle.directory.specs.Slots.{standingOf, isPlain, PlainAt}
 use Rattle.directory.specs.Laws.Slots.{plain-is}
 use Rattle.opened.specs.Records.{slotOf, pointerOf}

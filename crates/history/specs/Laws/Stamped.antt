@@ -10,7 +10,7 @@ use Rattle.image.specs.Numbers.{digits}
 use Rattle.diskette.specs.Places.{slotAt}
 use Rattle.diskette.specs.declared.Kind.{Kind}
 use Rattle.directory.specs.Entries.{SameFields}
-use Rattle.directory.specs.Fields.{attrOf, timeOf, dateOf, withAttr, withTime}
+use Rattle.fields.specs.Fields.{attrOf, timeOf, dateOf, withAttr, withTime}
 use Rattle.directory.specs.Laws.Entries.{word-leaves, word-back}
 use Rattle.stamps.specs.declared.Stamp.{Stamp}
 use Rattle.stamps.specs.declared.Packed.the-variants.{Words}

@@ -14,7 +14,7 @@ use Rattle.chains.specs.Laws.Tests.{says-true}
 use Rattle.contents.specs.Laws.Chain.{chain-is}
 use Rattle.diskette.specs.Places.{firstData, clusterBytes, lastCluster, rootEntries, slotAt}
 use Rattle.diskette.specs.declared.Kind.{Kind}
-use Rattle.directory.specs.Fields.{startOf, sizeOf}
+use Rattle.fields.specs.Fields.{startOf, sizeOf}
 use Rattle.sound.specs.Files.{valueOf}
 use Rattle.sound.specs.Sound.{Sound}
 use Rattle.sound.specs.Laws.Geometry.{geometry}

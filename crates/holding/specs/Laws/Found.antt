@@ -9,7 +9,7 @@ use Rattle.diskette.specs.declared.Kind.{Kind}
 use Rattle.search.specs.Laws.Meaning.{LowestIs, lowest-is}
 use Rattle.search.specs.declared.Found.{Found}
 use Rattle.search.specs.declared.Found.the-variants.{At, Nothing}
-use Rattle.directory.specs.Fields.{nameOf}
+use Rattle.fields.specs.Fields.{nameOf}
 use Rattle.directory.specs.Slots.{standingOf, isPlain}
 use Rattle.directory.specs.Search.{sameName, namedSlot, slotNamed}
 use Rattle.directory.specs.Laws.Slots.{plain-is}

@@ -7,7 +7,7 @@ use mathlib.Core.Path.{_≡_, refl, sym, ap, _∙_}
 use lib.Dec.{eqb, ltb}
 use lib.IntN.{ℤ}
 use lib.ListN.{length, take}
-use Rattle.directory.specs.Fields.{sizeOf}
+use Rattle.fields.specs.Fields.{sizeOf}
 use Rattle.stamps.specs.declared.Stamp.{Stamp}
 use Rattle.opened.specs.Records.{placeCount, usedOf, slotOf, accessOf, pointerOf, writtenOf, withPointer, withWritten}
 use Rattle.opened.specs.Changes.{Holds}

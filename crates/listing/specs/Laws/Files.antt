@@ -7,7 +7,7 @@ use mathlib.Core.Path.{_≡_, sym, _∙_, ap}
 use lib.ListN.{length, length-append}
 use Rattle.image.specs.Store.{stored}
 use Rattle.image.specs.Laws.Store.{stored-append}
-use Rattle.directory.specs.Fields.{nameOf, attrOf, timeOf, dateOf, startOf, sizeOf}
+use Rattle.fields.specs.Fields.{nameOf, attrOf, timeOf, dateOf, startOf, sizeOf}
 use Rattle.directory.specs.Slots.{standingOf, isPlain}
 use Rattle.directory.specs.Search.{slotFrom}
 use Rattle.text.specs.Puts.{PutsIn}

@@ -20,7 +20,7 @@ use Rattle.chains.specs.Laws.Growth.{extended-chain}
 use Rattle.chains.specs.Laws.Sizes.{clusters-hold, clusters-least, clusters-grow}
 use Rattle.diskette.specs.Places.{firstData, clusterBytes, copyTwo, lastCluster, slotAt}
 use Rattle.diskette.specs.declared.Kind.{Kind}
-use Rattle.directory.specs.Fields.{startOf, sizeOf, withStart}
+use Rattle.fields.specs.Fields.{startOf, sizeOf, withStart}
 use Rattle.table.specs.Entries.{wordAt, tableOf}
 use Rattle.table.specs.Laws.View.{table-beside}
 use Rattle.links.specs.Linked.{endOf, linked, newClusters}

@@ -16,7 +16,7 @@ use Rattle.chains.specs.Sizes.{clustersFor}
 use Rattle.chains.specs.Steps.{followed}
 use Rattle.diskette.specs.Places.{clusterBytes, copyTwo, lastCluster, slotAt}
 use Rattle.diskette.specs.declared.Kind.{Kind}
-use Rattle.directory.specs.Fields.{startOf, sizeOf, withStart, withSize}
+use Rattle.fields.specs.Fields.{startOf, sizeOf, withStart, withSize}
 use Rattle.table.specs.Entries.{wordAt, tableOf}
 use Rattle.links.specs.Linked.{endOf, newClusters, linkedFrom, Added}
 use Rattle.links.specs.Leaves.{Holds}

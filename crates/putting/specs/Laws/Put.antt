@@ -7,7 +7,7 @@ use lib.ListN.{length, take, drop, replicate}
 use Rattle.chains.specs.Write.{poured, writtenImage}
 use Rattle.diskette.specs.Places.{firstData, clusterBytes, lastCluster, slotAt}
 use Rattle.diskette.specs.declared.Kind.{Kind}
-use Rattle.directory.specs.Fields.{sizeOf}
+use Rattle.fields.specs.Fields.{sizeOf}
 use Rattle.contents.specs.Contents.{chainFrom, Area, bytesPut, zerosPut}
 use Rattle.contents.specs.Laws.Kept.{area-poured, poured-chains, written-put}
 use Rattle.putting.specs.Longer.{CanGrow, Lengthens}

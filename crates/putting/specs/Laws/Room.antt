@@ -18,7 +18,7 @@ use Rattle.chains.specs.Laws.Sums.{pigeon}
 use Rattle.chains.specs.Laws.Values.{free-no-use}
 use Rattle.diskette.specs.Places.{clusters, clusterBytes, lastCluster, slotAt}
 use Rattle.diskette.specs.declared.Kind.{Kind}
-use Rattle.directory.specs.Fields.{sizeOf}
+use Rattle.fields.specs.Fields.{sizeOf}
 use Rattle.sound.specs.Counts.{freeOf}
 use Rattle.sound.specs.Files.{valueOf}
 use Rattle.sound.specs.Laws.Geometry.{geometry}

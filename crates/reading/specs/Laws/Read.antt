@@ -18,7 +18,7 @@ use Rattle.diskette.specs.Places.{firstData, clusterBytes, lastCluster, rootAt,
 use Rattle.diskette.specs.declared.Kind.{Kind}
 use Rattle.search.specs.declared.Found.{Found}
 use Rattle.search.specs.declared.Found.the-variants.{At, Nothing}
-use Rattle.directory.specs.Fields.{startOf, sizeOf}
+use Rattle.fields.specs.Fields.{startOf, sizeOf}
 use Rattle.opened.specs.Records.{accessOf, pointerOf, withPointer}
 use Rattle.opened.specs.Places.{liveSlot}
 use Rattle.calls.specs.Outcome.{Outcome, refusal, decided, refusedBy, answering}

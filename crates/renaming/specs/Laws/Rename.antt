@@ -7,7 +7,7 @@ use Rattle.diskette.specs.Places.{rootAt, rootEntries, slotAt}
 use Rattle.diskette.specs.declared.Kind.{Kind}
 use Rattle.search.specs.declared.Found.{Found}
 use Rattle.search.specs.declared.Found.the-variants.{At, Nothing}
-use Rattle.directory.specs.Fields.{withName}
+use Rattle.fields.specs.Fields.{withName}
 use Rattle.directory.specs.Search.{slotNamed}
 use Rattle.names.specs.Reading.{nameOf}
 use Rattle.names.specs.declared.Spelled.{Spelled}

@@ -9,7 +9,7 @@ use Rattle.image.specs.Store.{stored}
 use Rattle.image.specs.Numbers.{digits}
 use Rattle.image.specs.Laws.Numbers.{length-digits}
 use Rattle.image.specs.Laws.Store.{stored-append}
-use Rattle.directory.specs.Fields.{tailBytes}
+use Rattle.fields.specs.Fields.{tailBytes}
 use Rattle.scale.specs.Out.{words, fields, put}
 
 beside : (l m k : List ℕ) (a b : ℕ) (s t : List ℕ) → m ≡ stored l a s → k ≡ stored m b t → b ≡ a + length s → k ≡ stored l a (s ++ t)

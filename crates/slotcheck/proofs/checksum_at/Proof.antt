@@ -2,7 +2,7 @@
 use borrow.Author.Needs.{needs}
 use mathlib.Core.Path.{_≡_}
 use Prim.Native.Nat.{_-_, _≤_}
-use Rattle.directory.specs.Fields.{nameOf}
+use Rattle.fields.specs.Fields.{nameOf}
 use Rattle.slotcheck.specs.Checksums.{checksumFrom, checksum}
 use Rattle.slotcheck.specs.Laws.Checksums.{checksum-begin, checksum-more, checksum-end}
 use Rattle.slotcheck.proofs.checksum_at.Statement.{statement}

@@ -11,7 +11,7 @@ use lib.Seq.{getD-set-same, getD-set-other}
 use Rattle.image.specs.Laws.Store.{length-part, part-at}
 use Rattle.chains.specs.Tests.{aye, nay}
 use Rattle.chains.specs.Laws.Tests.{clash, not-true, not-false}
-use Rattle.directory.specs.Fields.{nameOf}
+use Rattle.fields.specs.Fields.{nameOf}
 use Rattle.directory.specs.Slots.{PlainAt, standingOf, isPlain}
 use Rattle.directory.specs.Search.{slotFrom, slotNamed}
 use Rattle.directory.specs.Laws.Slots.{plain-is}

@@ -11,7 +11,7 @@ use borrow.Author.Tests.{eq-eqb, ne-eqb}
 use Rattle.chains.specs.Tests.{Says, aye, nay}
 use Rattle.chains.specs.Verdict.{first}
 use Rattle.chains.specs.Laws.SearchTurns.{first-hit, first-miss}
-use Rattle.directory.specs.Fields.{nameOf, attrOf}
+use Rattle.fields.specs.Fields.{nameOf, attrOf}
 use Rattle.directory.specs.Slots.{hasBit, standingOf, isPlain}
 use Rattle.directory.specs.Search.{slotFrom, slotNamed}
 use Rattle.directory.specs.declared.Standing.{Standing}

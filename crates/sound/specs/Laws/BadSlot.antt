@@ -15,7 +15,7 @@ use Rattle.chains.specs.Laws.Tests.{says-eq, says-and, says-or, says-not, says-
 use Rattle.chains.specs.Laws.Verdict.{first-found}
 use Rattle.diskette.specs.Places.{firstData, rootEntries, rootAt, slotAt}
 use Rattle.diskette.specs.declared.Kind.{Kind}
-use Rattle.directory.specs.Fields.{nameOf, attrOf}
+use Rattle.fields.specs.Fields.{nameOf, attrOf}
 use Rattle.directory.specs.Slots.{hasBit, NeverUsedAt, LiveAt, LabelAt, PlainAt, standingOf, isOpen, isPlain}
 use Rattle.directory.specs.Search.{slotFrom, slotNamed}
 use Rattle.directory.specs.Laws.Slots.{standing-label, live-is, plain-is}

@@ -14,7 +14,7 @@ use Rattle.chains.specs.Laws.Tests.{by-test, clash}
 use Rattle.diskette.specs.Kinds.{Usable}
 use Rattle.diskette.specs.Places.{clusterBytes, lastCluster, rootEntries, rootAt, slotAt}
 use Rattle.diskette.specs.declared.Kind.{Kind}
-use Rattle.directory.specs.Fields.{startOf, sizeOf}
+use Rattle.fields.specs.Fields.{startOf, sizeOf}
 use Rattle.directory.specs.Search.{slotFrom}
 use Rattle.directory.specs.Slots.{PlainAt, standingOf, isPlain}
 use Rattle.directory.specs.Laws.Slots.{plain-is}

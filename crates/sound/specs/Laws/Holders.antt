@@ -11,7 +11,7 @@ use Rattle.chains.specs.Laws.Rows.{row-holder, holder-row, rows-once}
 use Rattle.diskette.specs.Places.{clusterBytes, rootEntries, rootAt, slotAt}
 use Rattle.diskette.specs.declared.Kind.{Kind}
 use Rattle.directory.specs.Entries.{SameFields}
-use Rattle.directory.specs.Fields.{startOf, sizeOf}
+use Rattle.fields.specs.Fields.{startOf, sizeOf}
 use Rattle.directory.specs.Search.{slotFrom}
 use Rattle.directory.specs.Slots.{PlainAt, standingOf}
 use Rattle.directory.specs.Laws.Slots.{standing-plain}

@@ -10,7 +10,7 @@ use Rattle.chains.specs.Laws.Holders.{owns-same}
 use Rattle.diskette.specs.Kinds.{Usable}
 use Rattle.diskette.specs.Places.{clusterBytes, lastCluster, slotAt}
 use Rattle.diskette.specs.declared.Kind.{Kind}
-use Rattle.directory.specs.Fields.{startOf, sizeOf}
+use Rattle.fields.specs.Fields.{startOf, sizeOf}
 use Rattle.sound.specs.Files.{valueOf, ChainOf}
 use Rattle.sound.specs.Findings.{InChain}
 use Rattle.sound.specs.FromFinding.{NoFinding}

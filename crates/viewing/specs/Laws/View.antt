@@ -13,7 +13,7 @@ use Rattle.diskette.specs.Places.{firstData, clusterBytes, lastCluster, rootAt,
 use Rattle.diskette.specs.declared.Kind.{Kind}
 use Rattle.search.specs.declared.Found.{Found}
 use Rattle.search.specs.declared.Found.the-variants.{At, Nothing}
-use Rattle.directory.specs.Fields.{startOf, sizeOf}
+use Rattle.fields.specs.Fields.{startOf, sizeOf}
 use Rattle.calls.specs.Outcome.{Outcome, refusal, decided}
 use Rattle.calls.specs.Ready.{readyOf, OnVolume}
 use Rattle.calls.specs.Laws.Ready.{on-kind, known-passed, sound-passed, ready-refused}

@@ -1,8 +1,8 @@
 -- One byte set is a run of one byte stored.
 use Rattle.image.specs.Store.{stored}
 use borrow.Author.Needs.{needs}
-use Rattle.directory.proofs.put_attr.Statement.{statement}
-use Rattle.directory.proofs.put_attr.Tie as tie
+use Rattle.fields.proofs.put_attr.Statement.{statement}
+use Rattle.fields.proofs.put_attr.Tie as tie
 
 add-img : tie.Need-add-img
 add-img c = search needs

@@ -9,7 +9,7 @@ use Rattle.image.specs.Store.{stored, part}
 use Rattle.image.specs.Numbers.{digits}
 use Rattle.image.specs.Laws.Store.{bytes-one, bytes-append, bytes-zeros, stored-whole, and-then, length-part}
 use Rattle.image.specs.Laws.Numbers.{length-digits, bytes-digits}
-use Rattle.directory.specs.Fields.{nameOf, reservedOf, headBytes, tailBytes, entryBytes}
+use Rattle.fields.specs.Fields.{nameOf, reservedOf, headBytes, tailBytes, entryBytes}
 
 pub length-head : (name : List ℕ) (attr : ℕ) → length name ≡ 11 → length (headBytes name attr) ≡ 22
 unfolding headBytes

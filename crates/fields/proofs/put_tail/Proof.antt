@@ -1,8 +1,8 @@
 -- Time, date, start and size side by side are the last ten bytes.
-use Rattle.directory.specs.Laws.Fields.{tail-stored}
+use Rattle.fields.specs.Laws.Fields.{tail-stored}
 use borrow.Author.Needs.{needs}
-use Rattle.directory.proofs.put_tail.Statement.{statement}
-use Rattle.directory.proofs.put_tail.Tie as tie
+use Rattle.fields.proofs.put_tail.Statement.{statement}
+use Rattle.fields.proofs.put_tail.Tie as tie
 
 put-time-requires : tie.Need-put-time-requires
 put-time-requires c κs = search needs

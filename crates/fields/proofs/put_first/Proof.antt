@@ -1,8 +1,8 @@
 -- One byte set is a run of one byte stored.
 use Rattle.image.specs.Store.{stored}
 use borrow.Author.Needs.{needs}
-use Rattle.directory.proofs.put_first.Statement.{statement}
-use Rattle.directory.proofs.put_first.Tie as tie
+use Rattle.fields.proofs.put_first.Statement.{statement}
+use Rattle.fields.proofs.put_first.Tie as tie
 
 slice-write-img : tie.Need-slice-write-img
 slice-write-img c = search needs

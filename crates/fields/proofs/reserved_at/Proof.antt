@@ -1,8 +1,11 @@
--- The copy of the eleven bytes takes the place of every byte of the array.
-use Rattle.directory.specs.Laws.Fields.{name-copied}
+-- The copy of the ten bytes takes the place of every byte of the array.
+use Rattle.fields.specs.Laws.Fields.{reserved-copied}
 use borrow.Author.Needs.{needs}
-use Rattle.directory.proofs.name_at.Statement.{statement}
-use Rattle.directory.proofs.name_at.Tie as tie
+use Rattle.fields.proofs.reserved_at.Statement.{statement}
+use Rattle.fields.proofs.reserved_at.Tie as tie
+
+add-from : tie.Need-add-from
+add-from c = search needs
 
 slice-aggregate-copy-in : tie.Need-slice-aggregate-copy-in
 slice-aggregate-copy-in c = search needs
@@ -23,12 +26,13 @@ copy-in-requires : tie.Need-copy-in-requires
 copy-in-requires c κs = search needs
 
 returns : tie.Need-returns
-returns c = search name-copied
+returns c = search reserved-copied
 
-pub name-at-spec : {M : Type 1} → statement M
-name-at-spec =
+pub reserved-at-spec : {M : Type 1} → statement M
+reserved-at-spec =
     tie.close
     (tie.spec
+    add-from
     slice-aggregate-copy-in
     add-copy-in
     sub-copy-in

@@ -1,8 +1,8 @@
 -- Bytes 0-21 and bytes 22-31 side by side are the whole entry.
-use Rattle.directory.specs.Laws.Fields.{entry-stored}
+use Rattle.fields.specs.Laws.Fields.{entry-stored}
 use borrow.Author.Needs.{needs}
-use Rattle.directory.proofs.write_entry.Statement.{statement}
-use Rattle.directory.proofs.write_entry.Tie as tie
+use Rattle.fields.proofs.write_entry.Statement.{statement}
+use Rattle.fields.proofs.write_entry.Tie as tie
 
 put-head-requires : tie.Need-put-head-requires
 put-head-requires c κs = search needs

@@ -1,8 +1,8 @@
 -- Name, attribute and zeros side by side are the first 22 bytes.
-use Rattle.directory.specs.Laws.Fields.{head-stored}
+use Rattle.fields.specs.Laws.Fields.{head-stored}
 use borrow.Author.Needs.{needs}
-use Rattle.directory.proofs.put_head.Statement.{statement}
-use Rattle.directory.proofs.put_head.Tie as tie
+use Rattle.fields.proofs.put_head.Statement.{statement}
+use Rattle.fields.proofs.put_head.Tie as tie
 
 put-name-requires : tie.Need-put-name-requires
 put-name-requires c κs = search needs

@@ -1,0 +1,2 @@
+-- The laws of the definitions beside this folder.
+pub mod Fields
