@@ -28,13 +28,16 @@ static int is_good(enum task task, int n)
 
 int main(void)
 {
-    int task, n, bad = 0;
+    int task, n, passed = 0, failed = 0;
     for (task = 0; task < TASKS; task++)
         for (n = 0; n < NUMBERS; n++)
-            if (!is_good((enum task)task, n)) {
+            if (is_good((enum task)task, n)) {
+                passed++;
+            } else {
                 printf("task %d, number %u: %s\n", task, (unsigned)numbers[n],
                        refusal_sentence((enum task)task, numbers[n]));
-                bad = 1;
+                failed++;
             }
-    return bad;
+    printf("%d passed, %d failed\n", passed, failed);
+    return failed == 0 ? 0 : 1;
 }
