@@ -1,0 +1,2 @@
+#!/bin/sh
+# A stub: there is nothing to prepare.
