@@ -32,6 +32,8 @@ def main():
         return 1
     for what in found.tally.wrong:
         print(what)
+    lines = sum(thing.lines for thing in found.reached)
+    print(f"to be read: {len(found.reached)} definitions and types, {lines} lines, in {len(found.to_read)} files")
     print(f"{found.tally.passed} passed, {len(found.tally.wrong)} failed")
     return 1 if found.tally.wrong else 0
 

@@ -7,18 +7,18 @@ from words import Names, NotRead, cut, nested, without_comments
 
 MARKS = {"pub", "abbrev", "unfoldable"}
 # Lines that declare nothing to be read.
-OTHER = {"infix", "infixl", "infixr", "unfolding", "ruleset", "open"}
+OTHER = {"mod", "infix", "infixl", "infixr", "unfolding", "ruleset", "open"}
 
 
 class Item:
     """A definition, a record or a data type; in specs/Laws also a theorem."""
 
-    def __init__(self, name, kind, public, sections, statement):
+    def __init__(self, name, kind, sections, statement):
         self.name = name
         self.kind = kind
-        self.public = public
         self.sections = sections  # the parameters of the modules that it stands in
-        self.statement = statement  # its type; of a record or data type the parameters
+        self.parameters = ""  # of a record or a data type
+        self.statement = statement  # its type
         self.clauses = []
         self.members = []  # fields or constructors: (name, type)
         self.lines = 0
@@ -86,28 +86,28 @@ def blocks(lines, sections):
 def add(module, sections, block, last):
     """Adds a block to the module: an import, a declaration, or a clause of the last one, which is given back."""
     text = "\n".join(block).strip()
-    first = text.split()[0]
+    first = next(word for word in text.split() if word not in MARKS)
     if first in OTHER:
         return last
-    if re.match(r"(pub )?(use|mod)\s", text):
+    if first == "use":
         add_import(module, text)
         return last
     item = declared(sections, text)
     if item is None:
-        if last is None:
-            raise NotRead("a clause of nothing")
+        if last is None or not set(last.name.strip("_").split("_")) & set(text.split()):
+            raise NotRead("neither a declaration nor a clause of the one above")
         last.clauses.append(text)
         last.lines += len(block)
         return last
+    if item.name in module.items:
+        raise NotRead(f"'{item.name}' is declared twice")
     item.lines = len(block)
     module.items[item.name] = item
     return item
 
 
 def add_import(module, text):
-    found = re.match(r"(?:pub )?use (\S+?)(?:\.\{(.*)\}| as (\S+))?\s*$", text, re.DOTALL)
-    if not found:
-        return
+    found = re.fullmatch(r"(?:unfoldable )?(?:pub )?use (\S+?)(?:\.\{(.*)\}| as (\S+))?", text, re.DOTALL)
     path, names, alias = found.groups()
     if names is None:
         module.modules[alias or path.split(".")[-1]] = path
@@ -119,19 +119,18 @@ def add_import(module, text):
 
 def declared(sections, text):
     """The declaration that a block is; none where it is a clause."""
-    marks = []
     while (word := text.split(None, 1))[0] in MARKS:
-        marks.append(word[0])
         text = word[1]
     kind = word[0] if word[0] in {"record", "data"} else "definition"
     if kind != "definition":
-        head, body = re.fullmatch(r"\S+\s+(.*?)\s:\s[^:]*?\bwhere\b(.*)", text, re.DOTALL).groups()
+        head, of, body = re.fullmatch(r"\S+\s+(.*?)\s:\s([^:]*?)\bwhere\b(.*)", text, re.DOTALL).groups()
         name, _, parameters = head.partition(" ")
-        item = Item(name, kind, "pub" in marks, sections, parameters)
+        item = Item(name, kind, sections, of)
+        item.parameters = parameters
         item.members = list(members(body))
         return item
     found = re.match(r"(\S+)(?:\s+\{[^}:=]*\})?\s+:\s(.*)", text, re.DOTALL)
-    return Item(found[1], kind, "pub" in marks, sections, found[2]) if found else None
+    return Item(found[1], kind, sections, found[2]) if found else None
 
 
 def members(body):
@@ -147,12 +146,9 @@ def names_of(item, constructs, statement_only=False):
     """The names that a declaration uses from outside. Of a theorem the statement alone is read."""
     names = Names(constructs)
     bound = frozenset()
-    for parameters in item.sections:
+    for parameters in (*item.sections, item.parameters):
         bound = names.bind_all(nested(parameters), bound)
-    if item.kind == "definition":
-        names.read(nested(item.statement), bound)
-    else:
-        bound = names.bind_all(nested(item.statement), bound)
+    names.read(nested(item.statement), bound)
     for name, kind in item.members:
         names.read(nested(kind), bound)
         if item.kind == "record":

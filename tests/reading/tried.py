@@ -6,7 +6,7 @@ import re
 import page
 from papers import quoted
 from reach import Definitions, is_aside
-from reading import HEADER, READING, UNIQUENESS, Reading
+from reading import ENUMS, HEADER, READING, UNIQUENESS, Reading
 from roots import TESTS
 from tree import Tree
 
@@ -151,11 +151,13 @@ def edits(found):
     yield "a row removed", READING, without(paper, row.line), "must be read, and no row"
     name = quoted(row.cells["Name"])[0]
     yield "a name misspelt", READING, with_line(paper, row, f"`{name}`", f"`{name}-`"), f"'{name}-' is not declared in"
+    yield "a name from nowhere", READING, "\n".join([*paper.lines, "`needless`"]), "'needless' is no file here"
     test = paper.table(TESTS)[0]
     name = quoted(test.cells[TESTS])[0]
     yield "another test in a row", READING, with_line(paper, test, f"| `{name}`", "| `World`"), "speaks of 'World'"
     unread = next(row for row in paper.table(TESTS) if "body not read" in row.cells[TESTS])
     yield "a body read after all", READING, with_line(paper, unread, "body not read", "body read"), "must be read"
+    yield "an enum left out", READING, without(paper, paper.table(ENUMS)[0].line), "is an enum that"
     steps = paper.table(*page.HEADS)
     yield "an old number", READING, with_line(paper, steps[0], f"| {steps[0].cells['Lines']} |", "| 0 |"), "today"
     file = quoted(steps[0].cells["Open"])[0]

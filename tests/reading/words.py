@@ -81,8 +81,10 @@ class Names:
             at += 1
             if word == "λ":
                 binders, rest = cut(words[at:], ".")
+                if rest is None:
+                    raise NotRead("'λ' without its dot")
                 bound = self.bind_all(binders, bound)
-                at = len(words) - len(rest or [])
+                at = len(words) - len(rest)
             elif word == "let":
                 at, bound = self.read_let(words, at, bound)
             elif word == "record" and at < len(words) and is_list(words[at], "{"):
@@ -133,6 +135,8 @@ class Names:
         if words[0] == "[":
             for case in parts(inside, {"|"}):
                 pattern, body = cut(case, "↦")
+                if case and body is None:
+                    raise NotRead("square brackets without cases")
                 self.read(body or [], bound | self.variables(pattern))
             return bound
         names, kind = cut(inside, ":")
