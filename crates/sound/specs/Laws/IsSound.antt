@@ -61,6 +61,10 @@ module _ (l : List ℕ) where
       same : (x : Kind) → OfKind l x → x ≡ k
       same x o = let q : Known x ≡ Known k = sym (image-of-kind l x .1 o) ∙ e in cc
 
+  -- Sound means that none of the seven holds. (The first is that the image is of no kind.)
+  pub sound-means : (k : Kind) → OfKind l k → Sound k l ↔ NoFinding k l
+  sound-means k o = sound-exactly k (image-usable l k (image-of-kind l k .1 o)) l
+
   pub is-sound : (isSound l ≡ true) ↔ ((k : Kind) × OfKind l k × Sound k l)
   is-sound = (says-true says-sound, true-says says-sound)
 
