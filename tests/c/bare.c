@@ -89,8 +89,8 @@ static void look(void)
     expect(is_text(bm_sentence(0), "The call ended well."), "a sentence");
 }
 
-/* The machine begins at _start, with the stack on a multiple of 16 bytes. */
-__asm__(".globl _start\n_start: call main\n movl %eax, %edi\n movl $231, %eax\n syscall");
+/* The machine begins at _start; main wants the stack on a multiple of 16 bytes. */
+__asm__(".globl _start\n_start: andq $-16, %rsp\n call main\n movl %eax, %edi\n movl $231, %eax\n syscall");
 
 int main(void);
 
