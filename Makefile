@@ -5,7 +5,9 @@
 # make bench       the archive's speed against the independent implementation's
 # make balladmoor  the command for members and the service bench: target/c/balladmoor, for x86-64
 # make example     the scale's program in small: target/c/scale
-# make install     puts command, header and archive in place, under PREFIX=/usr/local
+# make install     puts command, manual page, headers and archive in place, under PREFIX=/usr/local
+# make uninstall   removes them again
+# make dist        the same and the listing program, for people without the kit: target/dist/*.tar.gz
 # make clean       removes what was made
 
 all:
@@ -46,13 +48,46 @@ example: archive
 	$(COMPILE) examples/scale.c $(SHARED) $(ARCHIVE) -o $(OUT)/scale
 
 PREFIX = /usr/local
+INTO = $(DESTDIR)$(PREFIX)
+VERSION = $(shell cat VERSION)
+
+# What install puts in place, and uninstall removes.
+INSTALLED = bin/balladmoor include/balladmoor.h include/balladmoor_help.h lib/libscale.a lib/pkgconfig/balladmoor.pc \
+	share/bash-completion/completions/balladmoor share/doc/balladmoor/INTERFACE.md share/doc/balladmoor/README.md \
+	share/man/man1/balladmoor.1
+
+# Where the pkg-config file says that all this is.
+PC_PREFIX = $(PREFIX)
 
 install: balladmoor
-	install -D -m 755 $(OUT)/balladmoor $(DESTDIR)$(PREFIX)/bin/balladmoor
-	install -D -m 644 include/balladmoor.h $(DESTDIR)$(PREFIX)/include/balladmoor.h
-	install -D -m 644 $(ARCHIVE) $(DESTDIR)$(PREFIX)/lib/libscale.a
+	install -D -m 755 -t $(INTO)/bin $(OUT)/balladmoor
+	install -D -m 644 -t $(INTO)/include include/balladmoor.h include/balladmoor_help.h
+	install -D -m 644 -t $(INTO)/lib $(ARCHIVE)
+	install -D -m 644 -t $(INTO)/share/bash-completion/completions completion/balladmoor
+	install -D -m 644 -t $(INTO)/share/doc/balladmoor docs/INTERFACE.md README.md
+	install -D -m 644 -t $(INTO)/share/man/man1 balladmoor.1
+	install -D -m 644 balladmoor.pc.in $(INTO)/lib/pkgconfig/balladmoor.pc
+	sed -i 's|@PREFIX@|$(PC_PREFIX)|; s|@VERSION@|$(VERSION)|' $(INTO)/lib/pkgconfig/balladmoor.pc
+	@tests/x86.sh --native || echo "Installed for x86-64. On this machine: tests/x86.sh $(INTO)/bin/balladmoor"
+
+uninstall:
+	rm -f $(addprefix $(INTO)/,$(INSTALLED))
+	[ ! -d $(INTO)/share/doc/balladmoor ] || rmdir --ignore-fail-on-non-empty $(INTO)/share/doc/balladmoor
+
+# The same sources and tools give the same bytes: no time, user, permission or order is this machine's.
+DIST = target/dist
+RELEASE = balladmoor-$(VERSION)-x86_64-linux
+EPOCH = $${SOURCE_DATE_EPOCH:-$$(git log -1 --format=%ct || stat -c %Y VERSION)}
+
+dist:
+	rm -rf $(DIST)/$(RELEASE)
+	$(MAKE) install DESTDIR=$(abspath $(DIST))/ PREFIX=$(RELEASE) PC_PREFIX='$$$${pcfiledir}/../..'
+	tests/product.sh listing
+	install -m 755 -t $(DIST)/$(RELEASE)/bin target/bin/listing
+	tar -C $(DIST) --sort=name --mtime=@$(EPOCH) --owner=0 --group=0 --numeric-owner --mode=u+w,go=rX -I 'gzip -9n' \
+		-cf $(DIST)/$(RELEASE).tar.gz $(RELEASE)
 
 clean:
 	rm -rf target tests/compare/target
 
-.PHONY: all test compare bench archive member balladmoor example install clean
+.PHONY: all test compare bench archive member balladmoor example install uninstall dist clean

@@ -6,31 +6,36 @@
  * in TARE.KEY, a read-only file: without it the program refuses to weigh, and never takes a fresh one. The day's file
  * is named by year, month and day, as 19830901.LOG. Each weighing is a line of it: the time and the grams.
  *
- * Weighings are shown when they are stored, and stored all or none. Exit status: 0 stored, 1 not stored, 2 wrong usage.
+ * Weighings are stored all or none, and then shown. Where one of them is the last line of the day's file already, none
+ * is stored: who is not certain of a weighing may give it again. Exit status: 0 stored, 1 not stored and nothing
+ * changed, 2 used wrongly, 3 stored but not certain (not shown, or a cut of power may still undo it).
  */
-#include "balladmoor.h"
+#define _POSIX_C_SOURCE 200809L
+
+#include "balladmoor_help.h"
 
 #include "imagefile.h"
-#include "refusal.h"
 #include "say.h"
-#include "stamp.h"
 #include "wholefile.h"
 
 #include <ctype.h>
+#include <signal.h>
 #include <stdio.h>
 #include <stdlib.h>
 #include <string.h>
 
 const char *const program_name = "scale";
 
-enum { STORED = 0, NOT_STORED = 1, WRONG_USAGE = 2, DIGITS_MOST = 7, WEIGHINGS_MOST = 1000, LINE_MOST = 32 };
+enum status { STORED = 0, NOT_STORED = 1, WRONG_USAGE = 2, NOT_CERTAIN = 3 };
+
+enum { DIGITS_MOST = 7, WEIGHINGS_MOST = 1000, LINE_MOST = 32 };
 
 static const char tare_name[] = "TARE.KEY";
 
 struct day {
     char file[13]; /* 19830901.LOG */
     const char *time;
-    struct stamp stamp;
+    struct bm_stamp stamp;
 };
 
 struct weighings {
@@ -58,18 +63,17 @@ static bool looks_like(const char *pattern, const char *text)
     return *text == '\0';
 }
 
+static uint32_t number_at(const char *text)
+{
+    return (uint32_t)atoi(text);
+}
+
 static bool take_day(const char *date, const char *time, struct day *day)
 {
-    struct tm parts = {0};
     if (!looks_like("0000-00-00", date) || !looks_like("00:00:00", time))
         return false;
-    parts.tm_year = atoi(date) - 1900;
-    parts.tm_mon = atoi(date + 5) - 1;
-    parts.tm_mday = atoi(date + 8);
-    parts.tm_hour = atoi(time);
-    parts.tm_min = atoi(time + 3);
-    parts.tm_sec = atoi(time + 6);
-    day->stamp = stamp_of(&parts); /* The calls refuse numbers that are out of range. */
+    day->stamp = bm_stamp_of(number_at(date), number_at(date + 5), number_at(date + 8), number_at(time),
+                             number_at(time + 3), number_at(time + 6));
     day->time = time;
     snprintf(day->file, sizeof day->file, "%.4s%.2s%.2s.LOG", date, date + 5, date + 8);
     return true;
@@ -92,6 +96,7 @@ static bool take_weighings(char **words, struct weighings *weighings)
     if (*words == NULL)
         while (good && fgets(line, sizeof line, stdin) != NULL)
             good = add_weighing(weighings, line);
+    good = good && !ferror(stdin);
     for (; good && *words != NULL; words++)
         good = add_weighing(weighings, *words);
     return good && weighings->count > 0;
@@ -102,6 +107,17 @@ static bool take_weighings(char **words, struct weighings *weighings)
 #define IMAGE image->at, image->length
 #define TABLE table, sizeof table
 #define NAME(name) (const uint8_t *)(name), strlen(name)
+
+/* Says that a call on a file of the image was refused; on a volume that is not sound, with what check finds there. */
+static void say_refused(const char *path, const char *name, uint32_t number, const struct bytes *image)
+{
+    if (number == BM_NOT_SOUND) {
+        uint64_t checked = bm_check(IMAGE, NULL, 0);
+        say("%s: %s (refusal 41; finding %u at %u)", path, bm_sentence(number), (unsigned)BM_NUMBER(checked),
+            (unsigned)BM_VALUE(checked));
+    } else
+        say("%s: %s (refusal %u)", number == BM_NOT_OF_A_KIND ? path : name, bm_sentence(number), (unsigned)number);
+}
 
 /* Finds the tare, in grams, or says why there is none: -1. It counts only if it is read-only, for then no call that
  * this program makes can change it (docs/TARE.md). */
@@ -118,7 +134,7 @@ static long find_tare(const char *path, const struct bytes *image)
             "(refusal 2)",
             tare_name);
     else if (number != 0)
-        say_refusal(READING, path, tare_name, number, image);
+        say_refused(path, tare_name, number, image);
     else if ((BM_VALUE(answer) & BM_READ_ONLY) == 0) {
         say("%s: The tare is not read-only, so it may have been changed. Have it checked, and set its mode to 01.",
             tare_name);
@@ -128,35 +144,82 @@ static long find_tare(const char *path, const struct bytes *image)
     return tare;
 }
 
-/* Opens the day's file with the pointer at its end; the first weighing of a day makes it. *task is which of the two. */
-static uint64_t open_day(struct bytes *image, uint8_t *table, size_t table_length, const struct day *day,
-                         enum task *task)
+/* A weighing as a line of the day's file; at has room for LINE_MOST bytes. Answers the line's length. */
+static size_t put_line(uint8_t *at, const struct day *day, long grams)
+{
+    return (size_t)sprintf((char *)at, "%.8s %ld\n", day->time, grams);
+}
+
+static bool is_last_line(const struct bytes *log, const uint8_t *line, size_t length)
+{
+    size_t before;
+    if (log->length < length)
+        return false;
+    before = log->length - length;
+    return memcmp(log->at + before, line, length) == 0 && (before == 0 || log->at[before - 1] == '\n');
+}
+
+/* Whether one of the weighings is the last line of the day's file already, and says so. A file that can't be read has no
+ * lines: what is wrong with it is said when it is opened to be written. */
+static bool is_stored(const struct bytes *image, const struct day *day, const struct weighings *weighings)
+{
+    struct bytes log;
+    uint8_t line[LINE_MOST];
+    size_t n, length = 0;
+    bool stored = false;
+    fetch_file(image, day->file, &log);
+    for (n = 0; !stored && n < weighings->count; n++) {
+        length = put_line(line, day, weighings->grams[n]);
+        stored = is_last_line(&log, line, length);
+    }
+    free(log.at);
+    if (stored)
+        say("%s: Its last line is %.*s already, so nothing was stored. If that is another weighing, give this one the "
+            "next second.",
+            day->file, (int)length - 1, (char *)line);
+    return stored;
+}
+
+/* Opens the day's file with the pointer at its end; the first weighing of a day makes it. */
+static uint64_t open_day(struct bytes *image, uint8_t *table, size_t table_length, const struct day *day, bool *is_new)
 {
     uint64_t answer = bm_open(IMAGE, table, table_length, NAME(day->file), BM_READ_AND_WRITE);
     uint32_t handle = BM_VALUE(answer);
-    *task = BM_NUMBER(answer) == BM_FILE_NOT_FOUND ? MAKING : CHANGING;
-    if (*task == MAKING)
-        return bm_create(IMAGE, table, table_length, NAME(day->file), 0, STAMP(&day->stamp));
+    *is_new = BM_NUMBER(answer) == BM_FILE_NOT_FOUND;
+    if (*is_new)
+        return bm_create(IMAGE, table, table_length, NAME(day->file), 0, BM_STAMP(day->stamp));
     if (BM_NUMBER(answer) == 0)
         answer = bm_seek(IMAGE, table, table_length, handle, BM_FROM_END, 0);
     return BM_NUMBER(answer) == 0 ? handle : answer;
+}
+
+/* Number 5 has one meaning for a file that is made, and one for a file that is there. */
+static void say_denied(const struct day *day, bool is_new)
+{
+    if (is_new)
+        say("%s: The directory has no room for another name. Delete old days, or take another disk. (refusal 5)",
+            day->file);
+    else
+        say("%s: The file is read-only. If it may be changed, set its mode to 20 first. (refusal 5)", day->file);
 }
 
 /* Appends the lines to the day's file. A write that has not room for all is no refusal: its count says so. */
 static bool append(const char *path, struct bytes *image, const struct day *day, const struct bytes *lines)
 {
     uint8_t table[BM_TABLE_SIZE(1)] = {0};
-    enum task task;
-    uint64_t answer = open_day(image, TABLE, day, &task);
+    bool is_new;
+    uint64_t answer = open_day(image, TABLE, day, &is_new);
     uint32_t handle = BM_VALUE(answer), count = 0;
     if (BM_NUMBER(answer) == 0)
         answer = bm_write(IMAGE, TABLE, handle, lines->at, lines->length);
     if (BM_NUMBER(answer) == 0) {
         count = BM_VALUE(answer);
-        answer = bm_close(IMAGE, TABLE, handle, STAMP(&day->stamp));
+        answer = bm_close(IMAGE, TABLE, handle, BM_STAMP(day->stamp));
     }
-    if (BM_NUMBER(answer) != 0)
-        say_refusal(task, path, day->file, BM_NUMBER(answer), image);
+    if (BM_NUMBER(answer) == BM_ACCESS_DENIED)
+        say_denied(day, is_new);
+    else if (BM_NUMBER(answer) != 0)
+        say_refused(path, day->file, BM_NUMBER(answer), image);
     else if (count < lines->length)
         say("%s: The disk is full, and none of these weighings was stored. Delete old days, or take another disk.",
             day->file);
@@ -165,26 +228,48 @@ static bool append(const char *path, struct bytes *image, const struct day *day,
 
 /* ---- Weighing ---- */
 
-static struct bytes lines_of(const struct weighings *weighings, const struct day *day)
+static bool append_all(const char *path, struct bytes *image, const struct day *day, const struct weighings *weighings)
 {
     struct bytes lines = new_bytes(weighings->count * LINE_MOST);
     size_t n, length = 0;
+    bool appended;
     for (n = 0; n < weighings->count; n++)
-        length += (size_t)sprintf((char *)lines.at + length, "%.8s %ld\n", day->time, weighings->grams[n]);
+        length += put_line(lines.at + length, day, weighings->grams[n]);
     lines.length = length;
-    return lines;
+    appended = append(path, image, day, &lines);
+    free(lines.at);
+    return appended;
 }
 
-static bool weigh(const char *path, struct bytes *image, const struct day *day, const struct weighings *weighings)
+/* Shows the weighings, which are stored, and says what is not certain. */
+static enum status show(const struct day *day, const struct weighings *weighings, long tare, enum saved saved)
 {
-    struct bytes lines = lines_of(weighings, day);
-    long tare = find_tare(path, image);
-    bool stored = tare >= 0 && append(path, image, day, &lines) && replace_whole(path, image);
+    enum status status = STORED;
     size_t n;
-    for (n = 0; stored && n < weighings->count; n++)
+    for (n = 0; n < weighings->count; n++)
         printf("%s %ld g, net %ld g\n", day->time, weighings->grams[n], weighings->grams[n] - tare);
-    free(lines.at);
-    return stored;
+    if (fflush(stdout) != 0 || ferror(stdout)) {
+        say("%s: The weighings are stored, but could not be shown. Don't weigh again; see to where they go.", day->file);
+        status = NOT_CERTAIN;
+    }
+    if (saved != SAVED) {
+        say("%s: The weighings are stored, but a cut of power may still undo that. Look whether they are there before "
+            "you weigh again.",
+            day->file);
+        status = NOT_CERTAIN;
+    }
+    return status;
+}
+
+static enum status weigh(const char *path, struct bytes *image, const struct day *day,
+                         const struct weighings *weighings)
+{
+    long tare = find_tare(path, image);
+    enum saved saved;
+    if (tare < 0 || is_stored(image, day, weighings) || !append_all(path, image, day, weighings))
+        return NOT_STORED;
+    saved = replace_whole(path, image);
+    return saved == NOT_SAVED ? NOT_STORED : show(day, weighings, tare, saved);
 }
 
 int main(int count, char **words)
@@ -192,16 +277,15 @@ int main(int count, char **words)
     static struct weighings weighings;
     struct bytes image;
     struct day day;
-    bool stored;
+    enum status status;
+    signal(SIGPIPE, SIG_IGN); /* Else a reader that has gone would end the program between storing and its status. */
     if (count < 4 || !take_day(words[2], words[3], &day) || !take_weighings(words + 4, &weighings)) {
         say("Usage: scale IMAGE YYYY-MM-DD HH:MM:SS [GRAMS..], with 1 to %d weighings.", WEIGHINGS_MOST);
         return WRONG_USAGE;
     }
     if (!read_to_replace(words[1], &image))
         return NOT_STORED;
-    stored = weigh(words[1], &image, &day, &weighings);
+    status = weigh(words[1], &image, &day, &weighings);
     free(image.at);
-    if (fflush(stdout) != 0)
-        return say("The weighings are stored, but could not be shown. See to where they go.");
-    return stored ? STORED : NOT_STORED;
+    return status;
 }

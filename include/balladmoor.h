@@ -1,6 +1,6 @@
 /* balladmoor.h: the calls of the scale's volume code, for C.
  *
- * Link with libscale.a (`rt staticlib scale` makes it, for x86-64).
+ * Link with libscale.a, which is for x86-64: -lscale. It wants memset and nothing else of a C library.
  *
  * Numbers are uint32_t (bm_seek's offset is an int32_t), and any value may come in: one that is out of range is
  * refused, never misread. A run of bytes is a pointer and then its length. A length of 0 is allowed, with any pointer,
@@ -15,7 +15,8 @@
  * shorter than what is to be put there, it is left as it came and the answer is the same: a caller who needs the answer
  * alone gives NULL and 0. A refusal leaves all memory as it came. Bytes of `out` past what is put there stay.
  *
- * Each call's comment has its refusals in the order in which they are tested. docs/INTERFACE.md has examples.
+ * Each call's comment has its refusals in the order in which they are tested. INTERFACE.md has examples, and how much
+ * stack a call takes. balladmoor_help.h has small functions that most programs want beside the calls.
  */
 #ifndef BALLADMOOR_H
 #define BALLADMOOR_H
@@ -26,6 +27,9 @@
 #ifdef __cplusplus
 extern "C" {
 #endif
+
+/* The version of header and archive, also in the file VERSION. */
+#define BM_VERSION "1.0.0"
 
 /* The two halves of an answer. */
 #define BM_NUMBER(answer) ((uint32_t)((uint64_t)(answer) >> 32))
@@ -40,11 +44,12 @@ extern "C" {
 /* Bytes of a sector. */
 #define BM_SECTOR_SIZE 512u
 
-/* Bytes of a whole image of each kind. */
+/* Bytes of a whole image of each kind, and of the largest. */
 #define BM_IMAGE_SIZE_FE 163840u
 #define BM_IMAGE_SIZE_FF 327680u
 #define BM_IMAGE_SIZE_FC 184320u
 #define BM_IMAGE_SIZE_FD 368640u
+#define BM_IMAGE_SIZE_MOST 368640u
 
 /* Bytes of each kind's system area (boot sector, both copies of the table, root), and of the largest. */
 #define BM_SYSTEM_SIZE_FE 3584u
@@ -52,6 +57,9 @@ extern "C" {
 #define BM_SYSTEM_SIZE_FC 4608u
 #define BM_SYSTEM_SIZE_FD 6144u
 #define BM_SYSTEM_SIZE_MOST 6144u
+
+/* Slots of the largest root. They count from 0. */
+#define BM_SLOTS_MOST 112u
 
 /* Bytes that each call puts into `out`. */
 #define BM_COUNTS_SIZE 16u /* bm_check, bm_check_system */

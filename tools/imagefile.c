@@ -150,14 +150,16 @@ static bool flush_folder(char *path)
 }
 
 /* Writes the new file beside path and gives it that name. */
-static bool put_beside(const char *path, const struct bytes *bytes, mode_t mode)
+static enum saved put_beside(const char *path, const struct bytes *bytes, mode_t mode)
 {
     static const char ending[] = ".XXXXXX";
     char *beside = malloc(strlen(path) + sizeof ending);
-    bool put = false;
+    enum saved put = NOT_SAVED;
     int file;
-    if (beside == NULL)
-        return fails(path, "The file can't be written");
+    if (beside == NULL) {
+        fails(path, "The file can't be written");
+        return NOT_SAVED;
+    }
     strcat(strcpy(beside, path), ending);
     file = mkstemp(beside);
     if (file < 0)
@@ -165,19 +167,20 @@ static bool put_beside(const char *path, const struct bytes *bytes, mode_t mode)
     else if (!fill(file, bytes, mode) || rename(beside, path) != 0) {
         fails(path, "The new bytes can't be written, so nothing was changed. Make room, or see to the machine's disk");
         unlink(beside);
-    } else if (!flush_folder(beside))
+    } else if (!flush_folder(beside)) {
         fails(path, "The new bytes are written, but a cut of power may still bring back the old ones");
-    else
-        put = true;
+        put = NOT_FLUSHED;
+    } else
+        put = SAVED;
     free(beside);
     return put;
 }
 
-bool replace_whole(const char *path, const struct bytes *bytes)
+enum saved replace_whole(const char *path, const struct bytes *bytes)
 {
     struct stat old;
     char *real = realpath(path, NULL); /* Where path is a link, the file behind it is replaced and the link stays. */
-    bool put = false;
+    enum saved put = NOT_SAVED;
     if (real == NULL || stat(real, &old) != 0)
         fails(path, "The file can't be replaced");
     else if (!S_ISREG(old.st_mode))
@@ -190,14 +193,14 @@ bool replace_whole(const char *path, const struct bytes *bytes)
     return put;
 }
 
-bool make_whole(const char *path, const struct bytes *bytes)
+enum saved make_whole(const char *path, const struct bytes *bytes)
 {
     mode_t kept = umask(0);
     struct stat old;
     umask(kept);
     if (lstat(path, &old) == 0) {
         say("%s: The file is there already, and its bytes would be lost. Remove it first, or take another name.", path);
-        return false;
+        return NOT_SAVED;
     }
     return put_beside(path, bytes, 0666 & ~kept);
 }

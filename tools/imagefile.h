@@ -23,13 +23,20 @@ bool read_whole(const char *path, struct bytes *bytes);
  * two that change one image can't lose each other's work. */
 bool read_to_replace(const char *path, struct bytes *bytes);
 
+/* How the bytes of a file were saved. Unless it is SAVED, why is said on standard error. */
+enum saved {
+    NOT_SAVED,  /* nothing was changed */
+    SAVED,
+    NOT_FLUSHED /* they have the file's name, but a cut of power may still bring back what was there */
+};
+
 /* Puts these bytes in the place of a file. They are written to a new file beside it and flushed, and only then does the
  * new file take the name: whenever the power is cut, the old bytes are there or the new ones, whole. A cut may leave
  * the new file too, under the old one's name with a dot and six signs; it may be removed. A file without write
- * permission is refused. What fails is said on standard error, and the answer is then false. */
-bool replace_whole(const char *path, const struct bytes *bytes);
+ * permission is refused. */
+enum saved replace_whole(const char *path, const struct bytes *bytes);
 
 /* The same for a file that must not be there yet. */
-bool make_whole(const char *path, const struct bytes *bytes);
+enum saved make_whole(const char *path, const struct bytes *bytes);
 
 #endif

@@ -16,6 +16,12 @@ void expect(int holds, const char *what)
         failed++;
 }
 
+int tally(void)
+{
+    printf("%d passed, %d failed\n", passed, failed);
+    return failed == 0 ? 0 : 1;
+}
+
 struct block new_block(size_t length)
 {
     struct block block;

@@ -10,6 +10,9 @@ extern int passed, failed;
 
 void expect(int holds, const char *what);
 
+/* Prints how many passed and failed: the last line of each program. Answers its exit status. */
+int tally(void);
+
 /* ---- Memory between guards: bytes around it that no call may touch. ---- */
 
 enum { GUARD = 64, GUARD_BYTE = 0xA5, OLD_BYTE = 0x5A };

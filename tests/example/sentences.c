@@ -20,7 +20,7 @@ static int is_good(enum task task, int n)
 {
     const char *sentence = refusal_sentence(task, numbers[n]);
     size_t length = strlen(sentence);
-    int k, own = strcmp(sentence, refusal_sentence(task, 0)) != 0;
+    int k, own = strcmp(sentence, refusal_sentence(task, 99)) != 0;
     for (k = 0; k < n; k++)
         own = own && strcmp(sentence, refusal_sentence(task, numbers[k])) != 0;
     return own && sentence[length - 1] == '.' && strstr(sentence, ". ") != NULL;
