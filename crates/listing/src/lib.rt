@@ -1,4 +1,4 @@
-// The listing of a system area, put into a buffer that the caller lends.
+// The listing of a system area, put into a buffer that the caller lends; for C too (tools/listing.h).
 use diskette::Kind;
 use diskette::WhichKind;
 use sound::Verdict;
@@ -8,7 +8,7 @@ ghost use Rattle.diskette.specs.Images.{AreaOf};
 ghost use Rattle.sound.specs.declared.Verdict.the-variants.{Sound};
 ghost use Rattle.text.specs.Puts.{PutsIn};
 ghost use Rattle.lines.specs.Lines.{fileRoom};
-ghost use Rattle.listing.specs.Listing.{entryText, slotText, filesText, volumeText, listingOf, listingRoom};
+ghost use Rattle.listing.specs.Listing.{entryText, slotText, filesText, volumeText, listingOf, listingRoom, Lists};
 
 // The lines of the plain file whose entry stands at byte a.
 fn put_entry(area: &[u8], a: usize, out: &mut [u8], at: usize) -> usize
@@ -74,7 +74,7 @@ fn put_volume(
 }
 
 // The whole listing.
-pub fn list(area: &[u8], out: &mut [u8]) -> usize
+fn list(area: &[u8], out: &mut [u8]) -> usize
     requires { ⌜ listingRoom ≤ length (now out) ⌝ }
     ensures { λ r. ⌜ PutsIn listingRoom (listingOf (now (area .entry))) (now (out .entry)) 0 r (now (out .exit)) ⌝ }
 {
@@ -87,4 +87,15 @@ pub fn list(area: &[u8], out: &mut [u8]) -> usize
         },
         WhichKind::Unknown => lines::put_unsound(out, 0, 1, 0),
     }
+}
+
+// The same for C: how many bytes it has. Into a buffer of fewer than 16,384 bytes nothing is put, and the answer is 0.
+#[no_mangle]
+pub extern "C" fn listing_put(area: &[u8], out: &mut [u8]) -> usize
+    ensures { λ r. ⌜ Lists (now (area .entry)) (now (out .entry)) r (now (out .exit)) ⌝ }
+{
+    if out.len() < 16384 {
+        return 0;
+    }
+    list(area, out)
 }

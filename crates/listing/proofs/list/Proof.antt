@@ -1,8 +1,8 @@
 -- By the kind that was found and by what check answered.
 use Rattle.listing.specs.Laws.Listing.{area-found, puts-listing, puts-finding, puts-no-kind}
 use borrow.Author.Needs.{needs}
-use Rattle.listing.proofs.area.list.Statement.{statement}
-use Rattle.listing.proofs.area.list.Tie as tie
+use Rattle.listing.proofs.list.Statement.{statement}
+use Rattle.listing.proofs.list.Tie as tie
 
 kind-of-area-requires : tie.Need-kind-of-area-requires
 kind-of-area-requires c κs = search needs

@@ -1,8 +1,8 @@
 -- The lines are those of the fields that were read.
 use Rattle.listing.specs.Laws.Files.{puts-entry}
 use borrow.Author.Needs.{needs}
-use Rattle.listing.proofs.area.put_entry.Statement.{statement}
-use Rattle.listing.proofs.area.put_entry.Tie as tie
+use Rattle.listing.proofs.put_entry.Statement.{statement}
+use Rattle.listing.proofs.put_entry.Tie as tie
 
 name-at-requires : tie.Need-name-at-requires
 name-at-requires c κs = search needs

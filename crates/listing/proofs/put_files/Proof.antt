@@ -7,8 +7,8 @@ use Rattle.image.specs.Store.{stored}
 use Rattle.lines.specs.Lines.{fileRoom}
 use Rattle.listing.specs.Listing.{filesText}
 use Rattle.listing.specs.Laws.Files.{all-bytes, all-end, files-bytes, files-end, puts-files}
-use Rattle.listing.proofs.area.put_files.Statement.{statement}
-use Rattle.listing.proofs.area.put_files.Tie as tie
+use Rattle.listing.proofs.put_files.Statement.{statement}
+use Rattle.listing.proofs.put_files.Tie as tie
 
 abbrev Inv-loop : tie.InvT-loop
 Inv-loop area root count out₀ at next₀ slot₀ out next slot = (slot ≤ count)

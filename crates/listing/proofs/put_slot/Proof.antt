@@ -1,8 +1,8 @@
 -- A plain file's lines, or none.
 use Rattle.listing.specs.Laws.Files.{puts-slot, puts-no-file}
 use borrow.Author.Needs.{needs}
-use Rattle.listing.proofs.area.put_slot.Statement.{statement}
-use Rattle.listing.proofs.area.put_slot.Tie as tie
+use Rattle.listing.proofs.put_slot.Statement.{statement}
+use Rattle.listing.proofs.put_slot.Tie as tie
 
 plain-at-requires : tie.Need-plain-at-requires
 plain-at-requires c κs = search needs

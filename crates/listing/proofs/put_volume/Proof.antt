@@ -1,8 +1,8 @@
 -- The head's lines and the files' are the volume's, and the four kinds' slots leave them room.
 use Rattle.listing.specs.Laws.Listing.{kind-usable, root-within, files-fit, puts-sound}
 use borrow.Author.Needs.{needs}
-use Rattle.listing.proofs.area.put_volume.Statement.{statement}
-use Rattle.listing.proofs.area.put_volume.Tie as tie
+use Rattle.listing.proofs.put_volume.Statement.{statement}
+use Rattle.listing.proofs.put_volume.Tie as tie
 
 root-at-requires : tie.Need-root-at-requires
 root-at-requires c κs = search kind-usable
