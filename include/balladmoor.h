@@ -27,6 +27,9 @@
 extern "C" {
 #endif
 
+/* The version of header and archive, also in the file VERSION. */
+#define BM_VERSION "1.0.0"
+
 /* The two halves of an answer. */
 #define BM_NUMBER(answer) ((uint32_t)((uint64_t)(answer) >> 32))
 #define BM_VALUE(answer) ((uint32_t)((uint64_t)(answer)&0xFFFFFFFFu))
