@@ -4,6 +4,7 @@
 #                  from this seed on
 # make bench       the archive's speed against the independent implementation's
 # make balladmoor  the command for members and the service bench: target/c/balladmoor, for x86-64
+# make listing     the listing program: target/c/listing
 # make example     the scale's program in small: target/c/scale
 # make install     puts command, header and archive in place, under PREFIX=/usr/local
 # make clean       removes what was made
@@ -11,7 +12,8 @@
 all:
 	rt check
 	tests/x86.sh target/bin/worked
-	tests/x86.sh target/bin/listing < crates/listing/stdin
+	$(MAKE) listing
+	tests/x86.sh target/bin/sample | tests/x86.sh target/c/listing
 
 test:
 	.ci/run
@@ -27,7 +29,9 @@ bench:
 
 CFLAGS = -O2
 COMPILE = tests/x86.sh --cc $(CFLAGS) -Wall -Wextra -Werror -std=c11 -pedantic -Iinclude -Itools
-SHARED = tools/imagefile.c tools/refusal.c tools/say.c tools/stamp.c tools/wholefile.c
+SHARED = tools/imagefile.c tools/refusal.c tools/savefile.c tools/say.c tools/stamp.c tools/standard.c tools/wholefile.c
+COMMAND = tools/balladmoor.c tools/changing.c tools/entries.c tools/finding.c tools/getting.c tools/help.c tools/json.c \
+	tools/map.c tools/marks.c tools/print.c tools/putting.c tools/reading.c
 ARCHIVE = target/staticlib/libscale.a
 MEMBER = target/staticlib/libmember.a
 OUT = target/c
@@ -40,7 +44,12 @@ member:
 	tests/product.sh member
 
 balladmoor: archive member
-	$(COMPILE) tools/balladmoor.c tools/print.c $(SHARED) $(ARCHIVE) $(MEMBER) -o $(OUT)/balladmoor
+	$(COMPILE) $(COMMAND) $(SHARED) $(ARCHIVE) $(MEMBER) -o $(OUT)/balladmoor
+
+listing:
+	tests/product.sh listing
+	mkdir -p $(OUT)
+	$(COMPILE) tools/listing.c tools/say.c tools/standard.c target/staticlib/liblisting.a -o $(OUT)/listing
 
 example: archive
 	$(COMPILE) examples/scale.c $(SHARED) $(ARCHIVE) -o $(OUT)/scale
@@ -55,4 +64,4 @@ install: balladmoor
 clean:
 	rm -rf target tests/compare/target
 
-.PHONY: all test compare bench archive member balladmoor example install clean
+.PHONY: all test compare bench archive member balladmoor listing example install clean
