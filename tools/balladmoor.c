@@ -94,13 +94,17 @@ static unsigned option_of(const char *word)
     return 0;
 }
 
-/* Takes the options, which stand before the other words. */
+/* Takes the options, which stand before the other words; -- ends them. */
 static bool take_options(const struct verb *verb, struct order *order)
 {
-    for (; order->count > 0 && strncmp(*order->words, "--", 2) == 0; order->words++, order->count--) {
-        unsigned option = option_of(*order->words);
+    while (order->count > 0 && strncmp(*order->words, "--", 2) == 0) {
+        const char *word = *order->words++;
+        unsigned option = option_of(word);
+        order->count--;
+        if (strcmp(word, "--") == 0)
+            return true;
         if ((verb->options & option) == 0) {
-            say("%s: %s has no such option. See balladmoor help %s.", *order->words, verb->name, verb->name);
+            say("%s: %s has no such option. See balladmoor help %s.", word, verb->name, verb->name);
             return false;
         }
         order->options |= option;

@@ -34,8 +34,9 @@ static char *path_of(const struct copies *copies, const char *name)
 {
     const char *folder = copies->to_folder ? copies->to : "";
     const char *last = copies->to == NULL || copies->to_folder ? name : copies->to;
+    const char *between = *folder == '\0' || folder[strlen(folder) - 1] == '/' ? "" : "/";
     struct bytes path = new_bytes(strlen(folder) + strlen(last) + 1);
-    sprintf((char *)path.at, "%s%s%s", folder, copies->to_folder ? "/" : "", last);
+    sprintf((char *)path.at, "%s%s%s", folder, between, last);
     return (char *)path.at;
 }
 

@@ -78,5 +78,5 @@ int say_refusal(enum task task, const char *path, const char *name, uint32_t num
     if (number == BM_NOT_SOUND)
         return say("%s: %s (refusal 41; %s)", path, sentence,
                    finding_words(bm_check(image->at, image->length, NULL, 0), words));
-    return say("%s: %s (refusal %u)", number == BM_NOT_OF_A_KIND ? path : name, sentence, (unsigned)number);
+    return say("%s: %s (refusal %u)", number == BM_NOT_OF_A_KIND ? path : spoken(name), sentence, (unsigned)number);
 }

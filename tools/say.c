@@ -63,8 +63,13 @@ static const char *advice_for(int why)
     return "See to the machine's disk";
 }
 
+const char *spoken(const char *name)
+{
+    return *name == '\0' ? "(an empty name)" : name;
+}
+
 int say_trouble(const char *path, const char *what)
 {
     int why = errno;
-    return say("%s: %s: %s. %s.", *path == '\0' ? "(an empty name)" : path, what, strerror(why), advice_for(why));
+    return say("%s: %s: %s. %s.", spoken(path), what, strerror(why), advice_for(why));
 }

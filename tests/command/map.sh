@@ -105,3 +105,6 @@ balladmoor put full.img REST rest
 ends 0 "a full disk" balladmoor map full.img
 prints "  258 $(printf 'a%.0s' $(seq 57))"
 check ".. and nothing free" [ "$(grep -c free "$made/out")" -eq 0 ]
+
+echo "-- against a map that is made in another way"
+check "100 random volumes" python3 "$root/tests/command/maps.py" 100 "$root/tests/x86.sh" "$made/prefix/bin/balladmoor"

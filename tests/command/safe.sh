@@ -72,6 +72,17 @@ for call in write fchmod fsync close renameat2; do
   rm -f new.img.*
 done
 
+echo "-- a file system that has no rename which replaces nothing"
+# by_link WORDS..: the command where that call is not known.
+by_link() {
+  broken_call -DCALL=renameat2 -DFAILS -DWHY=EINVAL || return 5
+  "$root/tests/x86.sh" --preload "$made/call.so" "$made/prefix/bin/balladmoor" "$@"
+}
+ends 0 "format" by_link format 160 new.img
+check ".. makes it, and nothing else" [ "$(echo new.img*)" = new.img ]
+check ".. whole" cmp new.img 160.img
+rm new.img
+
 echo "-- done, but the folder can't be flushed: a status and a sentence of their own"
 ends 3 "put" with fsync FOLDERS put disk.img NEW day
 says "It is done, but a cut of power may still undo it."

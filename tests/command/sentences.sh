@@ -26,6 +26,8 @@ ends 1 "a folder" balladmoor format 160 empty
 says "empty: This is a folder. Name a file in it."
 ends 1 "a folder to read" balladmoor check empty
 says "empty: The file can't be read: Is a directory. Name a file, not a folder."
+ends 1 "a name of no letters on the disk" balladmoor put disk.img "" day
+says "(an empty name): A name has 1 to 8"
 check "nothing was made" [ -z "$(ls empty)" ]
 
 # denied CALL WORDS..: the command where the machine forbids the call.

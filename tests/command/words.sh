@@ -18,6 +18,10 @@ for verb in $(sed -n 's/^  \([a-z]*\) .*/\1/p' "$made/short"); do
 done
 check "twelve verbs" [ "$(grep -c '^  [a-z]' "$made/short")" -eq 12 ]
 ends 2 "help for a verb that there is not" balladmoor help copy
+cp 160.img ./--json
+ends 0 "-- ends the options" balladmoor check -- --json
+prints "--json: sound; files 0; clusters free 313, held by files 0, set aside 0"
+rm ./--json
 
 echo "-- several files are put"
 mkdir -p in out
@@ -45,7 +49,7 @@ echo "-- several files are got"
 ends 0 "get to a folder" balladmoor get disk.img ONE.LOG TWO.LOG three.log out
 check ".. the first" cmp <(echo one.log) out/ONE.LOG
 check ".. the last, by the name that was given" cmp <(echo three.log) out/three.log
-ends 0 "get one to a folder" balladmoor get disk.img THREE.LOG out
+ends 0 "get one to a folder" balladmoor get disk.img THREE.LOG out/
 check ".. it is there" cmp <(echo three.log) out/THREE.LOG
 rm out/ONE.LOG out/three.log out/THREE.LOG
 ends 1 "get where the second is there already" balladmoor get disk.img ONE.LOG TWO.LOG THREE.LOG out
