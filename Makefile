@@ -13,7 +13,7 @@ all:
 	rt check
 	tests/x86.sh target/bin/worked
 	$(MAKE) listing
-	tests/x86.sh target/bin/sample | tests/x86.sh target/c/listing
+	tests/x86.sh target/bin/sample | tests/x86.sh $(OUT)/listing
 
 test:
 	.ci/run
