@@ -4,6 +4,7 @@
 #                  from this seed on
 # make bench       the archive's speed against the independent implementation's
 # make balladmoor  the command for members and the service bench: target/c/balladmoor, for x86-64
+# make listing     the listing program: target/c/listing
 # make example     the scale's program in small: target/c/scale
 # make install     puts command, manual page, headers and archive in place, under PREFIX=/usr/local
 # make uninstall   removes them again
@@ -13,7 +14,8 @@
 all:
 	rt check
 	tests/x86.sh target/bin/worked
-	tests/x86.sh target/bin/listing < crates/listing/stdin
+	$(MAKE) listing
+	tests/x86.sh target/bin/sample | tests/x86.sh $(OUT)/listing
 
 test:
 	.ci/run
@@ -29,7 +31,9 @@ bench:
 
 CFLAGS = -O2
 COMPILE = tests/x86.sh --cc $(CFLAGS) -Wall -Wextra -Werror -std=c11 -pedantic -Iinclude -Itools
-SHARED = tools/imagefile.c tools/refusal.c tools/say.c tools/stamp.c tools/wholefile.c
+SHARED = tools/imagefile.c tools/refusal.c tools/savefile.c tools/say.c tools/stamp.c tools/standard.c tools/wholefile.c
+COMMAND = tools/balladmoor.c tools/changing.c tools/entries.c tools/finding.c tools/getting.c tools/help.c tools/json.c \
+	tools/map.c tools/marks.c tools/print.c tools/putting.c tools/reading.c
 ARCHIVE = target/staticlib/libscale.a
 MEMBER = target/staticlib/libmember.a
 OUT = target/c
@@ -42,7 +46,12 @@ member:
 	tests/product.sh member
 
 balladmoor: archive member
-	$(COMPILE) tools/balladmoor.c tools/print.c $(SHARED) $(ARCHIVE) $(MEMBER) -o $(OUT)/balladmoor
+	$(COMPILE) $(COMMAND) $(SHARED) $(ARCHIVE) $(MEMBER) -o $(OUT)/balladmoor
+
+listing:
+	tests/product.sh listing
+	mkdir -p $(OUT)
+	$(COMPILE) tools/listing.c tools/say.c tools/standard.c target/staticlib/liblisting.a -o $(OUT)/listing
 
 example: archive
 	$(COMPILE) examples/scale.c $(SHARED) $(ARCHIVE) -o $(OUT)/scale
@@ -90,4 +99,4 @@ dist:
 clean:
 	rm -rf target tests/compare/target
 
-.PHONY: all test compare bench archive member balladmoor example install uninstall dist clean
+.PHONY: all test compare bench archive member balladmoor listing example install uninstall dist clean

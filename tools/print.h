@@ -1,12 +1,18 @@
-/* What the command prints of a volume. */
+/* What the command prints of a volume for people. */
 #ifndef PRINT_H
 #define PRINT_H
 
 #include "imagefile.h"
 
+/* A text of the user's, as a path: bytes that a terminal would obey come as ?. */
+void print_text(const char *text);
+
 /* The files as mdir shows them, with their marks. Answers 0, or the number of the refusal; the files of a volume that
  * is not sound are printed too, without the free space. */
 uint32_t print_list(const char *path, const struct bytes *image);
+
+/* The same, as names alone, one a line. */
+uint32_t print_names(const struct bytes *image);
 
 /* What check counts on a sound volume: four words. */
 void print_counts(const char *path, const uint8_t *counts);

@@ -8,11 +8,12 @@
 /* Number 5. Whoever asks here has no file open but the one in hand, so it is never for an open file. */
 static const char *const denied[TASKS] = {
     [READING] = "The file was not opened for reading. That is a mistake in this program: please report it.",
-    [CHANGING] = "The file is read-only. If it may be changed, set its mode to 20 first.",
-    [MAKING] = "A file of that name is read-only, or the directory has no room for another name. Take another name, or "
-               "delete a file first.",
-    [DELETING] = "The file is read-only. If it may go, set its mode to 20 first.",
-    [RENAMING] = "The file is read-only, or a file has the new name already. Look at the list, and take another name.",
+    [CHANGING] = "The file is read-only. If it may be changed, take that mark away first (mode -r).",
+    [MAKING] = "The directory has no room for another name. Delete a file first, or take another disk.",
+    [REPLACING] = "A file of that name is read-only. If it may be replaced, take that mark away first (mode -r).",
+    [DELETING] = "The file is read-only. If it may go, take that mark away first (mode -r).",
+    [RENAMING] = "The file is read-only. If it may have another name, take that mark away first (mode -r).",
+    [TAKING_NAME] = "A file has that name already. Look at the list, and take another name.",
     [SETTING_MODE] = "Only these bits may be set: 01 read-only, 02 hidden, 04 system, 20 archive. Add up the "
                      "ones wanted.",
 };
@@ -40,7 +41,7 @@ const char *refusal_sentence(enum task task, uint32_t number)
         return "A name has 1 to 8 letters, digits or $&#@!%'()-{}_, then perhaps a dot and up to 3 more. Take such a "
                "name.";
     case BM_BAD_STAMP:
-        return "The date or the time is out of range, or not in the years 1980 to 2099. Set the clock.";
+        return "The date or the time is out of range, or not in the years 1980 to 2099. See where it comes from.";
     default:
         return "No such number is known. Header and archive are not of one version: build this program again.";
     }
@@ -59,33 +60,23 @@ static const struct {
     [7] = {"a cluster in use that is in no file", "cluster"},
 };
 
-/* Room for a finding in words. */
-enum { WORDS = 128 };
-
-static const char *in_words(uint64_t checked, char *words)
+const char *finding_words(uint64_t checked, char *words)
 {
     uint32_t finding = BM_NUMBER(checked);
     if (finding >= 1 && finding < sizeof findings / sizeof findings[0])
-        snprintf(words, WORDS, "finding %u at %s %u: %s", (unsigned)finding, findings[finding].place,
+        snprintf(words, FINDING_ROOM, "finding %u at %s %u: %s", (unsigned)finding, findings[finding].place,
                  (unsigned)BM_VALUE(checked), findings[finding].what);
     else
-        snprintf(words, WORDS, "finding %u, which this program does not know", (unsigned)finding);
+        snprintf(words, FINDING_ROOM, "finding %u, which this program does not know", (unsigned)finding);
     return words;
-}
-
-int say_finding(const char *path, uint64_t checked)
-{
-    uint32_t number = BM_NUMBER(checked) == 1 ? BM_NOT_OF_A_KIND : BM_NOT_SOUND;
-    char words[WORDS];
-    return say("%s: %s (%s)", path, refusal_sentence(READING, number), in_words(checked, words));
 }
 
 int say_refusal(enum task task, const char *path, const char *name, uint32_t number, const struct bytes *image)
 {
     const char *sentence = refusal_sentence(task, number);
-    char words[WORDS];
+    char words[FINDING_ROOM];
     if (number == BM_NOT_SOUND)
         return say("%s: %s (refusal 41; %s)", path, sentence,
-                   in_words(bm_check(image->at, image->length, NULL, 0), words));
-    return say("%s: %s (refusal %u)", number == BM_NOT_OF_A_KIND ? path : name, sentence, (unsigned)number);
+                   finding_words(bm_check(image->at, image->length, NULL, 0), words));
+    return say("%s: %s (refusal %u)", number == BM_NOT_OF_A_KIND ? path : spoken(name), sentence, (unsigned)number);
 }

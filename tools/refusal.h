@@ -5,7 +5,7 @@
 #include "imagefile.h"
 
 /* What the program was about to do. Number 5 means something else for each; the others don't. */
-enum task { READING, CHANGING, MAKING, DELETING, RENAMING, SETTING_MODE, TASKS };
+enum task { READING, CHANGING, MAKING, REPLACING, DELETING, RENAMING, TAKING_NAME, SETTING_MODE, TASKS };
 
 /* The sentence for a refusal number. */
 const char *refusal_sentence(enum task task, uint32_t number);
@@ -14,7 +14,10 @@ const char *refusal_sentence(enum task task, uint32_t number);
  * image was refused; on a volume that is not sound, with what check finds there. */
 int say_refusal(enum task task, const char *path, const char *name, uint32_t number, const struct bytes *image);
 
-/* The same for what check found. */
-int say_finding(const char *path, uint64_t checked);
+/* Room for a finding in words. */
+enum { FINDING_ROOM = 128 };
+
+/* What check found, with its place: "finding 6 at cluster 2: a cluster in two files". Answers words. */
+const char *finding_words(uint64_t checked, char *words);
 
 #endif

@@ -15,26 +15,43 @@ struct stamp stamp_of(const struct tm *time)
     return stamp;
 }
 
-bool stamp_of_now(struct stamp *stamp)
+/* known is NULL where a second has no date. */
+static bool take(const char *whose, const struct tm *known, struct stamp *stamp)
 {
-    const char *epoch = getenv("SOURCE_DATE_EPOCH");
-    time_t second = time(NULL);
-    struct tm parts;
-    struct tm *known;
-    if (epoch != NULL) {
-        char *end;
-        errno = 0;
-        second = (time_t)strtoll(epoch, &end, 10);
-        if (end == epoch || *end != '\0' || errno != 0) {
-            say("SOURCE_DATE_EPOCH is no number of seconds. Set it right, or unset it.");
-            return false;
-        }
-    }
-    known = epoch != NULL ? gmtime_r(&second, &parts) : localtime_r(&second, &parts);
     if (known == NULL) {
-        say("The clock's time has no date. Set the clock.");
+        say("%s: This time has no date. Set it right.", whose);
         return false;
     }
     *stamp = stamp_of(known);
     return true;
+}
+
+bool stamp_of_second(const char *whose, time_t second, struct stamp *stamp)
+{
+    struct tm parts;
+    return take(whose, localtime_r(&second, &parts), stamp);
+}
+
+static const char epoch_name[] = "SOURCE_DATE_EPOCH";
+
+bool has_epoch(void)
+{
+    return getenv(epoch_name) != NULL;
+}
+
+bool stamp_of_now(struct stamp *stamp)
+{
+    const char *epoch = getenv(epoch_name);
+    struct tm parts;
+    time_t second;
+    char *end;
+    if (epoch == NULL)
+        return stamp_of_second("the clock", time(NULL), stamp);
+    errno = 0;
+    second = (time_t)strtoll(epoch, &end, 10);
+    if (end == epoch || *end != '\0' || errno != 0) {
+        say("%s: This is no number of seconds. Set it right, or unset it.", epoch_name);
+        return false;
+    }
+    return take(epoch_name, gmtime_r(&second, &parts), stamp);
 }

@@ -31,7 +31,9 @@ uint32_t store_file(const struct bytes *image, const char *name, const struct by
                     const struct stamp *stamp, size_t *stored)
 {
     uint8_t table[BM_TABLE_SIZE(1)] = {0};
-    uint64_t answer = bm_create(IMAGE, TABLE, NAME, 0, STAMP(stamp));
+    /* The marks of the file that is replaced; none, and a value of 0, where there is no such file. */
+    uint32_t marks = BM_VALUE(bm_mode(IMAGE, NULL, 0, NAME, BM_MODE_ASK, 0));
+    uint64_t answer = bm_create(IMAGE, TABLE, NAME, marks, STAMP(stamp));
     uint32_t handle = BM_VALUE(answer);
     *stored = 0;
     if (BM_NUMBER(answer) == 0)
@@ -41,4 +43,12 @@ uint32_t store_file(const struct bytes *image, const char *name, const struct by
         answer = bm_close(IMAGE, TABLE, handle, STAMP(stamp));
     }
     return BM_NUMBER(answer);
+}
+
+uint32_t slot_of(const struct bytes *image, const char *name)
+{
+    uint8_t table[BM_TABLE_SIZE(1)] = {0};
+    const uint8_t *slot = table + BM_RECORD_SLOT;
+    bm_open(IMAGE, TABLE, NAME, BM_READ);
+    return slot[0] | (uint32_t)slot[1] << 8 | (uint32_t)slot[2] << 16 | (uint32_t)slot[3] << 24;
 }

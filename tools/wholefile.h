@@ -9,10 +9,13 @@
  * then empty. */
 uint32_t fetch_file(const struct bytes *image, const char *name, struct bytes *contents);
 
-/* Makes a file of that name, or empties the one that is there, and stores the contents. *stored is how many bytes the
- * disk had room for: if fewer than there are, the caller must throw the image away. Answers 0, or the number of the
- * refusal. */
+/* Makes a file of that name, or empties the one that is there, which keeps its marks, and stores the contents. *stored
+ * is how many bytes the disk had room for: if fewer than there are, the caller must throw the image away. Answers 0, or
+ * the number of the refusal. */
 uint32_t store_file(const struct bytes *image, const char *name, const struct bytes *contents,
                     const struct stamp *stamp, size_t *stored);
+
+/* The slot of a file that fetch_file reads; 0 for any other name. */
+uint32_t slot_of(const struct bytes *image, const char *name);
 
 #endif

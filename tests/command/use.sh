@@ -1,7 +1,7 @@
 # Sourced by run: a disk formatted, filled and read.
 # shellcheck shell=bash disable=SC2154
 
-echo "-- help and usage"
+echo "-- usage"
 ends 0 "--help" balladmoor --help
 check ".. fits 24 lines" [ "$(wc -l <"$made/out")" -le 24 ]
 check ".. of 80" [ "$(wc -L <"$made/out")" -le 80 ]
@@ -74,10 +74,10 @@ while IFS='|' read -r number sentence words; do
   says "(refusal $number)"
 done <<'END'
 5|TARE.KEY: The file is read-only. If it may go,|delete disk.img TARE.KEY
-5|TARE.KEY: The file is read-only, or|rename disk.img TARE.KEY T.KEY
-5|TARE.KEY: A file of that name is read-only, or|put disk.img TARE.KEY day
-5|or a file has the new name already|rename disk.img DAY001.LOG TARE.KEY
-5|or a file has the new name already|rename disk.img DAY001.LOG day001.log
+5|TARE.KEY: The file is read-only. If it may have another name,|rename disk.img TARE.KEY T.KEY
+5|TARE.KEY: A file of that name is read-only. If it may be replaced,|put disk.img TARE.KEY day
+5|TARE.KEY: A file has that name already.|rename disk.img DAY001.LOG TARE.KEY
+5|day001.log: A file has that name already.|rename disk.img DAY001.LOG day001.log
 5|Only these bits may be set|mode disk.img DAY001.LOG 10
 5|Only these bits may be set|mode disk.img DAY001.LOG 08
 2|DAY002.LOG: No file of that name|delete disk.img DAY002.LOG
@@ -88,7 +88,9 @@ done <<'END'
 42|toolongname: A name has 1 to 8|put disk.img toolongname day
 42|A.LONG: A name has 1 to 8|put disk.img A.LONG day
 42|A*B: A name has 1 to 8|get disk.img A*B back
-42|A name has 1 to 8|rename disk.img DAY001.LOG A/B
+42|A/B: A name has 1 to 8|rename disk.img DAY001.LOG A/B
+42|A*B: A name has 1 to 8|rename disk.img A*B C
+42|A*B: A name has 1 to 8|rename disk.img A*B A/B
 END
 check "nothing was changed" cmp disk.img before.img
 check "nothing was made" [ ! -e back ]
@@ -125,7 +127,7 @@ says "room for 0 of 40 bytes"
 cp 160.img slots.img
 for n in $(seq 64); do balladmoor put slots.img "F$n" /dev/null || break; done
 ends 1 "a 65th name on a disk of 64 slots" balladmoor put slots.img F65 tare
-says "or the directory has no room for another name"
+says "F65: The directory has no room for another name."
 ends 0 "list" balladmoor list slots.img
 prints "       64 files                   0 bytes"
 

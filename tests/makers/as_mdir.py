@@ -22,19 +22,22 @@ def free_of(text):
     return int(re.search(r"([\d ]+) bytes free", text)[1].replace(" ", ""))
 
 
-def our_list(text, path, marks, label=None):
-    """The lines of our list: mdir's, but for the image's name, the serial number, and the marks in place of long names.
-    Another label than mdir's may be given."""
+def our_list(text, path, marks):
+    """The lines of our list: mdir's, but for the image's name, the serial number, and the marks in place of long names,
+    which have lines of their own."""
     lines = text.splitlines()
-    head = f" Volume in {path} is {label}" if label else lines[0].rstrip().replace("drive :", path)
+    head = lines[0].rstrip().replace("drive :", path)
     files = [line for line in lines if FILE.match(line)]
+    ours = [line for file, letters in zip(files, marks) for line in our_lines(file, letters)]
     # The sum and the free bytes; an empty line ends mdir's text.
-    return [head, "", *map(our_line, files, marks), *lines[-3:-1]]
+    return [head, "", *ours, *lines[-3:-1]]
 
 
-def our_line(line, letters):
+def our_lines(line, letters):
+    """A line for each entry of its long name, of 13 characters, and the file's own."""
+    long_name = line[TIME_ENDS:].strip()
     shown = "".join(letter if letter in letters else "-" for letter in "RHSA")
-    return f"{ours_of_date(line[:TIME_ENDS].upper())}  {shown}"
+    return ["(long name)"] * -(-len(long_name) // 13) + [f"{ours_of_date(line[:TIME_ENDS].upper())}  {shown}"]
 
 
 def ours_of_date(line):

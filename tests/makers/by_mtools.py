@@ -81,8 +81,7 @@ def try_long_names(folder, kilobytes):
     volume = formatted(folder, kilobytes)
     volume.copy("longer.name", plain(5))
     expect(len(volume.slots_with(0x08)), 1, f"{volume.title}: one entry for a long name")
-    # mdir calls no such entry a label; its bytes are the name's letters in pairs, the second 0.
-    volume.expect_sound("one long name", label="Al?o?n?g?e?")
+    volume.expect_sound("one long name")
     # The next is a second label: finding 4 at its slot.
     volume.copy("another.name", plain(5))
     volume.expect_finding(4, volume.slots_with(0x08)[1], "a second long name")
@@ -103,6 +102,9 @@ def try_folder(folder, kilobytes):
     volume.copy("TARE.KEY", plain(40))
     volume.tool("mmd", "::FOLDER")
     volume.expect_finding(4, volume.slots_with(0x10)[0], "a folder")
+    [line] = [line for line in volume.mdir().splitlines() if "<DIR>" in line]
+    [(_, listed, _)] = ended(volume.command("list"))
+    expect(f"{line.rstrip()}  ----" in listed.decode().splitlines(), True, f"{volume.title}: our list has mdir's folder")
 
 
 def try_exchange(folder, kilobytes):

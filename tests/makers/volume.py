@@ -11,7 +11,7 @@ from as_mdir import files_of, free_of, our_list
 from counts import expect, skip
 
 JUDGE = ["tests/compare/target/release/judge"]
-LISTING = ["tests/x86.sh", "target/bin/listing"]
+LISTING = ["tests/x86.sh", "target/c/listing"]
 COMMAND = ["tests/x86.sh", "target/c/balladmoor"]
 
 # The diskettes of the specification by their kilobytes: kind byte, clusters, bytes of a cluster, first data sector.
@@ -186,8 +186,8 @@ class Volume:
         expect((status, said), (0, ""), f"{what}: our list ends well")
         return lines.decode().splitlines()
 
-    def expect_sound(self, what, label=None):
-        """Sound, with mdir's files and free clusters, and listed as mdir lists them, but for a label that is given."""
+    def expect_sound(self, what):
+        """Sound, with mdir's files and free clusters, and listed as mdir lists them."""
         what = f"{self.title}, {what}"
         shown = self.mdir()
         files = files_of(shown)
@@ -195,7 +195,7 @@ class Volume:
         held = sum(-(-size // self.cluster_bytes) for _, size in files)
         expect(free + held + self.aside, self.clusters, f"{what}: each cluster is free, held or set aside")
         lines = self.expect_counts(len(files), free, held, what)
-        wanted = our_list(shown, self.path, self.marks_by_mattrib(), label)
+        wanted = our_list(shown, self.path, self.marks_by_mattrib())
         expect(lines, wanted, f"{what}: our list is mdir's")
 
     def expect_finding(self, finding, place, what):
@@ -207,7 +207,7 @@ class Volume:
         told += ended(self.command("put", "NEW.KEY", "/dev/null"))
         says = [(status, found(said), refused(said)) for status, _, said in told]
         number = 40 if finding == 1 else 41
-        checked = (1, (finding, place), None)
+        checked = (4, (finding, place), None)
         others = (1, None if finding == 1 else (finding, place), number)
         expect(says, [checked, others, others, others], f"{what}: our check says so, and list, get, put refuse")
         expect(self.bytes() == before, True, f"{what}: nothing is altered")

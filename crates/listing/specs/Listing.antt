@@ -2,6 +2,10 @@
 use Prim.Native.Nat.{ℕ, zero, suc, _+_}
 use mathlib.Core.Bool.{cond}
 use mathlib.Core.List.{List, [], _++_}
+use mathlib.Core.Path.{_≡_}
+use lib.Dec.{leb}
+use lib.ListN.{length}
+use Rattle.image.specs.Store.{stored}
 use Rattle.diskette.specs.Images.{kindOfArea}
 use Rattle.diskette.specs.Places.{clusters, rootEntries, rootAt}
 use Rattle.diskette.specs.declared.Kind.{Kind}
@@ -49,3 +53,9 @@ listingOf area = listingBy (kindOfArea area) area
 -- the buffer lent for the text; no listing is longer
 abbrev pub listingRoom : ℕ
 listingRoom = 16384
+
+-- for C: the listing is put into the buffer l, which is then m, and the answer r is its length. A buffer without that room stays
+-- as it came, and the answer is 0.
+pub record Lists (area l : List ℕ) (r : ℕ) (m : List ℕ) : Type 0 where
+  pub count : r ≡ cond (leb listingRoom (length l)) (length (listingOf area)) 0
+  pub buffer : m ≡ cond (leb listingRoom (length l)) (stored l 0 (listingOf area)) l

@@ -2,11 +2,12 @@
 use Prim.Native.Nat.{ℕ, _+_, _*_}
 use mathlib.Core.Bool.{cond}
 use mathlib.Core.List.{List}
-use lib.Dec.{leb}
+use lib.Dec.{leb, eqb}
 use Rattle.diskette.specs.Places.{rootEntries, slotAt}
 use Rattle.diskette.specs.declared.WhichKind.{WhichKind}
 use Rattle.diskette.specs.declared.WhichKind.the-variants.{Known, Unknown}
-use Rattle.directory.specs.Slots.{standingOf}
+use Rattle.fields.specs.Fields.{attrOf}
+use Rattle.directory.specs.Slots.{standingOf, hasBit}
 use Rattle.directory.specs.declared.Standing.{Standing}
 use Rattle.directory.specs.declared.Standing.the-variants.{NeverUsed, Erased, Label, Plain}
 use Rattle.stamps.specs.declared.TimeRead.{TimeRead}
@@ -20,16 +21,17 @@ refusalAnswer number = number * 4294967296
 
 -- ---- what stands at a slot of the root
 
--- 1: nothing, 2: a plain file, 3: the label
-unfoldable pub standingTold : Standing → ℕ
-standingTold NeverUsed = 1
-standingTold Erased = 1
-standingTold Plain = 2
-standingTold Label = 3
+-- 1: nothing, 2: a plain file, 3: the label. Two entries of other systems are told apart from these, by the attribute: a plain
+-- file with bit 10 is a directory, 4; a label with the attribute 0F is a part of a long name, 5
+unfoldable pub standingTold : Standing → ℕ → ℕ
+standingTold NeverUsed attr = 1
+standingTold Erased attr = 1
+standingTold Plain attr = cond (hasBit attr 0x10) 4 2
+standingTold Label attr = cond (eqb attr 0x0F) 5 3
 
 -- 0: the kind has no such slot; "40: image not of a kind"
 unfoldable pub slotTold : WhichKind → List ℕ → ℕ → ℕ
-slotTold (Known k) img s = cond (leb (rootEntries k) s) 0 (standingTold (standingOf img (slotAt k s)))
+slotTold (Known k) img s = cond (leb (rootEntries k) s) 0 (standingTold (standingOf img (slotAt k s)) (attrOf img (slotAt k s)))
 slotTold Unknown img s = refusalAnswer 40
 
 -- ---- a stored date and a stored time; "43: a stamp out of its ranges"

@@ -1,4 +1,6 @@
 // What the command for members asks beside the scale's calls (tools/member.h): plain numbers and an image in, one number out.
+pub mod clusters;
+
 use directory::Standing;
 use diskette::WhichKind;
 use stamps::DateRead;
@@ -8,15 +10,15 @@ ghost use Rattle.stamps.specs.Stamps.{timeRead, dateRead};
 ghost use Rattle.diskette.specs.Images.{kindOfImage};
 ghost use Rattle.member.specs.Answers.{standingTold, slotTold, dateTold, timeTold};
 
-// What an entry stands for, as a number.
-fn standing_told(standing: Standing) -> u64
-    ensures { λ r. ⌜ r ≡ standingTold standing ⌝ }
+// What an entry with that attribute stands for, as a number.
+fn standing_told(standing: Standing, attr: u8) -> u64
+    ensures { λ r. ⌜ r ≡ standingTold standing attr ⌝ }
 {
     match standing {
         Standing::NeverUsed => 1,
         Standing::Erased => 1,
-        Standing::Plain => 2,
-        Standing::Label => 3,
+        Standing::Plain => { if directory::has_bit(attr, 0x10) { 4 } else { 2 } }
+        Standing::Label => { if attr == 0x0F { 5 } else { 3 } }
     }
 }
 
@@ -31,7 +33,8 @@ pub extern "C" fn member_slot(img: &[u8], slot: u32) -> u64
             if k.root_entries() <= s {
                 return 0;
             }
-            standing_told(directory::standing_at(img, k.slot_at(s)))
+            let a = k.slot_at(s);
+            standing_told(directory::standing_at(img, a), fields::attr_at(img, a))
         }
         WhichKind::Unknown => 40 * 4294967296,
     }

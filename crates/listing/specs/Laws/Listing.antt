@@ -1,10 +1,11 @@
 -- The listing by what check answers of the area.
-use Prim.Native.Nat.{ℕ, _+_, _*_, _≤_}
+use Prim.Native.Nat.{ℕ, _+_, _*_, _≤_, _<_}
 use native.Mathlib.Omega.{arith}
 use mathlib.Core.List.{List, []}
 use mathlib.Core.Path.{_≡_, sym, _∙_, ap, subst}
 use lib.Dec.{eqb}
 use lib.ListN.{length}
+use borrow.Author.Tests.{le-leb, lt-leb}
 use Rattle.image.specs.Laws.Store.{length-stored}
 use Rattle.diskette.specs.Kinds.{named, Usable}
 use Rattle.diskette.specs.Places.{clusters, rootEntries, rootAt}
@@ -22,7 +23,7 @@ use Rattle.sound.specs.declared.Verdict.the-variants.{Sound, Finding}
 use Rattle.lines.specs.Lines.{fileRoom, soundText, soundRoom, unsoundText, unsoundRoom}
 use Rattle.text.specs.Puts.{PutsIn}
 use Rattle.text.specs.Laws.Puts.{puts-then}
-use Rattle.listing.specs.Listing.{filesText, volumeText, listingBy, listingOf, listingRoom}
+use Rattle.listing.specs.Listing.{filesText, volumeText, listingBy, listingOf, listingRoom, Lists}
 
 -- ---- the four kinds have at most 112 slots
 
@@ -102,3 +103,13 @@ module _ (l : List ℕ) (w : WhichKind) (is : w ≡ kindOfArea l) where
 pub puts-finding : (l : List ℕ) (v : Verdict) (number place : ℕ) (o : List ℕ) (r : ℕ) (m : List ℕ)
     → CheckedArea l v → v ≡ Finding number place → PutsIn unsoundRoom (unsoundText number place) o 0 r m → PutsIn listingRoom (listingOf l) o 0 r m
 puts-finding l v number place o r m c t p = rw (listing-of-finding l number place (rw t at c)) (unsound-fits number place o r m p)
+
+-- ---- for C
+
+pub lists : (area l : List ℕ) (r : ℕ) (m : List ℕ) → listingRoom ≤ length l → PutsIn listingRoom (listingOf area) l 0 r m → Lists area l r m
+lists area l r m h p =
+    let room = le-leb listingRoom (length l) h in
+    record { count = rw room (p .puts .next ∙ omega arith); buffer = rw room (p .puts .stores) }
+
+pub lists-nothing : (area l : List ℕ) → length l < listingRoom → Lists area l 0 l
+lists-nothing area l h = let short = lt-leb listingRoom (length l) h in record { count = rw short; buffer = rw short }

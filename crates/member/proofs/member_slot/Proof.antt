@@ -22,6 +22,9 @@ slot-at-requires c κs = search (needs, kind-usable)
 standing-at-requires : tie.Need-standing-at-requires
 standing-at-requires c κs = search (needs, slot-within)
 
+attr-at-requires : tie.Need-attr-at-requires
+attr-at-requires c κs = search (needs, slot-within)
+
 standing-told-requires : tie.Need-standing-told-requires
 standing-told-requires c κs = search needs
 
@@ -47,6 +50,7 @@ member-slot-spec =
     returns
     slot-at-requires
     standing-at-requires
+    attr-at-requires
     standing-told-requires
     enum-told
     mul-result

@@ -1,11 +1,12 @@
 -- The answers in the form of the code's needs.
 use Prim.Native.Nat.{ℕ, _+_, _*_, _/_, _%_, _≤_, _<_}
 use native.Mathlib.Omega.{arith}
-use mathlib.Core.Bool.{false}
+use mathlib.Core.Bool.{Bool, true, false}
 use mathlib.Core.List.{List}
+use mathlib.Core.Logic.{_≢_}
 use mathlib.Core.Path.{_≡_, refl, sym, _∙_, ap}
 use lib.ListN.{length}
-use borrow.Author.Tests.{le-leb, lt-leb}
+use borrow.Author.Tests.{le-leb, lt-leb, ne-eqb}
 use Rattle.diskette.specs.Images.{kindOfImage}
 use Rattle.diskette.specs.Kinds.{Usable}
 use Rattle.diskette.specs.Places.{rootEntries, slotAt}
@@ -14,8 +15,10 @@ use Rattle.diskette.specs.Laws.Places.{slot-before-data}
 use Rattle.diskette.specs.declared.Kind.{Kind}
 use Rattle.diskette.specs.declared.WhichKind.{WhichKind}
 use Rattle.diskette.specs.declared.WhichKind.the-variants.{Known, Unknown}
-use Rattle.directory.specs.Slots.{standingOf}
+use Rattle.fields.specs.Fields.{attrOf}
+use Rattle.directory.specs.Slots.{standingOf, hasBit}
 use Rattle.directory.specs.declared.Standing.{Standing}
+use Rattle.directory.specs.declared.Standing.the-variants.{NeverUsed, Erased, Label, Plain}
 use Rattle.stamps.specs.Stamps.{timeRead, dateRead}
 use Rattle.stamps.specs.Laws.Ranges.{time-out, date-out}
 use Rattle.stamps.specs.Laws.Stamps.{read-no-time, read-no-date, time-again, date-again}
@@ -24,6 +27,35 @@ use Rattle.stamps.specs.declared.TimeRead.the-variants.{Time, NoTime}
 use Rattle.stamps.specs.declared.DateRead.{DateRead}
 use Rattle.stamps.specs.declared.DateRead.the-variants.{Date, NoDate}
 use Rattle.member.specs.Answers.{refusalAnswer, standingTold, slotTold, dateTold, timeTold}
+
+-- ---- an entry: b says whether it has bit 10
+
+module _ (m : Standing) (attr : ℕ) where
+  pub told-never-used : m ≡ NeverUsed → 1 ≡ standingTold m attr
+  unfolding standingTold
+  told-never-used e = rw e
+
+  pub told-erased : m ≡ Erased → 1 ≡ standingTold m attr
+  unfolding standingTold
+  told-erased e = rw e
+
+  module _ (b : Bool) (p : m ≡ Plain) (t : b ≡ hasBit attr 0x10) where
+    pub told-directory : b ≡ true → 4 ≡ standingTold m attr
+    unfolding standingTold
+    told-directory e = rw (p, ← t, e)
+
+    pub told-file : b ≡ false → 2 ≡ standingTold m attr
+    unfolding standingTold
+    told-file e = rw (p, ← t, e)
+
+  module _ (p : m ≡ Label) where
+    pub told-long-name : attr ≡ 0x0F → 5 ≡ standingTold m attr
+    unfolding standingTold
+    told-long-name e = rw (p, e)
+
+    pub told-label : attr ≢ 0x0F → 3 ≡ standingTold m attr
+    unfolding standingTold
+    told-label e = rw (p, ne-eqb attr 0x0F e)
 
 -- ---- a slot: r is the kind that was found
 
@@ -49,9 +81,9 @@ module _ (l : List ℕ) (s : ℕ) (r : WhichKind) (p : r ≡ kindOfImage l) wher
           let o = image-of-kind l k .0 (sym p ∙ q) in
           omega (arith, slot-before-data k kind-usable s (omega arith), image-has-area l k o kind-usable)
 
-      pub slot-told : (m : Standing) (x : ℕ) → m ≡ standingOf l a → x ≡ standingTold m → x ≡ slotTold (kindOfImage l) l s
+      pub slot-told : (m : Standing) (b x : ℕ) → m ≡ standingOf l a → b ≡ attrOf l a → x ≡ standingTold m b → x ≡ slotTold (kindOfImage l) l s
       unfolding slotTold
-      slot-told m x d y = told-on x (y ∙ rw (q, lt-leb (rootEntries k) s (omega arith), d, g))
+      slot-told m b x d t y = told-on x (y ∙ rw (q, lt-leb (rootEntries k) s (omega arith), d, t, g))
 
 -- ---- a stored date and a stored time: a is what was read
 

@@ -1,0 +1,173 @@
+/* The verb get: files of an image are copied to the machine, all or none. */
+#define _POSIX_C_SOURCE 200809L
+
+#include "verbs.h"
+
+#include "balladmoor.h"
+#include "entries.h"
+#include "refusal.h"
+#include "say.h"
+#include "wholefile.h"
+
+#include <stdio.h>
+#include <stdlib.h>
+#include <sys/stat.h>
+#include <unistd.h>
+
+/* The files, and where they go. */
+struct copies {
+    const struct bytes *image;
+    char **names;
+    int count;
+    const char *to; /* NULL: each to its own name here */
+    bool to_folder, dated;
+};
+
+static bool is_folder(const char *path)
+{
+    struct stat there;
+    return stat(path, &there) == 0 && S_ISDIR(there.st_mode);
+}
+
+/* The path of a copy, from malloc. */
+static char *path_of(const struct copies *copies, const char *name)
+{
+    const char *folder = copies->to_folder ? copies->to : "";
+    const char *last = copies->to == NULL || copies->to_folder ? name : copies->to;
+    const char *between = *folder == '\0' || folder[strlen(folder) - 1] == '/' ? "" : "/";
+    struct bytes path = new_bytes(strlen(folder) + strlen(last) + 1);
+    sprintf((char *)path.at, "%s%s%s", folder, between, last);
+    return (char *)path.at;
+}
+
+/* When a file of the image was last changed, in local time. False if its stamp is out of its ranges. */
+static bool find_stamp(const struct bytes *image, const char *name, time_t *changed)
+{
+    uint8_t stored[BM_ENTRY_SIZE] = {0};
+    uint64_t date, time;
+    struct tm parts = {0};
+    bm_entry(image->at, image->length, slot_of(image, name), stored, sizeof stored);
+    date = member_date(number_at(stored + BM_ENTRY_DATE, 2));
+    time = member_time(number_at(stored + BM_ENTRY_TIME, 2));
+    parts.tm_year = (int)(BM_VALUE(date) / 10000) - 1900;
+    parts.tm_mon = (int)(BM_VALUE(date) / 100 % 100) - 1;
+    parts.tm_mday = (int)(BM_VALUE(date) % 100);
+    parts.tm_hour = (int)(BM_VALUE(time) / 10000);
+    parts.tm_min = (int)(BM_VALUE(time) / 100 % 100);
+    parts.tm_sec = (int)(BM_VALUE(time) % 100);
+    parts.tm_isdst = -1;
+    *changed = mktime(&parts);
+    return BM_NUMBER(date) == 0 && BM_NUMBER(time) == 0;
+}
+
+/* ---- Files ---- */
+
+static enum status save(const struct copies *copies, const char *name)
+{
+    struct bytes contents;
+    char *path = path_of(copies, name);
+    time_t changed;
+    enum saved saved;
+    fetch_file(copies->image, name, &contents);
+    if (copies->dated && find_stamp(copies->image, name, &changed))
+        saved = make_dated(path, &contents, changed);
+    else
+        saved = make_whole(path, &contents);
+    free(contents.at);
+    free(path);
+    return status_of(saved);
+}
+
+/* Removes the first so many copies again. */
+static void undo(const struct copies *copies, int count)
+{
+    while (count-- > 0) {
+        char *path = path_of(copies, copies->names[count]);
+        unlink(path);
+        free(path);
+    }
+}
+
+static enum status save_all(const struct copies *copies)
+{
+    enum status status = DONE;
+    int n;
+    for (n = 0; n < copies->count; n++) {
+        enum status one = save(copies, copies->names[n]);
+        if (one == NOT_DONE) {
+            undo(copies, n);
+            return NOT_DONE;
+        }
+        if (one == NOT_CERTAIN)
+            status = NOT_CERTAIN;
+    }
+    return status;
+}
+
+/* ---- Standard output ---- */
+
+static enum status print_all(const struct copies *copies)
+{
+    struct bytes contents;
+    int n;
+    for (n = 0; n < copies->count; n++) {
+        fetch_file(copies->image, copies->names[n], &contents);
+        fwrite(contents.at, 1, contents.length, stdout);
+        free(contents.at);
+    }
+    return DONE;
+}
+
+/* ---- The verb ---- */
+
+/* Whether all of them can be read; says of the first that can't why. */
+static bool can_read(const struct copies *copies, const char *path)
+{
+    struct bytes contents;
+    int n;
+    for (n = 0; n < copies->count; n++) {
+        uint32_t number = fetch_file(copies->image, copies->names[n], &contents);
+        free(contents.at);
+        if (number != 0) {
+            say_refusal(READING, path, copies->names[n], number, copies->image);
+            return false;
+        }
+    }
+    return true;
+}
+
+/* IMAGE NAME, IMAGE NAME TO or IMAGE NAME NAME.. FOLDER. */
+static bool take_words(const struct order *order, struct copies *copies)
+{
+    bool has_to = order->count > 2;
+    copies->names = order->words + 1;
+    copies->count = order->count - (has_to ? 2 : 1);
+    copies->to = has_to ? order->words[order->count - 1] : NULL;
+    copies->to_folder = copies->to != NULL && is_folder(copies->to);
+    copies->dated = (order->options & KEEP_DATES) != 0;
+    if (copies->count > 1 && !copies->to_folder && !is_standard(copies->to)) {
+        say("%s: This is no folder. Several files go to a folder, such as . or to -.", copies->to);
+        return false;
+    }
+    if (copies->dated && copies->to != NULL && is_standard(copies->to)) {
+        say("-: Standard output has no date. Leave --keep-dates out.");
+        return false;
+    }
+    return true;
+}
+
+enum status get(const struct order *order)
+{
+    struct copies copies;
+    struct bytes image;
+    enum status status = NOT_DONE;
+    if (!take_words(order, &copies))
+        return USED_WRONGLY;
+    if (!read_whole(order->words[0], &image))
+        return NOT_DONE;
+    copies.image = &image;
+    if (can_read(&copies, order->words[0]))
+        status = copies.to != NULL && is_standard(copies.to) ? print_all(&copies) : save_all(&copies);
+    free(image.at);
+    return status;
+}

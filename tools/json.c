@@ -1,0 +1,128 @@
+#include "json.h"
+
+#include "entries.h"
+#include "finding.h"
+#include "map.h"
+#include "marks.h"
+
+#include <stdio.h>
+
+#define IMAGE image->at, image->length
+
+/* Names have no sign below a space here, and none above ~: spell_name sees to that. */
+static void print_string(const char *text)
+{
+    putchar('"');
+    for (; *text != '\0'; text++)
+        printf(*text == '"' || *text == '\\' ? "\\%c" : "%c", *text);
+    putchar('"');
+}
+
+static const char *bool_word(bool value)
+{
+    return value ? "true" : "false";
+}
+
+/* ---- check ---- */
+
+static void print_finding(const struct bytes *image, uint64_t checked)
+{
+    struct names names;
+    unsigned n;
+    find_names(image, checked, &names);
+    printf("{\"sound\":false,\"finding\":%u,\"place\":%u,\"names\":[", (unsigned)BM_NUMBER(checked),
+           (unsigned)BM_VALUE(checked));
+    for (n = 0; n < names.count; n++) {
+        printf(n == 0 ? "" : ",");
+        print_string(names.name[n]);
+    }
+    printf("],\"lost\":%u}\n", (unsigned)lost_clusters(image));
+}
+
+void print_check_json(const struct bytes *image, uint64_t checked, const uint8_t *counts)
+{
+    if (BM_NUMBER(checked) == 0)
+        printf("{\"sound\":true,\"files\":%u,\"free\":%u,\"held\":%u,\"aside\":%u}\n", (unsigned)number_at(counts, 4),
+               (unsigned)number_at(counts + 4, 4), (unsigned)number_at(counts + 8, 4),
+               (unsigned)number_at(counts + 12, 4));
+    else
+        print_finding(image, checked);
+}
+
+/* ---- list ---- */
+
+static void print_date(uint64_t date)
+{
+    unsigned ymd = BM_VALUE(date);
+    if (BM_NUMBER(date) == 0)
+        printf(",\"date\":\"%04u-%02u-%02u\"", ymd / 10000, ymd / 100 % 100, ymd % 100);
+    else
+        printf(",\"date\":null");
+}
+
+static void print_time(uint64_t time)
+{
+    unsigned hms = BM_VALUE(time);
+    if (BM_NUMBER(time) == 0)
+        printf(",\"time\":\"%02u:%02u:%02u\"", hms / 10000, hms / 100 % 100, hms % 100);
+    else
+        printf(",\"time\":null");
+}
+
+static void print_file(const struct entry *entry)
+{
+    char name[NAME_ROOM];
+    unsigned n;
+    printf("{\"name\":");
+    print_string(spell_name(entry->stored, name));
+    printf(",\"directory\":%s,\"size\":%lu", bool_word(entry->what == MEMBER_DIRECTORY), (unsigned long)size_of(entry));
+    print_date(member_date(number_at(entry->stored + BM_ENTRY_DATE, 2)));
+    print_time(member_time(number_at(entry->stored + BM_ENTRY_TIME, 2)));
+    for (n = 0; n < MARKS; n++)
+        printf(",\"%s\":%s", marks[n].key, bool_word(entry->stored[BM_ENTRY_ATTRIBUTE] & marks[n].bit));
+    printf("}");
+}
+
+/* The first label, null where there is none. */
+static void print_label(const struct bytes *image)
+{
+    struct entry entry;
+    char label[NAME_ROOM];
+    for (entry.slot = 0; next_entry(image, &entry); entry.slot++)
+        if (entry.what == MEMBER_LABEL) {
+            print_string(spell_label(entry.stored, label));
+            return;
+        }
+    printf("null");
+}
+
+static void print_files(const struct bytes *image)
+{
+    struct entry entry;
+    const char *between = "";
+    for (entry.slot = 0; next_entry(image, &entry); entry.slot++)
+        if (is_file(&entry)) {
+            printf("%s", between);
+            print_file(&entry);
+            between = ",";
+        }
+}
+
+uint32_t print_list_json(const struct bytes *image)
+{
+    uint8_t space[BM_SPACE_SIZE];
+    uint32_t number = BM_NUMBER(bm_free_space(IMAGE, space, sizeof space));
+    if (number == BM_NOT_OF_A_KIND)
+        return number;
+    printf("{\"sound\":%s,\"label\":", bool_word(number == 0));
+    print_label(image);
+    if (number == 0)
+        printf(",\"free\":%lu",
+               (unsigned long)number_at(space, 4) * number_at(space + 8, 4) * number_at(space + 12, 4));
+    else
+        printf(",\"free\":null");
+    printf(",\"files\":[");
+    print_files(image);
+    printf("]}\n");
+    return number;
+}

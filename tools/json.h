@@ -1,0 +1,13 @@
+/* What check and list print for programs: one object. `balladmoor help check` and `help list` say what is in it. */
+#ifndef JSON_H
+#define JSON_H
+
+#include "imagefile.h"
+
+/* What check answered; counts are its four words. */
+void print_check_json(const struct bytes *image, uint64_t checked, const uint8_t *counts);
+
+/* Answers 0, or the number of the refusal: as print_list. */
+uint32_t print_list_json(const struct bytes *image);
+
+#endif

@@ -1,0 +1,103 @@
+/* The verbs that only read an image. */
+#include "verbs.h"
+
+#include "balladmoor.h"
+#include "finding.h"
+#include "json.h"
+#include "map.h"
+#include "print.h"
+#include "refusal.h"
+#include "wholefile.h"
+
+#include <stdlib.h>
+
+enum status check(const struct order *order)
+{
+    struct bytes image;
+    uint8_t counts[BM_COUNTS_SIZE];
+    uint64_t answer;
+    if (!read_whole(order->words[0], &image))
+        return NOT_DONE;
+    answer = bm_check(IMAGE, counts, sizeof counts);
+    if (order->options & AS_JSON)
+        print_check_json(&image, answer, counts);
+    else if (BM_NUMBER(answer) == 0)
+        print_counts(order->words[0], counts);
+    else
+        say_finding(order->words[0], &image, answer);
+    free(image.at);
+    return BM_NUMBER(answer) == 0 ? DONE : NOT_SOUND;
+}
+
+/* The end of the others: frees the image, and says what was refused. */
+static enum status end(char **words, uint32_t number, struct bytes *image)
+{
+    enum status status = DONE;
+    if (number != 0) {
+        say_refusal(READING, words[0], words[1], number, image);
+        status = NOT_DONE;
+    }
+    free(image->at);
+    return status;
+}
+
+enum status list(const struct order *order)
+{
+    struct bytes image;
+    uint32_t number;
+    if (!read_whole(order->words[0], &image))
+        return NOT_DONE;
+    if (order->options & AS_JSON)
+        number = print_list_json(&image);
+    else if (order->options & AS_NAMES)
+        number = print_names(&image);
+    else
+        number = print_list(order->words[0], &image);
+    return end(order->words, number, &image);
+}
+
+enum status show_map(const struct order *order)
+{
+    struct bytes image;
+    if (!read_whole(order->words[0], &image))
+        return NOT_DONE;
+    return end(order->words, print_map(&image), &image);
+}
+
+enum status show_free(const struct order *order)
+{
+    struct bytes image;
+    uint8_t space[BM_SPACE_SIZE];
+    uint64_t answer;
+    if (!read_whole(order->words[0], &image))
+        return NOT_DONE;
+    answer = bm_free_space(IMAGE, space, sizeof space);
+    if (BM_NUMBER(answer) == 0)
+        print_space(space);
+    return end(order->words, BM_NUMBER(answer), &image);
+}
+
+enum status show(const struct order *order)
+{
+    struct bytes image, contents;
+    uint32_t number;
+    if (!read_whole(order->words[0], &image))
+        return NOT_DONE;
+    number = fetch_file(&image, order->words[1], &contents);
+    if (number == 0)
+        print_bytes(&contents);
+    free(contents.at);
+    return end(order->words, number, &image);
+}
+
+enum status ask_mode(const struct order *order)
+{
+    struct bytes image;
+    uint64_t answer;
+    if (!read_whole(order->words[0], &image))
+        return NOT_DONE;
+    answer = bm_mode(IMAGE, NO_TABLE, NAME(order->words[1]), BM_MODE_ASK, 0);
+    if (BM_NUMBER(answer) == 0)
+        print_attribute(BM_VALUE(answer));
+    return end(order->words, BM_NUMBER(answer), &image);
+}
