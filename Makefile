@@ -88,11 +88,10 @@ DIST = target/dist
 RELEASE = balladmoor-$(VERSION)-x86_64-linux
 EPOCH = $${SOURCE_DATE_EPOCH:-$$(git log -1 --format=%ct || stat -c %Y VERSION)}
 
-dist:
+dist: listing
 	rm -rf $(DIST)/$(RELEASE)
 	$(MAKE) install DESTDIR=$(abspath $(DIST))/ PREFIX=$(RELEASE) PC_PREFIX='$$$${pcfiledir}/../..'
-	tests/product.sh listing
-	install -m 755 -t $(DIST)/$(RELEASE)/bin target/bin/listing
+	install -m 755 -t $(DIST)/$(RELEASE)/bin $(OUT)/listing
 	tar -C $(DIST) --sort=name --mtime=@$(EPOCH) --owner=0 --group=0 --numeric-owner --mode=u+w,go=rX -I 'gzip -9n' \
 		-cf $(DIST)/$(RELEASE).tar.gz $(RELEASE)
 
