@@ -9,16 +9,18 @@ use lib.ListN.{length, take}
 use Rattle.image.specs.Store.{stored}
 use Rattle.chains.specs.Check.{ownsb}
 use Rattle.chains.specs.Chain.{Chain}
+use Rattle.chains.specs.Content.{content}
 use Rattle.chains.specs.Holders.{Holder, Owns, fileHolder}
 use Rattle.chains.specs.Sizes.{Geometry, clustersFor, fits}
 use Rattle.chains.specs.Tests.{Says}
 use Rattle.chains.specs.Laws.Check.{says-owned}
 use Rattle.chains.specs.Laws.Clusters.{owns-file, file-owns}
+use Rattle.chains.specs.Laws.Content.{content-length}
 use Rattle.chains.specs.Laws.Holders.{file-fits}
 use Rattle.chains.specs.Laws.Tests.{says-not, says-map, says-true, false-says, not-false}
 use Rattle.chains.specs.Laws.Walk.{chain-walk}
 use Rattle.contents.specs.Contents.{chainFrom, fetched}
-use Rattle.contents.specs.Laws.Chain.{chain-is}
+use Rattle.contents.specs.Laws.Chain.{chain-is, chain-room}
 use Rattle.contents.specs.Laws.Read.{fetched-content}
 use Rattle.diskette.specs.Images.{kindOfImage}
 use Rattle.diskette.specs.Places.{firstData, clusterBytes, lastCluster, slotAt}
@@ -27,7 +29,7 @@ use Rattle.diskette.specs.declared.WhichKind.the-variants.{Known}
 use Rattle.fields.specs.Fields.{startOf, sizeOf}
 use Rattle.table.specs.Entries.{tableOf}
 use Rattle.chaincheck.specs.Entries.{badChainSlot}
-use Rattle.sound.specs.Files.{valueOf}
+use Rattle.sound.specs.Files.{valueOf, ChainOf}
 use Rattle.sound.specs.Findings.{BadChain}
 use Rattle.sound.specs.Laws.Geometry.{geometry}
 use Rattle.sound.specs.Laws.Holders.{plain-holder}
@@ -111,3 +113,18 @@ module _ (img : List ℕ) (k : Kind) (e : kindOfImage img ≡ Known k) (slot : �
           let p = fetched-content (512 * firstData k) (clusterBytes k) (lastCluster k) img (holder .start) (clusters-inside img k e) 0 n
           (sizeOf img (slotAt k slot)) (omega arith) holds-file in
           rw (q, fe, ce, le, se, ae, p)
+
+    -- ---- what it means: the bytes put are the file's, by the clusters that are its chain, and as many as its size says
+
+    pub held-long : length (fileBytes k img slot) ≡ sizeOf img (slotAt k slot)
+    unfolding fileBytes
+    held-long = content-length (512 * firstData k) (clusterBytes k) (G .wide) img (fileChain k img slot) (sizeOf img (slotAt k slot))
+        (chain-room (512 * firstData k) (clusterBytes k) (lastCluster k) img (holder .start) (clusters-inside img k e)) holds-file
+
+  pub held-by : (cs : List ℕ) → ChainOf k img slot cs
+      → fileBytes k img slot ≡ content (512 * firstData k) (clusterBytes k) img cs (sizeOf img (slotAt k slot))
+  unfolding fileBytes
+  held-by cs c =
+      let o : Owns (lastCluster k) f holder cs = file-owns (lastCluster k) (clusterBytes k) (G .wide) f _ _ cs c in
+      ap (λ (ds : List ℕ). content (512 * firstData k) (clusterBytes k) img ds (sizeOf img (slotAt k slot)))
+      (chain-is (512 * firstData k) (clusterBytes k) (lastCluster k) img (holder .start) (clusters-inside img k e) cs (o .chain))

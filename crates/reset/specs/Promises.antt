@@ -1,0 +1,43 @@
+-- What stands after a reset in the middle of a save, and what rescue brings off the disk. w is the world at the last save that
+-- ended.
+use Prim.Native.Nat.{ℕ}
+use mathlib.Core.List.{List, []}
+use mathlib.Core.Path.{_≡_}
+use lib.ListN.{length, take}
+use Rattle.image.specs.Store.{stored}
+use Rattle.diskette.specs.declared.Kind.{Kind}
+use Rattle.names.specs.Spelling.{Means}
+use Rattle.sound.specs.Files.{IsFile}
+use Rattle.calls.specs.Outcome.{Outcome, outcome}
+use Rattle.rescuing.specs.Rescue.{rescueCount, rescueOutcome}
+use Rattle.changes.specs.Files.{File, Holds}
+use Rattle.history.specs.Promises.{Given, AllGiven, Begins}
+use Rattle.history.specs.Tare.{Tare, NoModeSet}
+use Rattle.history.specs.World.{World, Call, Names, step, run}
+use Rattle.reset.specs.Torn.{Torn, Stands}
+
+-- after any run of calls in which none sets the tare's mode, and a save cut short, the tare stands on the disk
+abbrev pub TareThroughReset : Type 0
+TareThroughReset = (k : Kind) (w : World) → Begins k w → (s : ℕ) → Tare k w s → (cs : List Call) → AllGiven cs → NoModeSet w cs s
+    → (m : List ℕ) → Torn (w .image) (run w cs .image) m → Stands k s (w .image) m
+
+-- after one call since the last save, so does every file that the call does not name
+abbrev pub OthersThroughReset : Type 0
+OthersThroughReset = (k : Kind) (w : World) → Begins k w → (c : Call) → Given c → (s : ℕ) → IsFile k (w .image) s → ¬ Names c w s
+    → (m : List ℕ) → Torn (w .image) (step w c .image) m → Stands k s (w .image) m
+
+-- what rescue answers where it gives these bytes: as many as out allows, to the front of out
+abbrev pub giving : List ℕ → List ℕ → List ℕ → Outcome
+giving m out bytes = let n = rescueCount (length out) (length bytes) in outcome 0 n m [] (stored out 0 (take n bytes))
+
+-- on each such disk rescue gives the tare, byte for byte, by any spelling of its name
+abbrev pub RescuedAfterReset : Type 0
+RescuedAfterReset = (k : Kind) (w : World) → Begins k w → (s : ℕ) → Tare k w s → (cs : List Call) → AllGiven cs → NoModeSet w cs s
+    → (m : List ℕ) → Torn (w .image) (run w cs .image) m
+    → (f : File) → Holds k (w .image) s f → (name : List ℕ) → Means name (f .name) → (out : List ℕ) → rescueOutcome m name out ≡ giving m out (f .bytes)
+
+-- and after one call every file that the call does not name
+abbrev pub OthersRescuedAfterReset : Type 0
+OthersRescuedAfterReset = (k : Kind) (w : World) → Begins k w → (c : Call) → Given c → (s : ℕ) → ¬ Names c w s
+    → (m : List ℕ) → Torn (w .image) (step w c .image) m
+    → (f : File) → Holds k (w .image) s f → (name : List ℕ) → Means name (f .name) → (out : List ℕ) → rescueOutcome m name out ≡ giving m out (f .bytes)
