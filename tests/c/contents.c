@@ -239,7 +239,7 @@ static void try_rescue(void)
     leaves(&d, rescue_file(&d, "DAY/002", out.bytes, 8), BM_BAD_NAME, 0, "a name that breaks the rules: 42");
     leaves(&d, rescue_file(&d, "DAY002.LOG", out.bytes, 8), BM_FILE_NOT_FOUND, 0, "no such file: 2");
     spoil(&d, ROOT + 32 * DAY + 29, 2);
-    leaves(&d, rescue_file(&d, "DAY001.LOG", out.bytes, 8), BM_ACCESS_DENIED, 0, "a cluster more than the size needs: 5");
+    leaves(&d, rescue_file(&d, "DAY001.LOG", out.bytes, 8), BM_ACCESS_DENIED, 0, "a cluster too many for the size: 5");
     spoil(&d, COPY_1, 0xFD);
     leaves(&d, rescue_file(&d, "DAY001.LOG", out.bytes, 8), BM_NOT_OF_A_KIND, 0, "an image of no kind: 40");
     expect(all_are(out.bytes, 8, OLD_BYTE) && guards_stand(&out), "a refusal leaves out");

@@ -9,11 +9,11 @@ use crate::volumes::random_calls::{buffer_for, odd_call, random_call, random_nam
 use crate::volumes::scenes::any_scene;
 
 const SCENES: u64 = 16;
-const CALLS_ON_A_SCENE: u64 = 27;
+const CALLS_ON_A_SCENE: u64 = 29;
 
 /// The first calls on a scene: rescue alone does not refuse a volume that is
 /// not sound.
-const RESCUES: u64 = 2;
+const RESCUES: u64 = 4;
 
 /// The single calls of a seed.
 pub const CALLS: u64 = SCENES * CALLS_ON_A_SCENE;
