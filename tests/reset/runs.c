@@ -1,4 +1,4 @@
-/* Runs of calls and single calls from a seed, on volumes of each kind, and all disks that a save cut short may leave. */
+/* Runs of calls and single calls from a seed, on volumes of each kind, and the disks that a save cut short may leave. */
 #include "checks.h"
 
 #include <stdio.h>

@@ -1,5 +1,4 @@
--- What stands after a reset in the middle of a save, and what rescue brings off the disk. w is the world at the last save that
--- ended.
+-- What stands after a reset in the middle of a save, and what rescue brings off the disk.
 use Prim.Native.Nat.{ℕ}
 use mathlib.Core.List.{List, []}
 use mathlib.Core.Path.{_≡_}
@@ -16,12 +15,19 @@ use Rattle.history.specs.Tare.{Tare, NoModeSet}
 use Rattle.history.specs.World.{World, Call, Names, step, run}
 use Rattle.reset.specs.Torn.{Torn, Stands}
 
--- after any run of calls in which none sets the tare's mode, and a save cut short, the tare stands on the disk
-abbrev pub TareThroughReset : Type 0
-TareThroughReset = (k : Kind) (w : World) → Begins k w → (s : ℕ) → Tare k w s → (cs : List Call) → AllGiven cs → NoModeSet w cs s
-    → (m : List ℕ) → Torn (w .image) (run w cs .image) m → Stands k s (w .image) m
+-- m is a disk that a run may leave: cs are its calls up to the last save that ended, ds those since, and none sets the mode of
+-- the file in slot s
+pub record LeftByRun (w : World) (s : ℕ) (cs ds : List Call) (m : List ℕ) : Type 0 where
+  pub given : AllGiven cs × AllGiven ds
+  pub no-mode : NoModeSet w cs s × NoModeSet (run w cs) ds s
+  pub torn : Torn (run w cs .image) (run (run w cs) ds .image) m
 
--- after one call since the last save, so does every file that the call does not name
+-- on each such disk the tare stands as it was when the run began
+abbrev pub TareThroughReset : Type 0
+TareThroughReset = (k : Kind) (w : World) → Begins k w → (s : ℕ) → Tare k w s → (cs ds : List Call) (m : List ℕ) → LeftByRun w s cs ds m
+    → Stands k s (w .image) m
+
+-- after one call since the last save, so does every file that the call does not name: w is the world then
 abbrev pub OthersThroughReset : Type 0
 OthersThroughReset = (k : Kind) (w : World) → Begins k w → (c : Call) → Given c → (s : ℕ) → IsFile k (w .image) s → ¬ Names c w s
     → (m : List ℕ) → Torn (w .image) (step w c .image) m → Stands k s (w .image) m
@@ -30,10 +36,9 @@ OthersThroughReset = (k : Kind) (w : World) → Begins k w → (c : Call) → Gi
 abbrev pub giving : List ℕ → List ℕ → List ℕ → Outcome
 giving m out bytes = let n = rescueCount (length out) (length bytes) in outcome 0 n m [] (stored out 0 (take n bytes))
 
--- on each such disk rescue gives the tare, byte for byte, by any spelling of its name
+-- on each disk that a run may leave rescue gives the tare, byte for byte, by any spelling of its name
 abbrev pub RescuedAfterReset : Type 0
-RescuedAfterReset = (k : Kind) (w : World) → Begins k w → (s : ℕ) → Tare k w s → (cs : List Call) → AllGiven cs → NoModeSet w cs s
-    → (m : List ℕ) → Torn (w .image) (run w cs .image) m
+RescuedAfterReset = (k : Kind) (w : World) → Begins k w → (s : ℕ) → Tare k w s → (cs ds : List Call) (m : List ℕ) → LeftByRun w s cs ds m
     → (f : File) → Holds k (w .image) s f → (name : List ℕ) → Means name (f .name) → (out : List ℕ) → rescueOutcome m name out ≡ giving m out (f .bytes)
 
 -- and after one call every file that the call does not name

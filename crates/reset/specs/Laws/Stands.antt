@@ -17,7 +17,7 @@ use Rattle.reset.specs.Torn.{Torn, Stands}
 use Rattle.reset.specs.Aids.Same.{SameIn}
 use Rattle.reset.specs.Laws.Bytes.{byte-kept}
 use Rattle.reset.specs.Laws.Names.{torn-alone}
-use Rattle.reset.specs.Laws.Same.{same-torn, same-file, same-holds}
+use Rattle.reset.specs.Laws.Same.{same-then, same-torn, same-file, same-holds}
 
 module _ (k : Kind) (old new m : List ℕ) (vo : OnVolume old k) (vn : OnVolume new k) (t : Torn old new m) where
   -- the disk is of the kind
@@ -31,15 +31,18 @@ module _ (k : Kind) (old new m : List ℕ) (vo : OnVolume old k) (vn : OnVolume 
         byte = byte-kept old new m t 512 (n .byte ∙ sym (o .byte)) ∙ o .byte;
       })
 
-  pub torn-stands : Bytes old → Bytes new → (s : ℕ) → IsFile k old s → (cs : List ℕ) → ChainOf k old s cs → SameIn k s cs old new → Stands k s old m
-  torn-stands bo bn s i cs own x =
-      let y = same-torn k s cs old new m bo bn t x in
-      let mine : (c : ℕ) → InChain k old s c → c ∈ cs
-      = λ c r. subst (λ (xs : List ℕ). c ∈ xs) (chain-only k (on-usable old k vo) old s (r .1 .0) cs (r .1 .1) own) (r .1 .2) in
-      record {
-        entry = y .entry;
-        values = λ c r. y .values c (mine c r);
-        bytes = λ c q r. y .bytes c q (mine c r);
-        file = same-holds k old vo s i cs own m y;
-        alone = torn-alone k old new m vo vn t s (same-file k old vo s i cs own m y) (x .entry);
-      }
+  -- l is an earlier image, which has the file with the clusters cs
+  module _ (l : List ℕ) (v : OnVolume l k) (s : ℕ) (i : IsFile k l s) (cs : List ℕ) (own : ChainOf k l s cs) where
+    mine : (c : ℕ) → InChain k l s c → c ∈ cs
+    mine c r = subst (λ (xs : List ℕ). c ∈ xs) (chain-only k (on-usable l k v) l s (r .1 .0) cs (r .1 .1) own) (r .1 .2)
+
+    pub torn-stands : Bytes old → Bytes new → SameIn k s cs l old → SameIn k s cs old new → Stands k s l m
+    torn-stands bo bn x y =
+        let z = same-then k s cs l old m x (same-torn k s cs old new m bo bn t y) in
+        record {
+          entry = z .entry;
+          values = λ c r. z .values c (mine c r);
+          bytes = λ c q r. z .bytes c q (mine c r);
+          file = same-holds k l v s i cs own m z;
+          alone = torn-alone k old new m vo vn t s (same-file k l v s i cs own m z) (y .entry);
+        }
