@@ -83,7 +83,7 @@ static void try_neighbour(void)
     uint32_t tare;
     size_t n;
     begin(&desk, &kinds[2], 2);
-    tare = make(&desk, tare_name, BM_READ_ONLY);
+    tare = make(&desk, names[0], BM_READ_ONLY);
     add_file(&desk, "A", 512 * (SEAM - 3)); /* 2 to 339 */
     add_file(&desk, "DAY001.LOG", 512);     /* 340 */
     for (n = 0; n < sizeof byte; n++)

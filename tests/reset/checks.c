@@ -34,5 +34,5 @@ int gives_tare(const uint8_t *disk, size_t length, size_t count)
     size_t n;
     for (n = 0; n < count; n++)
         tare[n] = tare_byte(n);
-    return gives(disk, length, tare_name, tare, count);
+    return gives(disk, length, names[0], tare, count);
 }

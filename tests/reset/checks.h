@@ -16,8 +16,7 @@ int gives_tare(const uint8_t *disk, size_t length, size_t count);
 
 /* ---- The tests ---- */
 
-void try_runs(void);
-void try_single_calls(void);
 void try_cases(void);
+void try_runs(void);
 
 #endif

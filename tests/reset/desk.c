@@ -10,11 +10,9 @@ const struct kind kinds[4] = {
     {BM_KIND_FD, BM_IMAGE_SIZE_FD, 1024, 355},
 };
 
-const char tare_name[] = "TARE.KEY";
+const char *const names[NAMES] = {"TARE.KEY", "NOTES.TXT", "DAY001.LOG", "DAY002.LOG", "DAY003.LOG", "A", "B.C"};
 
-static const char *const names[] = {"DAY001.LOG", "DAY002.LOG", "DAY003.LOG", "A", "B.C", "NOTES.TXT", "TARE.KEY"};
-
-enum { NAMES = sizeof names / sizeof *names, PIECE_MOST = 4000 };
+enum { PIECE_MOST = 4000 };
 
 /* ---- Random numbers: the generator known as SplitMix64 ---- */
 
@@ -87,7 +85,7 @@ uint8_t tare_byte(size_t n)
 void add_tare(struct desk *desk, size_t length)
 {
     uint8_t piece[700], other[700];
-    uint32_t tare = make(desk, tare_name, BM_READ_ONLY), notes = make(desk, "NOTES.TXT", 0);
+    uint32_t tare = make(desk, names[0], BM_READ_ONLY), notes = make(desk, names[1], 0);
     size_t done, now, n;
     fill(desk, other, sizeof other);
     for (done = 0; done < length; done += now) {
@@ -103,44 +101,34 @@ void add_tare(struct desk *desk, size_t length)
 
 /* ---- Calls ---- */
 
-static const char *some_name(struct desk *desk)
-{
-    return names[below(desk, NAMES)];
-}
-
-/* The call names this file. */
-static const char *naming(struct desk *desk, const char *name)
-{
-    strcpy(desk->named, name);
-    return name;
-}
-
 /* Notes by which name a place was opened. */
-static void note_opened(struct desk *desk, uint64_t answer, const char *name)
+static void note_opened(struct desk *desk, uint64_t answer, size_t name)
 {
     if (BM_NUMBER(answer) == 0)
-        strcpy(desk->opened[BM_VALUE(answer)], name);
+        desk->opened[BM_VALUE(answer)] = name;
 }
 
 static void call_on_name(struct desk *desk)
 {
-    const char *name = naming(desk, some_name(desk));
+    size_t n = below(desk, NAMES);
+    const char *name = names[n];
     uint32_t attribute = below(desk, 4) == 0 ? BM_READ_ONLY : 0;
+    desk->named[n] = 1;
     switch (below(desk, 5)) {
     case 0:
-        note_opened(desk, bm_create(IMAGE, TABLE, NAME(name), attribute, STAMP), name);
+        note_opened(desk, bm_create(IMAGE, TABLE, NAME(name), attribute, STAMP), n);
         break;
     case 1:
-        note_opened(desk, bm_open(IMAGE, TABLE, NAME(name), below(desk, 3)), name);
+        note_opened(desk, bm_open(IMAGE, TABLE, NAME(name), below(desk, 3)), n);
         break;
     case 2:
         bm_delete(IMAGE, TABLE, NAME(name));
         break;
     case 3:
-        bm_rename(IMAGE, TABLE, NAME(name), NAME(some_name(desk)));
+        bm_rename(IMAGE, TABLE, NAME(name), NAME(names[below(desk, NAMES)]));
         break;
     default:
-        if (strcmp(name, tare_name) != 0)
+        if (n != 0)
             bm_mode(IMAGE, TABLE, NAME(name), BM_MODE_SET, attribute);
     }
 }
@@ -149,7 +137,7 @@ static void call_on_handle(struct desk *desk)
 {
     static uint8_t bytes[PIECE_MOST];
     uint32_t handle = below(desk, PLACES), length = below(desk, PIECE_MOST);
-    naming(desk, desk->opened[handle]);
+    desk->named[desk->opened[handle]] = 1;
     switch (below(desk, 6)) {
     case 0:
         bm_read(IMAGE, TABLE, handle, bytes, length);

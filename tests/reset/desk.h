@@ -6,7 +6,7 @@
 
 #include <string.h>
 
-enum { SECTOR = 512, SECTORS_MOST = 720, IMAGE_MOST = SECTOR * SECTORS_MOST, PLACES = 4, NAME_MOST = 13 };
+enum { SECTOR = 512, SECTORS_MOST = 720, IMAGE_MOST = SECTOR * SECTORS_MOST, PLACES = 4, NAMES = 7 };
 
 struct kind {
     uint32_t byte;
@@ -16,11 +16,14 @@ struct kind {
 
 extern const struct kind kinds[4];
 
+/* The names that calls are made with; the first is the tare's. */
+extern const char *const names[NAMES];
+
 struct desk {
     const struct kind *kind;
     uint8_t image[IMAGE_MOST], table[BM_TABLE_SIZE(PLACES)];
-    char opened[PLACES][NAME_MOST]; /* by which name each place was opened */
-    char named[NAME_MOST];          /* the file that the last call named, or "" */
+    size_t opened[PLACES]; /* by which name each place was opened last */
+    int named[NAMES];      /* whether a call named that file */
     uint64_t random;
 };
 
@@ -51,8 +54,6 @@ void add_file(struct desk *desk, const char *name, size_t length);
 
 /* ---- The tare ---- */
 
-extern const char tare_name[];
-
 /* TARE.KEY of so many bytes, read-only and closed. Pieces of another file are written between its own. */
 void add_tare(struct desk *desk, size_t length);
 
@@ -61,7 +62,7 @@ uint8_t tare_byte(size_t n);
 
 /* ---- Calls ---- */
 
-/* One call of any sort, which may be refused. None sets the tare's mode. desk->named is the file that it names. */
+/* One call of any sort, which may be refused. None sets the tare's mode. desk->named notes the file that it names. */
 void any_call(struct desk *desk);
 
 #endif

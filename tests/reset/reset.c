@@ -7,7 +7,6 @@ int main(void)
 {
     try_cases();
     try_runs();
-    try_single_calls();
     printf("%d passed, %d failed\n", passed, failed);
     return failed == 0 ? 0 : 1;
 }

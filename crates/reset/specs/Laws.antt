@@ -6,3 +6,5 @@ pub mod Stands
 pub mod Rescued
 pub mod AsRead
 pub mod Runs
+pub mod Tare
+pub mod Others

@@ -1,6 +1,6 @@
 -- What stands after a reset in the middle of a save, and what rescue brings off the disk.
 use Prim.Native.Nat.{ℕ}
-use mathlib.Core.List.{List, []}
+use mathlib.Core.List.{List, [], _∷_}
 use mathlib.Core.Path.{_≡_}
 use lib.ListN.{length, take}
 use Rattle.image.specs.Store.{stored}
@@ -10,7 +10,7 @@ use Rattle.sound.specs.Files.{IsFile}
 use Rattle.calls.specs.Outcome.{Outcome, outcome}
 use Rattle.rescuing.specs.Rescue.{rescueCount, rescueOutcome}
 use Rattle.changes.specs.Files.{File, Holds}
-use Rattle.history.specs.Promises.{Given, AllGiven, Begins}
+use Rattle.history.specs.Promises.{AllGiven, Begins}
 use Rattle.history.specs.Tare.{Tare, NoModeSet}
 use Rattle.history.specs.World.{World, Call, Names, step, run}
 use Rattle.reset.specs.Torn.{Torn, Stands}
@@ -27,10 +27,15 @@ abbrev pub TareThroughReset : Type 0
 TareThroughReset = (k : Kind) (w : World) → Begins k w → (s : ℕ) → Tare k w s → (cs ds : List Call) (m : List ℕ) → LeftByRun w s cs ds m
     → Stands k s (w .image) m
 
--- after one call since the last save, so does every file that the call does not name: w is the world then
+-- no call of a run names the file in slot s, each in the world that it meets
+abbrev pub NoneNames : World → List Call → ℕ → Type 0
+NoneNames w [] s = Unit {0}
+NoneNames w (c ∷ cs) s = (¬ Names c w s) × NoneNames (step w c) cs s
+
+-- so does every file that no call since the last save names, be it one call or many: w is the world at that save
 abbrev pub OthersThroughReset : Type 0
-OthersThroughReset = (k : Kind) (w : World) → Begins k w → (c : Call) → Given c → (s : ℕ) → IsFile k (w .image) s → ¬ Names c w s
-    → (m : List ℕ) → Torn (w .image) (step w c .image) m → Stands k s (w .image) m
+OthersThroughReset = (k : Kind) (w : World) → Begins k w → (cs : List Call) → AllGiven cs → (s : ℕ) → IsFile k (w .image) s → NoneNames w cs s
+    → (m : List ℕ) → Torn (w .image) (run w cs .image) m → Stands k s (w .image) m
 
 -- what rescue answers where it gives these bytes: as many as out allows, to the front of out
 abbrev pub giving : List ℕ → List ℕ → List ℕ → Outcome
@@ -41,8 +46,8 @@ abbrev pub RescuedAfterReset : Type 0
 RescuedAfterReset = (k : Kind) (w : World) → Begins k w → (s : ℕ) → Tare k w s → (cs ds : List Call) (m : List ℕ) → LeftByRun w s cs ds m
     → (f : File) → Holds k (w .image) s f → (name : List ℕ) → Means name (f .name) → (out : List ℕ) → rescueOutcome m name out ≡ giving m out (f .bytes)
 
--- and after one call every file that the call does not name
+-- and every file that no call since the last save names
 abbrev pub OthersRescuedAfterReset : Type 0
-OthersRescuedAfterReset = (k : Kind) (w : World) → Begins k w → (c : Call) → Given c → (s : ℕ) → ¬ Names c w s
-    → (m : List ℕ) → Torn (w .image) (step w c .image) m
+OthersRescuedAfterReset = (k : Kind) (w : World) → Begins k w → (cs : List Call) → AllGiven cs → (s : ℕ) → NoneNames w cs s
+    → (m : List ℕ) → Torn (w .image) (run w cs .image) m
     → (f : File) → Holds k (w .image) s f → (name : List ℕ) → Means name (f .name) → (out : List ℕ) → rescueOutcome m name out ≡ giving m out (f .bytes)
