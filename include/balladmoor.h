@@ -259,6 +259,17 @@ uint64_t bm_mode(uint8_t *image, size_t image_length, const uint8_t *table, size
 uint64_t bm_view_number(const uint8_t *image, size_t image_length, const uint8_t *name, size_t name_length,
                         uint32_t offset);
 
+/* Reads a file off a volume that need not be sound, through the file's own chain of clusters. It is for a volume that
+ * the other calls refuse by 41, as a reset in the middle of a save may leave it.
+ *
+ * The file's first bytes come to the front of out, as many as out and file allow: here an out that is too short is
+ * filled. The rest of out stays. Where several plain files have the name, the one in the lowest slot counts.
+ *
+ * Value: how many bytes.
+ * Refusals: 40; 42; 2; 5 if the file's chain does not fit its size, as in finding 5 of bm_check. */
+uint64_t bm_rescue(const uint8_t *image, size_t image_length, const uint8_t *name, size_t name_length, uint8_t *out,
+                   size_t out_length);
+
 #ifdef __cplusplus
 }
 #endif

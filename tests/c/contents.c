@@ -1,5 +1,5 @@
-/* The calls on the bytes of a file: read, write, seek and view's number. After each call the whole image, the whole
- * table and the buffer are compared with what they must be. */
+/* The calls on the bytes of a file: read, write, seek, view's number and rescue. After each call the whole image, the
+ * whole table and the buffer are compared with what they must be. */
 #include "desk.h"
 
 #include <stdio.h>
@@ -205,6 +205,48 @@ static void try_view_number(void)
     put_away(&d);
 }
 
+/* ---- Rescue ---- */
+
+/* Rescues the day's file into length bytes; count of them, the file's first, must come to the front. */
+static void rescues(struct desk *d, const char *name, size_t length, size_t count, const char *what)
+{
+    struct block out = new_block(length);
+    size_t n;
+    int same = 1;
+    leaves(d, rescue_file(d, name, out.bytes, length), 0, (uint32_t)count, what);
+    for (n = 0; n < count; n++)
+        same = same && out.bytes[n] == day_byte(n);
+    expect(same && all_are(out.bytes + count, length - count, OLD_BYTE) && guards_stand(&out), ".. those bytes");
+    free(out.all);
+}
+
+/* Changes a byte of the image, and what it must be. */
+static void spoil(struct desk *d, size_t at, uint8_t byte)
+{
+    d->image.bytes[at] = d->wanted_image.bytes[at] = byte;
+}
+
+static void try_rescue(void)
+{
+    struct desk d = new_desk(lay_out_scattered, 0);
+    struct block out = new_block(8);
+    puts("-- rescue");
+    rescues(&d, "DAY001.LOG", 2000, 1025, "all the file, off a sound volume");
+    rescues(&d, "day001.log", 600, 600, "600 bytes of it");
+    rescues(&d, "DAY001.LOG", 0, 0, "none");
+    spoil(&d, COPY_2, 0);
+    rescues(&d, "DAY001.LOG", 2000, 1025, "all the file, though the copies of the table differ");
+    leaves(&d, rescue_file(&d, "DAY/002", out.bytes, 8), BM_BAD_NAME, 0, "a name that breaks the rules: 42");
+    leaves(&d, rescue_file(&d, "DAY002.LOG", out.bytes, 8), BM_FILE_NOT_FOUND, 0, "no such file: 2");
+    spoil(&d, ROOT + 32 * DAY + 29, 2);
+    leaves(&d, rescue_file(&d, "DAY001.LOG", out.bytes, 8), BM_ACCESS_DENIED, 0, "a cluster too many for the size: 5");
+    spoil(&d, COPY_1, 0xFD);
+    leaves(&d, rescue_file(&d, "DAY001.LOG", out.bytes, 8), BM_NOT_OF_A_KIND, 0, "an image of no kind: 40");
+    expect(all_are(out.bytes, 8, OLD_BYTE) && guards_stand(&out), "a refusal leaves out");
+    free(out.all);
+    put_away(&d);
+}
+
 void try_contents(void)
 {
     try_read();
@@ -214,4 +256,5 @@ void try_contents(void)
     try_write_all();
     try_seek();
     try_view_number();
+    try_rescue();
 }

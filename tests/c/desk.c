@@ -123,6 +123,11 @@ uint64_t view_number(struct desk *desk, const char *name, uint32_t offset)
     return bm_view_number(IMAGE, NAME(name), offset);
 }
 
+uint64_t rescue_file(struct desk *desk, const char *name, uint8_t *out, size_t length)
+{
+    return bm_rescue(IMAGE, NAME(name), out, length);
+}
+
 void lay_out_blank_fe(uint8_t *image)
 {
     lay_out_blank(&kinds[0], image);

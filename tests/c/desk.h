@@ -51,6 +51,7 @@ uint64_t delete_file(struct desk *desk, const char *name);
 uint64_t rename_file(struct desk *desk, const char *name, const char *new_name);
 uint64_t mode_file(struct desk *desk, const char *name, uint32_t function, uint32_t attribute);
 uint64_t view_number(struct desk *desk, const char *name, uint32_t offset);
+uint64_t rescue_file(struct desk *desk, const char *name, uint8_t *out, size_t length);
 
 /* ---- Volumes ---- */
 

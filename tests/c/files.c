@@ -294,6 +294,7 @@ static void try_null_runs(void)
     leaves(&d, bm_rename(IMAGE, NULL, 0, NAME("DAY001.LOG"), NULL, 0), BM_BAD_NAME, 0, "rename without a new name: 42");
     leaves(&d, bm_mode(IMAGE, NULL, 0, NAME("DAY001.LOG"), 0, 0), 0, 0x20, "file mode without a table: 20");
     leaves(&d, bm_view_number(NULL, 0, NULL, 0, 0), BM_NOT_OF_A_KIND, 0, "view's number of nothing: 40");
+    leaves(&d, bm_rescue(IMAGE, NAME("TARE.KEY"), NULL, 0), 0, 0, "rescue without out: 0 bytes");
     put_away(&d);
 }
 

@@ -1,5 +1,5 @@
--- The calls as C sees them: what each leaves, as one function of what came in. The calls over an open table have this function
--- from their own crates; the others have it here.
+-- The calls as C sees them: what each leaves, as one function of what came in. The calls over an open table, and rescue, have
+-- this function from their own crates; the others have it here.
 use Prim.Native.Nat.{ℕ}
 use mathlib.Core.Bool.{cond}
 use mathlib.Core.List.{List, [], _∷_}

@@ -1,4 +1,4 @@
-// The calls over an open table, and view's number: a file's name and the table are byte slices too.
+// The calls over an open table, view's number and rescue: a file's name and the table are byte slices too.
 ghost use mathlib.Core.List.{[]};
 ghost use Rattle.closing.specs.Close.{closeOutcome};
 ghost use Rattle.marking.specs.Mode.{modeOutcome};
@@ -8,6 +8,7 @@ ghost use Rattle.seeking.specs.Seek.{seekOutcome};
 ghost use Rattle.creating.specs.Create.{createOutcome};
 ghost use Rattle.deleting.specs.Delete.{deleteOutcome};
 ghost use Rattle.reading.specs.Read.{readOutcome};
+ghost use Rattle.rescuing.specs.Rescue.{rescueOutcome};
 ghost use Rattle.writing.specs.Write.{writeOutcome};
 ghost use Rattle.packing.specs.Stamps.{stampOf};
 ghost use Rattle.scale.specs.Calls.{Leaves, viewNumberCall};
@@ -114,4 +115,12 @@ pub extern "C" fn bm_view_number(img: &[u8], name: &[u8], offset: u32) -> u64
 {
     let number = viewing::view::view_number(img, name, offset);
     packing::answer::pack(number, 0)
+}
+
+// Reads a file of a volume that need not be sound: the value is the count.
+#[no_mangle]
+pub extern "C" fn bm_rescue(img: &[u8], name: &[u8], out: &mut [u8]) -> u64
+    ensures { λ r. ⌜ Leaves (rescueOutcome (now (img .entry)) (now (name .entry)) (now (out .entry))) r (now (img .entry)) [] (now (out .exit)) ⌝ }
+{
+    packing::answer::hand(rescuing::rescue::rescue(img, name, out))
 }

@@ -84,3 +84,4 @@ call!(bm_mode mode (
     image: &mut [u8], table: &[u8], name: &[u8], function: u32, attribute: u32,
 ));
 call!(bm_view_number view_number (image: &[u8], name: &[u8], offset: u32,));
+call!(bm_rescue rescue (image: &[u8], name: &[u8], out: &mut [u8],));

@@ -7,11 +7,11 @@ use compare::comparison::files::{After, Files};
 use compare::comparison::guarded::{Guarded, GUARD};
 use compare::comparison::lines::{allows, LINES};
 use compare::comparison::seeds::over_seeds;
-use compare::comparison::tally::Tally;
+use compare::comparison::tally::{rows, Tally};
 use compare::comparison::{compare_seed, history, singles, Library, CALLS_OF_A_SEED};
 use compare::volume::answer::number;
 use compare::volume::kind::Kind;
-use compare::volumes::calls::{perform, Call, Scene, NAMES};
+use compare::volumes::calls::{perform, Call, Scene};
 use compare::volumes::random::Random;
 use compare::volumes::scenes::history_scene;
 use compare::volumes::texts::callers_form;
@@ -124,7 +124,9 @@ const FAULTS_OF_READING: [(&str, Library); 3] = [
 fn files_are_compared_by_reading() {
     for (told, library) in FAULTS_OF_READING {
         let report = report_of_histories(library);
-        assert!(report.starts_with("history, call 50, "), "{report}");
+        let call = report.strip_prefix("history, call ");
+        let call = call.and_then(|rest| rest.split(',').next()?.parse::<u64>().ok());
+        assert!(call.is_some_and(|call| call % 50 == 0), "{report}");
         assert!(report.contains(told), "{told}: {report}");
     }
 }
@@ -157,10 +159,11 @@ fn the_lowest_seed_is_reported() {
 #[test]
 fn pairs_that_are_not_met_or_not_allowed_are_faults() {
     let lines: usize = LINES.iter().map(|line| line.calls.len()).sum();
-    // 13 calls by 40, 11 by 41, and the rest of the table.
+    // 14 calls by 40, 11 by 41, and the rest of the table; rescue on torn disks
+    // stands for a call of its own.
     assert_eq!(
         lines,
-        13 + 11 + 2 + 1 + 6 + 2 + 4 + 1 + 5 + 2 + 4 + 4 + 1 + 1 + 2 + 2
+        14 + 11 + 2 + 1 + 8 + 2 + 4 + 1 + 7 + 2 + 4 + 4 + 1 + 1 + 2 + 2 + 2
     );
     let mut tally = Tally::default();
     for line in &LINES {
@@ -170,7 +173,7 @@ fn pairs_that_are_not_met_or_not_allowed_are_faults() {
     for _ in 0..10_000 {
         tally.note(&Call::Check, None);
     }
-    let too_rare = NAMES.len() - 1 + lines;
+    let too_rare = rows().count() - 1 + lines;
     assert_eq!(tally.faults().len(), LINES.len() + too_rare);
     assert!(!allows("check", Some(LINES[0].refusal)));
 }

@@ -8,7 +8,7 @@ use common::model::Model;
 use compare::volume::answer::{packed, value};
 use compare::volume::{check, view, view_number};
 use compare::volumes::broken::{break_kind, break_plan};
-use compare::volumes::calls::{perform, Call, Scene};
+use compare::volumes::calls::{perform, Call, Scene, NAMES};
 use compare::volumes::open_tables::open_table;
 use compare::volumes::plan::Plan;
 use compare::volumes::random::Random;
@@ -87,7 +87,7 @@ fn histories_as_the_model_has_them() {
         tally.numbers[&0] > HISTORIES * CALLS as u64 / 3,
         "{tally:?}"
     );
-    assert_eq!(tally.ended_well.len(), 15, "{tally:?}");
+    assert_eq!(tally.ended_well.len(), NAMES.len(), "{tally:?}");
     assert!(
         tally.ended_well.values().all(|&times| times >= 10),
         "{tally:?}"
@@ -114,7 +114,8 @@ fn compare_views(plan: &Plan, image: &[u8]) {
 
 fn takes_any_volume(call: &Call) -> bool {
     let check = matches!(call, Call::Check | Call::CheckSystem);
-    check || matches!(call, Call::Format { .. } | Call::Entry { .. })
+    let by_slot_or_name = matches!(call, Call::Entry { .. } | Call::Rescue { .. });
+    check || by_slot_or_name || matches!(call, Call::Format { .. })
 }
 
 /// The other calls on volumes of no kind or not sound: 40 or 41, and nothing

@@ -30,7 +30,7 @@ use Rattle.history.specs.Laws.Rows.{image-stays}
 use Rattle.history.specs.Laws.TareCalls.{Guarded, Spares, delete-spares, rename-spares, mode-spares, open-spares, read-spares, seek-spares, write-spares, close-spares, create-spares}
 use Rattle.history.specs.Laws.TarePlaces.{Watched, closed-watched}
 
-tare-guarded : (k : Kind) (w : World) (s : ℕ) → Tare k w s → Guarded k w s
+pub tare-guarded : (k : Kind) (w : World) (s : ℕ) → Tare k w s → Guarded k w s
 tare-guarded k w s x = record { is-file = x .is-file; marked = x .marked; places = closed-watched (w .table) s (x .closed) }
 
 -- ---- one call
@@ -44,7 +44,7 @@ module _ (k : Kind) (w : World) (b : Begins k w) (s : ℕ) (g : Guarded k w s) w
       let e : step w c ≡ w = refusals-leave-all w c n in
       record { image = inl (ap (λ (x : World). x .image) e); places = subst (λ (x : World). Watched (x .table) s) (sym e) (g .places) }
 
-  spared : (c : Call) → ¬ SetsMode c w s → SparedBy c
+  pub spared : (c : Call) → ¬ SetsMode c w s → SparedBy c
   unfolding viewOutcome
   spared check u = record { image = inr (λ n. n); places = same (checkOf (w .image)) }
     where
@@ -96,7 +96,7 @@ module _ (k : Kind) (w : World) (b : Begins k w) (s : ℕ) (g : Guarded k w s) w
     unfolding readOnly
     marked-still = rw (on-kind (step w c .image) k on-after, same-attr) (rw (on-kind (w .image) k (b .on)) at (g .marked))
 
-    guarded-still : Guarded k (step w c) s
+    pub guarded-still : Guarded k (step w c) s
     guarded-still = record {
       is-file = record {
         below = g .is-file .below;
@@ -109,7 +109,7 @@ module _ (k : Kind) (w : World) (b : Begins k w) (s : ℕ) (g : Guarded k w s) w
       places = spared c u .places;
     }
 
-    begins-still : Begins k (step w c)
+    pub begins-still : Begins k (step w c)
     begins-still = record { on = on-after; bytes = came-bytes k w c (b .on) (b .bytes) x }
 
 -- ---- any run

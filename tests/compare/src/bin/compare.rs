@@ -14,14 +14,19 @@ use compare::comparison::both::halves;
 use compare::comparison::guarded::{Guarded, GUARD};
 use compare::comparison::seeds::over_seeds;
 use compare::volume::answer::number;
-use compare::volume::kind::{Kind, KINDS};
+use compare::volume::kind::{Kind, KINDS, SECTOR};
 use compare::volumes::mixed::mixed_image;
 use compare::volumes::random::Random;
+use compare::volumes::random_calls::random_name;
 use compare::{archive, volume};
 
 /// Each finding, and sound, must be met this often; in a short run, once in
 /// twenty volumes.
 const LEAST: u64 = 500;
+
+/// Each way in which rescue ends, on sound volumes and on others, must be met
+/// this often; in a short run, once in a thousand volumes.
+const LEAST_RESCUES: u64 = 20;
 
 /// Calls that only read an image, or a part of it, and may fill `out`.
 type Reader = fn(&[u8], &mut [u8]) -> u64;
@@ -38,6 +43,8 @@ struct Trial {
     archive: Guarded,
     random: Random,
     calls: u64,
+    /// How often rescue ended in each of its ways.
+    rescues: [u64; 5],
 }
 
 impl Trial {
@@ -48,6 +55,7 @@ impl Trial {
             plain,
             random: Random::new(!seed),
             calls: 0,
+            rescues: [0; 5],
         }
     }
 
@@ -56,6 +64,7 @@ impl Trial {
         self.read_whole()?;
         self.read_parts()?;
         self.read_entries()?;
+        self.rescue_files()?;
         self.archive
             .compare("image that was only read", &self.plain)?;
         // What format does depends on nothing of the volume but its length.
@@ -127,6 +136,27 @@ impl Trial {
         Ok(())
     }
 
+    /// Rescue of three files by name.
+    fn rescue_files(&mut self) -> Result<(), String> {
+        let byte = self.plain.get(SECTOR).copied().unwrap_or(0);
+        let kind = Kind::of_number(u32::from(byte)).unwrap_or(&KINDS[0]);
+        for _ in 0..3 {
+            let name = random_name(kind, &self.plain, 8, &mut self.random);
+            let out = *self.random.pick(&[0, 1, 511, 512, 600, 3000]);
+            let mut theirs = Guarded::random(out, &mut self.random);
+            let mut ours = theirs.to_vec();
+            let answers = [
+                volume::rescue(&self.plain, &name, &mut ours),
+                archive::rescue(&self.archive, &name, &mut theirs),
+            ];
+            self.calls += 1;
+            self.rescues[rescue_ending(answers[0])] += 1;
+            same(answers, "out", &ours, &theirs)
+                .map_err(|what| format!("rescue '{}': {what}", name.escape_ascii()))?;
+        }
+        Ok(())
+    }
+
     /// Format with a number that is no kind, then with each kind.
     fn format(&mut self) -> Result<(), String> {
         let kind = u32::from(self.random.pick(&KINDS).byte);
@@ -159,11 +189,23 @@ fn same(answers: [u64; 2], what: &str, plain: &[u8], archive: &Guarded) -> Resul
         .map_err(|what| format!("both answer {expected}, {what}"))
 }
 
-/// What was met: volumes by their finding (0: sound), and sound ones by kind.
+/// How rescue ends: well, or by one of its refusals in their order.
+const RESCUE_NUMBERS: [u32; 5] = [0, 40, 42, 2, 5];
+
+/// The place of the answer's number among them; a number that is none of them
+/// stops the run.
+fn rescue_ending(answer: u64) -> usize {
+    let found = RESCUE_NUMBERS.iter().position(|&n| n == number(answer));
+    found.expect("rescue answers one of its numbers")
+}
+
+/// What was met: volumes by their finding (0: sound), sound ones by kind, and
+/// how rescue ended on sound volumes and on others.
 #[derive(Default)]
 struct Met {
     findings: [u64; 8],
     sound: [u64; 4],
+    rescues: [[u64; 5]; 2],
     calls: u64,
 }
 
@@ -188,6 +230,9 @@ impl Met {
         };
         add(&mut self.findings, &other.findings);
         add(&mut self.sound, &other.sound);
+        for (to, more) in self.rescues.iter_mut().zip(&other.rescues) {
+            add(to, more);
+        }
         self.calls += other.calls;
     }
 
@@ -200,6 +245,24 @@ impl Met {
         for (finding, times) in self.findings.iter().enumerate().skip(1) {
             println!("finding {finding}: {times}");
         }
+        println!(
+            "rescue by {RESCUE_NUMBERS:?}: sound {:?}, others {:?}",
+            self.rescues[0], self.rescues[1]
+        );
+    }
+
+    /// What was met fewer than so many times. Rescue refuses no sound volume by
+    /// 40 or 5.
+    fn rare(&self, volumes: u64, rescues: u64) -> Option<String> {
+        if let Some(finding) = self.findings.iter().position(|&times| times < volumes) {
+            return Some(format!(
+                "finding {finding} (0: sound) was met fewer than {volumes} times"
+            ));
+        }
+        let [sound, others] = &self.rescues;
+        let wanted = [sound[0], sound[2], sound[3]].into_iter().chain(*others);
+        let few = wanted.into_iter().any(|times| times < rescues);
+        few.then(|| format!("rescue ended in some way fewer than {rescues} times"))
     }
 }
 
@@ -208,6 +271,7 @@ fn compare_volume(seed: u64) -> Result<Met, String> {
     let mut met = Met::of(&trial.plain);
     trial.run()?;
     met.calls = trial.calls;
+    met.rescues[usize::from(met.findings[0] == 0)] = trial.rescues;
     Ok(met)
 }
 
@@ -225,10 +289,9 @@ fn compare(count: u64, first: u64) -> bool {
         "{count} volumes, {} calls on each library: all alike",
         met.calls
     );
-    let least = LEAST.min(count / 20);
-    let rare = met.findings.iter().position(|&times| times < least);
-    if let Some(finding) = rare {
-        println!("finding {finding} (0: sound) was met fewer than {least} times");
+    let rare = met.rare(LEAST.min(count / 20), LEAST_RESCUES.min(count / 1000));
+    if let Some(rare) = &rare {
+        println!("{rare}");
     }
     rare.is_none()
 }

@@ -129,6 +129,7 @@ impl Files {
                 attribute,
             } => self.mode(&stored(name), *function, *attribute, after.value),
             Call::ViewNumber { name, .. } => self.file(&stored(name)).map(|_| ()),
+            Call::Rescue { name } => self.rescue(&stored(name), after),
             Call::Check | Call::CheckSystem | Call::Entry { .. } => Ok(()),
         }
     }
@@ -220,6 +221,16 @@ impl Files {
         match rest[..count] == after.buffer[..count] {
             true => Ok(()),
             false => Err("other bytes were read than the history wrote".to_string()),
+        }
+    }
+
+    fn rescue(&mut self, name: &[u8; 11], after: After) -> Followed {
+        let bytes = &self.file(name)?.bytes;
+        let count = bytes.len().min(after.buffer.len());
+        expect("bytes rescued", count as u32, after.value)?;
+        match bytes[..count] == after.buffer[..count] {
+            true => Ok(()),
+            false => Err("other bytes were rescued than the history wrote".to_string()),
         }
     }
 

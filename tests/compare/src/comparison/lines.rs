@@ -1,5 +1,6 @@
 //! The refusal table of the specification: which calls each line is about.
 
+use super::tally::TORN;
 use crate::volume::answer::Refusal::{self, *};
 
 /// A line of the table.
@@ -19,12 +20,12 @@ const fn line(refusal: Refusal, word: &'static str, calls: &'static [&'static st
 }
 
 /// In the table's order. All calls but check refuse by 40; of these all but
-/// format and entry by 41.
+/// format, entry and rescue by 41. A torn disk is of a kind.
 #[rustfmt::skip]
-pub const LINES: [Line; 16] = [
+pub const LINES: [Line; 17] = [
     line(NotOfAKind, "kind", &[
         "format", "free_space", "entry", "open", "create", "read", "write", "seek", "close",
-        "delete", "rename", "mode", "view_number",
+        "delete", "rename", "mode", "view_number", "rescue",
     ]),
     line(NotSound, "sound", &[
         "free_space", "open", "create", "read", "write", "seek", "close",
@@ -32,17 +33,22 @@ pub const LINES: [Line; 16] = [
     ]),
     line(BadFunction, "func", &["seek", "mode"]),
     line(BadAccess, "access", &["open"]),
-    line(BadName, "name", &["open", "create", "delete", "rename", "mode", "view_number"]),
+    line(BadName, "name", &[
+        "open", "create", "delete", "rename", "mode", "view_number", "rescue", TORN,
+    ]),
     line(BadStamp, "stamp", &["create", "close"]),
     line(NotLive, "live", &["read", "write", "seek", "close"]),
     line(OutOfRange, "range", &["seek"]),
-    line(NoSuchFile, "file", &["open", "delete", "rename", "mode", "view_number"]),
+    line(NoSuchFile, "file", &[
+        "open", "delete", "rename", "mode", "view_number", "rescue", TORN,
+    ]),
     line(BadAttribute, "bits", &["create", "mode"]),
     line(FileOpen, "open", &["create", "delete", "rename", "mode"]),
     line(ReadOnly, "ronly", &["create", "delete", "rename", "open"]),
     line(NameTaken, "taken", &["rename"]),
     line(NoSlot, "slot", &["create"]),
     line(WrongAccess, "access", &["read", "write"]),
+    line(BadChain, "chain", &["rescue", TORN]),
     line(NoPlace, "place", &["open", "create"]),
 ];
 

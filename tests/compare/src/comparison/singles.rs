@@ -3,12 +3,17 @@
 use super::both::Both;
 use super::tally::Tally;
 use super::Library;
+use crate::volumes::calls::Call;
 use crate::volumes::random::Random;
-use crate::volumes::random_calls::{buffer_for, odd_call, random_call};
+use crate::volumes::random_calls::{buffer_for, odd_call, random_call, random_name};
 use crate::volumes::scenes::any_scene;
 
 const SCENES: u64 = 16;
-const CALLS_ON_A_SCENE: u64 = 25;
+const CALLS_ON_A_SCENE: u64 = 29;
+
+/// The first calls on a scene: rescue alone does not refuse a volume that is
+/// not sound.
+const RESCUES: u64 = 4;
 
 /// The single calls of a seed.
 pub const CALLS: u64 = SCENES * CALLS_ON_A_SCENE;
@@ -31,9 +36,13 @@ fn compare_on_scene(
     let (kind, scene) = any_scene(seed);
     let mut both = Both::new(scene, library, guard);
     for number in 0..CALLS_ON_A_SCENE {
-        let call = match random.one_in(2) {
-            true => random_call(kind, &both.before, &mut random),
-            false => odd_call(kind, &both.before, &mut random),
+        let call = if number < RESCUES {
+            let name = random_name(kind, &both.before.image, 8, &mut random);
+            Call::Rescue { name }
+        } else if random.one_in(2) {
+            random_call(kind, &both.before, &mut random)
+        } else {
+            odd_call(kind, &both.before, &mut random)
         };
         both.lend_buffer(buffer_for(&call, &mut random));
         let ending = both

@@ -11,9 +11,17 @@ use crate::volumes::calls::{Call, NAMES};
 const LEAST: u64 = 20;
 const CALLS_FOR_ONE: u64 = 7500;
 
+/// The row of rescue on torn disks, below those of the calls.
+pub const TORN: &str = "rescue_torn";
+
 #[derive(Default)]
 pub struct Tally {
     met: BTreeMap<(&'static str, Option<Refusal>), u64>,
+}
+
+/// The calls, and rescue on torn disks.
+pub fn rows() -> impl Iterator<Item = &'static str> {
+    NAMES.into_iter().chain([TORN])
 }
 
 /// All ways a call can end: well, and by each line.
@@ -24,7 +32,11 @@ fn endings() -> impl Iterator<Item = Option<Refusal>> {
 
 impl Tally {
     pub fn note(&mut self, call: &Call, refusal: Option<Refusal>) {
-        *self.met.entry((call.name(), refusal)).or_default() += 1;
+        self.note_as(call.name(), refusal);
+    }
+
+    pub fn note_as(&mut self, row: &'static str, refusal: Option<Refusal>) {
+        *self.met.entry((row, refusal)).or_default() += 1;
     }
 
     pub fn add(&mut self, other: Tally) {
@@ -47,7 +59,7 @@ impl Tally {
         let words = LINES.iter().map(|line| line.word.to_string());
         print_row("", std::iter::once("0".to_string()).chain(numbers));
         print_row("", std::iter::once("well".to_string()).chain(words));
-        for call in NAMES {
+        for call in rows() {
             let cell = |ending| match (self.times(call, ending), allows(call, ending)) {
                 (0, false) => "-".to_string(),
                 (times, _) => times.to_string(),
@@ -59,8 +71,8 @@ impl Tally {
     /// What is amiss: pairs that the table has not, and pairs met too rarely.
     pub fn faults(&self) -> Vec<String> {
         let least = LEAST.min(self.calls() / CALLS_FOR_ONE);
-        let faults_of = |&call| endings().filter_map(move |end| self.fault(call, end, least));
-        NAMES.iter().flat_map(faults_of).collect()
+        let faults_of = |call| endings().filter_map(move |end| self.fault(call, end, least));
+        rows().flat_map(faults_of).collect()
     }
 
     fn fault(&self, call: &'static str, ending: Option<Refusal>, least: u64) -> Option<String> {

@@ -21,6 +21,8 @@ pub enum Refusal {
     NoSlot,
     /// Read on access 1, write on access 0.
     WrongAccess,
+    /// Rescue of a file whose chain is not as finding 5 asks.
+    BadChain,
     NoPlace,
 }
 
@@ -40,7 +42,8 @@ impl Refusal {
             | Refusal::ReadOnly
             | Refusal::NameTaken
             | Refusal::NoSlot
-            | Refusal::WrongAccess => 5,
+            | Refusal::WrongAccess
+            | Refusal::BadChain => 5,
             Refusal::NoPlace => 4,
         }
     }

@@ -85,7 +85,8 @@ pub fn entry_mut<'a>(kind: &Kind, image: &'a mut [u8], slot: usize) -> &'a mut E
     &mut root.as_chunks_mut().0[slot]
 }
 
-/// The slot of the plain file of this name. A sound volume has one at most.
+/// The lowest slot of a plain file of this name. A sound volume has one at
+/// most.
 pub fn find(entries: &[Entry], wanted: &[u8; 11]) -> Option<usize> {
     entries
         .iter()

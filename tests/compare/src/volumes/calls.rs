@@ -69,10 +69,13 @@ pub enum Call {
         name: Vec<u8>,
         offset: u32,
     },
+    Rescue {
+        name: Vec<u8>,
+    },
 }
 
 /// The calls in the interface's order.
-pub const NAMES: [&str; 15] = [
+pub const NAMES: [&str; 16] = [
     "format",
     "check",
     "check_system",
@@ -88,6 +91,7 @@ pub const NAMES: [&str; 15] = [
     "rename",
     "mode",
     "view_number",
+    "rescue",
 ];
 
 impl Call {
@@ -108,6 +112,7 @@ impl Call {
             Call::Rename { .. } => 12,
             Call::Mode { .. } => 13,
             Call::ViewNumber { .. } => 14,
+            Call::Rescue { .. } => 15,
         };
         NAMES[place]
     }
@@ -139,6 +144,7 @@ impl fmt::Display for Call {
                 write!(f, " {} function {function} attribute {attribute:#X}", text(name))
             }
             Call::ViewNumber { name, offset } => write!(f, " {} offset {offset}", text(name)),
+            Call::Rescue { name } => write!(f, " {}", text(name)),
         }
     }
 }
@@ -175,6 +181,7 @@ where
             outcomes::mode(image, table, name, *function, *attribute)
         }
         Call::ViewNumber { name, offset } => outcomes::view(image, name, *offset).map(|_| 0),
+        Call::Rescue { name } => outcomes::rescue(image, name, buffer),
     };
     (answer(outcome), outcome.err())
 }
@@ -220,5 +227,6 @@ where
             archive::mode(image, table, name, *function, *attribute)
         }
         Call::ViewNumber { name, offset } => archive::view_number(image, name, *offset),
+        Call::Rescue { name } => archive::rescue(image, name, buffer),
     }
 }

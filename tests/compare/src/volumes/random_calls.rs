@@ -30,10 +30,45 @@ pub fn odd_call(kind: &Kind, scene: &Scene, random: &mut Random) -> Call {
     .any_call()
 }
 
+/// Mostly the name of some live entry of an image of this kind, as a caller may
+/// write it; one in four times `odds` was never meant as a name.
+pub fn random_name(kind: &Kind, image: &[u8], odds: usize, random: &mut Random) -> Vec<u8> {
+    if random.one_in(4 * odds) {
+        return noise_name(random);
+    }
+    let names = names_in_reach(kind, image, |_, _| true);
+    let name = match random.choose(&names) {
+        Some(stored) if !random.one_in(4) => callers_form(stored),
+        _ => good_name(random),
+    };
+    varied(random, &name)
+}
+
+/// The names in a caller's reach, of the slots and entries that are wanted.
+fn names_in_reach<'a>(
+    kind: &Kind,
+    image: &'a [u8],
+    wanted: impl Fn(usize, &[u8]) -> bool,
+) -> Vec<&'a [u8]> {
+    let in_reach = |byte: &u8| *byte == b' ' || is_name_byte(*byte);
+    let entries = root(kind, image).chunks_exact(32).enumerate();
+    let wanted = entries.filter(|(slot, entry)| wanted(*slot, entry));
+    let names = wanted.map(|(_, entry)| &entry[..11]);
+    names.filter(|name| name.iter().all(in_reach)).collect()
+}
+
+/// The root's bytes, where the image has them.
+fn root<'a>(kind: &Kind, image: &'a [u8]) -> &'a [u8] {
+    let root = kind.root_at()..kind.system_bytes();
+    image.get(root).unwrap_or(&[])
+}
+
 /// Bytes for the buffer of a call that takes one.
 pub fn buffer_for(call: &Call, random: &mut Random) -> Vec<u8> {
     let length = match call {
-        Call::Read { .. } => *random.pick(&[0, 1, 100, 511, 600, 1024, 2000, 5000, 400_000]),
+        Call::Read { .. } | Call::Rescue { .. } => {
+            *random.pick(&[0, 1, 100, 511, 600, 1024, 2000, 5000, 400_000])
+        }
         Call::Check | Call::CheckSystem | Call::FreeSpace | Call::Entry { .. } => {
             *random.pick(&[0, 1, 15, 16, 17, 21, 22, 23, 30, 100])
         }
@@ -110,7 +145,7 @@ impl<'a> Caller<'a> {
 
     /// A call on a file by its name.
     fn name_call(&mut self) -> Call {
-        match self.random.below(4) {
+        match self.random.below(5) {
             0 => Call::Delete {
                 name: self.name_to_change(),
             },
@@ -122,6 +157,9 @@ impl<'a> Caller<'a> {
                 name: self.some_name(),
                 function: self.rarely_above(2),
                 attribute: self.some_attribute(),
+            },
+            3 => Call::Rescue {
+                name: self.some_name(),
             },
             _ => {
                 let offset = self.random.below(3000) as u32;
@@ -170,17 +208,8 @@ impl<'a> Caller<'a> {
         self.rarely_any(number)
     }
 
-    /// Mostly the name of some live entry, as a caller may write it.
     fn some_name(&mut self) -> Vec<u8> {
-        if self.random.one_in(4 * self.odds) {
-            return noise_name(self.random);
-        }
-        let names = self.names_of(|_, _| true);
-        let name = match self.random.choose(&names) {
-            Some(stored) if !self.random.one_in(4) => callers_form(stored),
-            _ => good_name(self.random),
-        };
-        varied(self.random, &name)
+        random_name(self.kind, &self.scene.image, self.odds, self.random)
     }
 
     /// Half of the time the name of a file that is neither open nor read-only.
@@ -190,20 +219,12 @@ impl<'a> Caller<'a> {
             let mut records = table.chunks_exact(16).take(16);
             records.any(|record| record[0] != 0 && word(record, 4) as usize == slot)
         };
-        let names = self.names_of(|slot, entry| entry[11] & 0x09 == 0 && !is_open(slot));
+        let wanted = |slot, entry: &[u8]| entry[11] & 0x09 == 0 && !is_open(slot);
+        let names = names_in_reach(self.kind, &self.scene.image, wanted);
         match self.random.choose(&names) {
             Some(stored) if self.random.one_in(2) => callers_form(stored),
             _ => self.some_name(),
         }
-    }
-
-    /// The names in a caller's reach, of the slots and entries that are wanted.
-    fn names_of(&self, wanted: impl Fn(usize, &[u8]) -> bool) -> Vec<&'a [u8]> {
-        let in_reach = |byte: &u8| *byte == b' ' || is_name_byte(*byte);
-        let entries = self.root().chunks_exact(32).enumerate();
-        let wanted = entries.filter(|(slot, entry)| wanted(*slot, entry));
-        let names = wanted.map(|(_, entry)| &entry[..11]);
-        names.filter(|name| name.iter().all(in_reach)).collect()
     }
 
     /// A name for rename's second: mostly one that is not there yet.
@@ -214,15 +235,9 @@ impl<'a> Caller<'a> {
         }
     }
 
-    /// The root's bytes, where the image has them.
-    fn root(&self) -> &'a [u8] {
-        let root = self.kind.root_at()..self.kind.system_bytes();
-        self.scene.image.get(root).unwrap_or(&[])
-    }
-
     /// The entry at a slot; no bytes where there is none.
     fn entry(&self, slot: u32) -> &'a [u8] {
-        let mut entries = self.root().chunks_exact(32);
+        let mut entries = root(self.kind, &self.scene.image).chunks_exact(32);
         entries.nth(slot as usize).unwrap_or(&[])
     }
 

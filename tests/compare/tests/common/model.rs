@@ -116,6 +116,7 @@ impl Model {
                 attribute,
             } => self.mode(name, *function, *attribute),
             Call::ViewNumber { name, .. } => self.find(&stored(name)?).map(|_| 0),
+            Call::Rescue { name } => self.rescue(name),
         }
     }
 
@@ -281,6 +282,14 @@ impl Model {
         let count = rest.len().min(self.buffer.len());
         self.buffer[..count].copy_from_slice(&rest[..count]);
         self.set_pointer(handle, place.pointer + count);
+        Ok(count)
+    }
+
+    fn rescue(&mut self, name: &[u8]) -> Outcome {
+        let file = self.find(&stored(name)?)?;
+        let content = &self.plan.files[file].content;
+        let count = content.len().min(self.buffer.len());
+        self.buffer[..count].copy_from_slice(&content[..count]);
         Ok(count)
     }
 

@@ -1,0 +1,4 @@
+-- The laws of the definitions beside this folder.
+pub mod Kinds
+pub mod Chain
+pub mod Rescue

@@ -1,0 +1,47 @@
+-- Rescue takes a name and reads that file through its own chain, on a volume that need not be sound. Of several plain files of
+-- the name the lowest slot counts. It puts as many bytes as out and size allow; the rest of out keeps its bytes, and nothing
+-- else changes.
+use Prim.Native.Nat.{ℕ, min}
+use mathlib.Core.Bool.{Bool}
+use mathlib.Core.List.{List, [], _∷_}
+use mathlib.Core.Path.{_≡_}
+use lib.ListN.{length, take}
+use Rattle.image.specs.Store.{stored}
+use Rattle.diskette.specs.Places.{clusterBytes, lastCluster, rootAt}
+use Rattle.diskette.specs.declared.Kind.{Kind}
+use Rattle.fields.specs.Fields.{sizeOf}
+use Rattle.chaincheck.specs.Entries.{badChainSlot}
+use Rattle.calls.specs.Outcome.{Row, Outcome, outcome, decided}
+use Rattle.calls.specs.Refusals.{theKind, notOfKind, badName, noFile, fileSlot, addressOf}
+use Rattle.calls.specs.declared.Answer.{Answer}
+use Rattle.holding.specs.Holding.{fileBytes}
+
+-- 5: the chain of the file in a slot is not as finding 5 asks
+abbrev pub badChainIn : Kind → List ℕ → ℕ → Bool
+badChainIn k img slot = badChainSlot (lastCluster k) (clusterBytes k) img (rootAt k) slot
+
+abbrev pub rescueRows : List ℕ → List ℕ → List Row
+rescueRows img s =
+    (notOfKind img, 40)
+    ∷ (badName s, 42)
+    ∷ (noFile img s, 2)
+    ∷ (badChainIn (theKind img) img (fileSlot img s), 5)
+    ∷ []
+
+-- as many as out and size allow: room is the length of out
+abbrev pub rescueCount : ℕ → ℕ → ℕ
+rescueCount room size = min room size
+
+-- no table comes in
+abbrev pub rescueEffect : List ℕ → List ℕ → List ℕ → Outcome
+rescueEffect img s out =
+    let slot = fileSlot img s in
+    let n = rescueCount (length out) (sizeOf img (addressOf img slot)) in
+    outcome 0 n img [] (stored out 0 (take n (fileBytes (theKind img) img slot)))
+
+unfoldable pub rescueOutcome : List ℕ → List ℕ → List ℕ → Outcome
+rescueOutcome img s out = decided (rescueRows img s) (rescueEffect img s out) img [] out
+
+-- what the call promises: its answer r, and out after
+pub record Rescues (img s out : List ℕ) (r : Answer) (after : List ℕ) : Type 0 where
+  pub is : outcome (r .number) (r .value) img [] after ≡ rescueOutcome img s out

@@ -1,0 +1,2 @@
+// A file read off a volume that need not be sound: rescue.
+pub mod rescue;

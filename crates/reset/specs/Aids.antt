@@ -1,0 +1,2 @@
+-- Aids to the proofs.
+pub mod Same

@@ -1,0 +1,176 @@
+-- On a sound volume: what open takes, read reads and close frees, against what rescue gives.
+use Prim.Native.Nat.{ℕ, _+_, _-_, _<_, min}
+use native.Mathlib.Omega.{arith}
+use mathlib.Core.Bool.{true, false, not}
+use mathlib.Core.List.{List, []}
+use mathlib.Core.Logic.{inl, inr}
+use mathlib.Core.Path.{_≡_, refl, sym, ap, _∙_}
+use lib.ListN.{length, take}
+use Rattle.image.specs.Bytes.{Bytes}
+use Rattle.image.specs.Store.{stored}
+use Rattle.image.specs.Laws.Numbers.{number-small}
+use Rattle.chains.specs.Laws.Tests.{true-says, false-says, by-test}
+use Rattle.diskette.specs.Images.{OfKind}
+use Rattle.diskette.specs.Laws.Images.{image-of-kind}
+use Rattle.diskette.specs.Places.{rootAt, rootEntries, slotAt}
+use Rattle.diskette.specs.declared.Kind.{Kind}
+use Rattle.fields.specs.Fields.{sizeOf}
+use Rattle.stamps.specs.declared.Stamp.{Stamp}
+use Rattle.sound.specs.Sound.{Sound}
+use Rattle.sound.specs.Laws.IsSound.{known-says}
+use Rattle.opened.specs.Changes.{Holds}
+use Rattle.opened.specs.Records.{placeCount, writtenOf, withRecord, withPointer}
+use Rattle.opened.specs.Laws.Places.{live-is}
+use Rattle.opened.specs.Laws.Stores.{record-only, record-holds, pointer-holds}
+use Rattle.opened.specs.Laws.Uses.{only-count, same-live, pointer-uses}
+use Rattle.calls.specs.Outcome.{Outcome, outcome, refusal, decided}
+use Rattle.calls.specs.Ready.{OnVolume}
+use Rattle.calls.specs.Refusals.{theKind, badName, noFile, fileSlot, noPlace, freePlace, notLive, badStamp}
+use Rattle.calls.specs.Laws.Ready.{on-kind, known-passed, sound-passed}
+use Rattle.holding.specs.Holding.{fileBytes, FileIn}
+use Rattle.opening.specs.Open.{openRows, openEffect, openOutcome}
+use Rattle.closing.specs.Close.{closeOutcome}
+use Rattle.reading.specs.Read.{readOutcome}
+use Rattle.rescuing.specs.Rescue.{badChainIn, rescueOutcome}
+use Rattle.rescuing.specs.Laws.Chain.{says-bad-chain}
+use Rattle.changes.specs.Laws.Changed.{on-sound}
+use Rattle.history.specs.Laws.Found.{place-counts, file-there, named-small}
+use Rattle.history.specs.Laws.Passed.{testOf, passed-row}
+use Rattle.history.specs.Laws.Rows.{decided-cases}
+use Rattle.reset.specs.AsRead.{opened, readThen, closedThen, SameAsRead, RescueAsRead, RefusedAsOpen}
+
+on-volume : (k : Kind) (img : List ℕ) → OfKind img k → Sound k img → OnVolume img k
+on-volume k img o s = let e = image-of-kind img k .1 o in record { known = e; sound = true-says (known-says img k e) s }
+
+module _ (k : Kind) (img : List ℕ) (v : OnVolume img k) (name : List ℕ) where
+  -- a file of a sound volume has a good chain
+  good-chain : FileIn img k (fileSlot img name) → badChainIn k img (fileSlot img name) ≡ false
+  good-chain i = false-says (says-bad-chain img k (v .known) (fileSlot img name) i)
+      (λ b. b .1 (on-sound k img v .0 (fileSlot img name)) (on-sound k img v .1 .chains (fileSlot img name) (b .0)))
+
+  abbrev slot : ℕ
+  slot = fileSlot img name
+
+  abbrev size : ℕ
+  size = sizeOf img (slotAt k slot)
+
+  -- what rescue and read leave of a buffer
+  abbrev filled : List ℕ → List ℕ
+  filled out = stored out 0 (take (min (length out) size) (fileBytes k img slot))
+
+  module _ (there : noFile img name ≡ false) where
+    rescue-is : badName name ≡ false → (out : List ℕ) → rescueOutcome img name out ≡ outcome 0 (min (length out) size) img [] (filled out)
+    unfolding rescueOutcome decided refusal
+    rescue-is fits out = rw (known-passed img k v, fits, there, on-kind img k v, good-chain (file-there k img v name there))
+
+    -- ---- the place that open takes: T is the table then
+
+    module _ (t : List ℕ) (free : noPlace t ≡ false) where
+      abbrev p : ℕ
+      p = freePlace t
+
+      abbrev T : List ℕ
+      T = withRecord t p 0 slot 0 false
+
+      counts : p < placeCount t
+      counts = place-counts t free
+
+      taken : Holds T p true 0 slot 0 false
+      taken = record-holds t p counts 0 slot 0 false (named-small k img v name there) (omega arith)
+
+      counts-then : p < placeCount T
+      counts-then = rw (only-count p T t (record-only t p counts 0 slot 0 false)) counts
+
+      live : notLive img T p ≡ false
+      unfolding notLive
+      live = rw (on-kind img k v) (ap not (live-is T p img (rootAt k) (rootEntries k) .1 (record {
+        counted = counts-then;
+        used = taken .used;
+        access = rw (taken .access) (omega arith);
+        slot = rw (taken .slot) (file-there k img v name there .below);
+        plain = rw (taken .slot) (file-there k img v name there .plain);
+      })))
+
+      module _ (out : List ℕ) where
+        abbrev n : ℕ
+        n = min (length out) size
+
+        read-is : readOutcome img T p out ≡ outcome 0 n img (withPointer T p n) (filled out)
+        unfolding readOutcome decided refusal
+        read-is =
+            let z : size - 0 ≡ size = omega arith in
+            let a : 0 + n ≡ n = omega arith in
+            rw (known-passed img k v, sound-passed img k v, live, taken .access, on-kind img k v, taken .slot, taken .pointer, z, a)
+
+        -- ---- the same place when close comes: U is the table then
+
+        abbrev U : List ℕ
+        U = withPointer T p n
+
+        module _ (b : Bytes img) where
+          small : n < 4294967296
+          small = let z : size < 4294967296 = number-small img (slotAt k slot + 28) 4 b in omega arith
+
+          still-live : notLive img U p ≡ false
+          unfolding notLive
+          still-live =
+              let u = pointer-uses T p counts-then n small in
+              ap not (same-live U T (u .count) p (u .each p counts-then) img (rootAt (theKind img)) (rootEntries (theKind img))) ∙ live
+
+          not-written : writtenOf U p ≡ false
+          not-written = pointer-holds T p counts-then n small .written ∙ taken .written
+
+          close-ends : (stamp : Stamp) → badStamp stamp ≡ false → closeOutcome img U p stamp .number ≡ 0
+          unfolding closeOutcome decided refusal
+          close-ends stamp fine = rw (known-passed img k v, sound-passed img k v, fine, still-live)
+
+          close-leaves : (stamp : Stamp) → closeOutcome img U p stamp .image ≡ img
+          unfolding closeOutcome decided refusal
+          close-leaves stamp = by-test (badStamp stamp)
+              (λ bad. rw (known-passed img k v, sound-passed img k v, bad))
+              (λ fine. rw (known-passed img k v, sound-passed img k v, fine, still-live, not-written))
+
+          pub same-as-read : opened img t name ≡ openEffect img t name 0 → badName name ≡ false → (stamp : Stamp) → SameAsRead img t name out stamp
+          same-as-read x fits stamp =
+              let r : readThen img t name out ≡ outcome 0 n img U (filled out) = ap (λ (o : Outcome). readOutcome img (o .table) (o .value) out) x ∙ read-is in
+              let c : closedThen img t name out stamp ≡ closeOutcome img U p stamp
+              = ap (λ (o : Outcome). closeOutcome img (readThen img t name out .table) (o .value) stamp) x ∙ ap (λ (o : Outcome). closeOutcome img (o .table) p stamp) r in
+              let y = rescue-is fits out in
+              record {
+                read-well = ap (λ (o : Outcome). o .number) r;
+                close-well = λ fine. ap (λ (o : Outcome). o .number) c ∙ close-ends stamp fine;
+                image-stays = ap (λ (o : Outcome). o .image) c ∙ close-leaves stamp;
+                rescue-well = ap (λ (o : Outcome). o .number) y;
+                same-count = ap (λ (o : Outcome). o .value) y ∙ sym (ap (λ (o : Outcome). o .value) r);
+                same-bytes = ap (λ (o : Outcome). o .buffer) y ∙ sym (ap (λ (o : Outcome). o .buffer) r);
+              }
+
+-- ---- the promises
+
+-- where open ends well, all its rows are passed
+open-well : (img t name : List ℕ) → opened img t name .number ≡ 0 → (refusal (openRows img t name 0) ≡ 0) × (opened img t name ≡ openEffect img t name 0)
+unfolding openOutcome
+open-well img t name e = elim (decided-cases (openRows img t name 0) (openEffect img t name 0) img t []) [
+  | inl x ↦ absurd (x .0 (sym (ap (λ (o : Outcome). o .number) (x .1)) ∙ e))
+  | inr x ↦ x
+]
+
+pub rescue-as-read : RescueAsRead
+rescue-as-read k img o s b t name out stamp e =
+    let w = open-well img t name e in
+    let row : (i : ℕ) → testOf (openRows img t name 0) i ≡ false = passed-row (openRows img t name 0) refl (w .0) in
+    same-as-read k img (on-volume k img o s) name (row 4) t (row 6) out b (w .1) (row 3) stamp
+
+pub refused-as-open : RefusedAsOpen
+unfolding openOutcome rescueOutcome decided refusal
+refused-as-open k img o s t name out refused place =
+    let v = on-volume k img o s in
+    let p = known-passed img k v in
+    let q = sound-passed img k v in
+    by-test (badName name)
+    (λ bad. rw (p, q, bad))
+    (λ fits. by-test (noFile img name)
+    (λ none. rw (p, q, fits, none))
+    (λ there. absurd (by-test (noPlace t)
+    (λ full. place (rw (p, q, fits, there, full)))
+    (λ free. refused (rw (p, q, fits, there, free))))))

@@ -1,0 +1,75 @@
+-- A file that stands on a disk, under a name that no other has, is what rescue gives.
+use Prim.Native.Nat.{ℕ, _+_, _*_, _≤_}
+use native.Mathlib.Omega.{arith}
+use mathlib.Core.Bool.{false, not}
+use mathlib.Core.List.{List}
+use mathlib.Core.Path.{_≡_, sym, ap, _∙_}
+use lib.ListN.{length}
+use Rattle.search.specs.Laws.Below.{only-answer}
+use Rattle.search.specs.declared.Found.the-variants.{At}
+use Rattle.chains.specs.Laws.Tests.{false-says}
+use Rattle.diskette.specs.Images.{kindOfImage}
+use Rattle.diskette.specs.Laws.Images.{image-of-kind, image-usable, image-has-area}
+use Rattle.diskette.specs.Places.{firstData, rootAt, rootEntries, slotAt}
+use Rattle.diskette.specs.declared.Kind.{Kind}
+use Rattle.diskette.specs.declared.WhichKind.the-variants.{Known}
+use Rattle.directory.specs.Search.{slotFrom, slotNamed}
+use Rattle.directory.specs.Slots.{PlainAt}
+use Rattle.directory.specs.Laws.Search.{slot-named-answers}
+use Rattle.fields.specs.Fields.{nameOf, sizeOf}
+use Rattle.names.specs.Reading as reading
+use Rattle.names.specs.Spelling.{Means}
+use Rattle.names.specs.Laws.Meaning.{accepted}
+use Rattle.names.specs.Laws.Proper.{proper}
+use Rattle.sound.specs.Files.{IsFile}
+use Rattle.calls.specs.Outcome.{refusal, decided}
+use Rattle.calls.specs.Refusals.{isUnknown, kindFound, theKind, notOfKind, badName, fileFound}
+use Rattle.holding.specs.Holding.{fileBytes, FileIn}
+use Rattle.rescuing.specs.Rescue.{badChainIn, rescueOutcome}
+use Rattle.rescuing.specs.Laws.Chain.{says-bad-chain, held-long, held-by}
+use Rattle.changes.specs.Files.{File, Holds}
+use Rattle.reset.specs.Promises.{giving}
+
+module _ (m : List ℕ) (k : Kind) (e : kindOfImage m ≡ Known k) (s : ℕ) (f : File) (h : Holds k m s f)
+    (alone : (r : ℕ) → IsFile k m r → nameOf m (slotAt k r) ≡ nameOf m (slotAt k s) → r ≡ s) (name : List ℕ) (means : Means name (f .name)) where
+  is-kind : theKind m ≡ k
+  is-kind = ap kindFound e
+
+  root-in : rootAt k + 32 * rootEntries k ≤ length m
+  root-in = let a : 512 * firstData k ≤ length m = image-has-area m k (image-of-kind m k .0 e) (image-usable m k e) in omega arith
+
+  spelled : nameOf m (slotAt k s) ≡ reading.nameOf name .name
+  spelled = h .name ∙ sym (accepted name (f .name) .1 means .1)
+
+  -- slot r holds a plain file of the name
+  abbrev Named : ℕ → Type 0
+  Named r = PlainAt m (slotFrom (rootAt k) r) × (nameOf m (slotFrom (rootAt k) r) ≡ reading.nameOf name .name)
+
+  found : fileFound m name ≡ At s
+  unfolding fileFound
+  found =
+      let n = reading.nameOf name .name in
+      rw is-kind (only-answer Named (rootEntries k) (slotNamed m (rootAt k) (rootEntries k) n) (At s)
+      (slot-named-answers m (rootAt k) (rootEntries k) root-in n (proper name (accepted name (f .name) .1 means .0) .long))
+      (record {
+        below = h .is-file .0;
+        passes = (h .is-file .1, spelled);
+        none-lower = λ q l x. let z : q ≡ s = alone q (omega (arith, h .is-file .0), x .0) (x .1 ∙ sym spelled) in omega arith;
+      }))
+
+  there : FileIn m k s
+  there = record { below = h .is-file .0; plain = h .is-file .1 }
+
+  good : badChainIn k m s ≡ false
+  good = false-says (says-bad-chain m k e s there) (λ b. b .1 (h .bytes .0) (h .bytes .1))
+
+  held : fileBytes k m s ≡ f .bytes
+  held = held-by m k e s there (h .bytes .0) (h .bytes .1) ∙ h .bytes .2
+
+  pub rescued : (out : List ℕ) → rescueOutcome m name out ≡ giving m out (f .bytes)
+  unfolding rescueOutcome decided refusal
+  rescued out =
+      let p : notOfKind m ≡ false = ap isUnknown e in
+      let q : badName name ≡ false = ap not (accepted name (f .name) .1 means .0) in
+      let z : length (f .bytes) ≡ sizeOf m (slotAt k s) = ap length (sym held) ∙ held-long m k e s there good in
+      rw (p, q, found, is-kind, good, held, z)
