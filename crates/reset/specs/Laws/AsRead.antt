@@ -9,7 +9,7 @@ use lib.ListN.{length, take}
 use Rattle.image.specs.Bytes.{Bytes}
 use Rattle.image.specs.Store.{stored}
 use Rattle.image.specs.Laws.Numbers.{number-small}
-use Rattle.chains.specs.Laws.Tests.{true-says, false-says, by-test}
+use Rattle.chains.specs.Laws.Tests.{true-says, by-test}
 use Rattle.diskette.specs.Images.{OfKind}
 use Rattle.diskette.specs.Laws.Images.{image-of-kind}
 use Rattle.diskette.specs.Places.{rootAt, rootEntries, slotAt}
@@ -31,8 +31,8 @@ use Rattle.holding.specs.Holding.{fileBytes, FileIn}
 use Rattle.opening.specs.Open.{openRows, openEffect, openOutcome}
 use Rattle.closing.specs.Close.{closeOutcome}
 use Rattle.reading.specs.Read.{readOutcome}
-use Rattle.rescuing.specs.Rescue.{badChainIn, rescueOutcome}
-use Rattle.rescuing.specs.Laws.Chain.{says-bad-chain}
+use Rattle.rescuing.specs.Rescue.{goodChain, rescueOutcome}
+use Rattle.rescuing.specs.Laws.Chain.{says-chain}
 use Rattle.changes.specs.Laws.Changed.{on-sound}
 use Rattle.history.specs.Laws.Found.{place-counts, file-there, named-small}
 use Rattle.history.specs.Laws.Passed.{testOf, passed-row}
@@ -44,9 +44,9 @@ on-volume k img o s = let e = image-of-kind img k .1 o in record { known = e; so
 
 module _ (k : Kind) (img : List ℕ) (v : OnVolume img k) (name : List ℕ) where
   -- a file of a sound volume has a good chain
-  good-chain : FileIn img k (fileSlot img name) → badChainIn k img (fileSlot img name) ≡ false
-  good-chain i = false-says (says-bad-chain img k (v .known) (fileSlot img name) i)
-      (λ b. b .1 (on-sound k img v .0 (fileSlot img name)) (on-sound k img v .1 .chains (fileSlot img name) (b .0)))
+  good-chain : FileIn img k (fileSlot img name) → goodChain k img (fileSlot img name) ≡ true
+  good-chain i = true-says (says-chain img k (v .known) (fileSlot img name))
+      (on-sound k img v .0 (fileSlot img name), on-sound k img v .1 .chains (fileSlot img name) (i .below, i .plain))
 
   abbrev slot : ℕ
   slot = fileSlot img name
@@ -132,9 +132,11 @@ module _ (k : Kind) (img : List ℕ) (v : OnVolume img k) (name : List ℕ) wher
 
           pub same-as-read : opened img t name ≡ openEffect img t name 0 → badName name ≡ false → (stamp : Stamp) → SameAsRead img t name out stamp
           same-as-read x fits stamp =
-              let r : readThen img t name out ≡ outcome 0 n img U (filled out) = ap (λ (o : Outcome). readOutcome img (o .table) (o .value) out) x ∙ read-is in
+              let r : readThen img t name out ≡ outcome 0 n img U (filled out)
+              = ap (λ (o : Outcome). readOutcome img (o .table) (o .value) out) x ∙ read-is in
               let c : closedThen img t name out stamp ≡ closeOutcome img U p stamp
-              = ap (λ (o : Outcome). closeOutcome img (readThen img t name out .table) (o .value) stamp) x ∙ ap (λ (o : Outcome). closeOutcome img (o .table) p stamp) r in
+              = ap (λ (o : Outcome). closeOutcome img (readThen img t name out .table) (o .value) stamp) x
+              ∙ ap (λ (o : Outcome). closeOutcome img (o .table) p stamp) r in
               let y = rescue-is fits out in
               record {
                 read-well = ap (λ (o : Outcome). o .number) r;
@@ -148,7 +150,8 @@ module _ (k : Kind) (img : List ℕ) (v : OnVolume img k) (name : List ℕ) wher
 -- ---- the promises
 
 -- where open ends well, all its rows are passed
-open-well : (img t name : List ℕ) → opened img t name .number ≡ 0 → (refusal (openRows img t name 0) ≡ 0) × (opened img t name ≡ openEffect img t name 0)
+open-well : (img t name : List ℕ) → opened img t name .number ≡ 0
+    → (refusal (openRows img t name 0) ≡ 0) × (opened img t name ≡ openEffect img t name 0)
 unfolding openOutcome
 open-well img t name e = elim (decided-cases (openRows img t name 0) (openEffect img t name 0) img t []) [
   | inl x ↦ absurd (x .0 (sym (ap (λ (o : Outcome). o .number) (x .1)) ∙ e))

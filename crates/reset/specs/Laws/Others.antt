@@ -20,9 +20,10 @@ record Unnamed (s : ℕ) (w : World) (cs : List Call) : Type 0 where
   pub given : AllGiven cs
   pub none-names : NoneNames w cs s
 
-same-unnamed : (k : Kind) (s : ℕ) (ds : List ℕ) (cs : List Call) (w : World) → Begins k w → IsFile k (w .image) s → ChainOf k (w .image) s ds → Unnamed s w cs
-    → SameIn k s ds (w .image) (run w cs .image)
-same-unnamed k s ds = same-run k s ds (Unnamed s) (λ w c cs b i own r. same-call k w b s i ds own c (came k w c b (r .given .0)) (r .none-names .0))
+same-unnamed : (k : Kind) (s : ℕ) (ds : List ℕ) (cs : List Call) (w : World) → Begins k w → IsFile k (w .image) s → ChainOf k (w .image) s ds
+    → Unnamed s w cs → SameIn k s ds (w .image) (run w cs .image)
+same-unnamed k s ds = same-run k s ds (Unnamed s)
+    (λ w c cs b i own r. same-call k w b s i ds own c (came k w c b (r .given .0)) (r .none-names .0))
     (λ w c cs b r. let y = came k w c b (r .given .0) in
     (record { on = came-on k w c (b .on) y; bytes = came-bytes k w c (b .on) (b .bytes) y }, record { given = r .given .1; none-names = r .none-names .1 }))
 

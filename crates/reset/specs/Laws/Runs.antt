@@ -26,12 +26,15 @@ module _ (k : Kind) (w : World) (b : Begins k w) (s : ℕ) (i : IsFile k (w .ima
 
 -- R holds of a world and the calls that are to come: where they begin, the first leaves the file as it is, and R holds after it
 module _ (k : Kind) (s : ℕ) (ds : List ℕ) (R : World → List Call → Type 0)
-    (one : (w : World) (c : Call) (cs : List Call) → Begins k w → IsFile k (w .image) s → ChainOf k (w .image) s ds → R w (c ∷ cs) → SameIn k s ds (w .image) (step w c .image))
+    (one : (w : World) (c : Call) (cs : List Call) → Begins k w → IsFile k (w .image) s → ChainOf k (w .image) s ds → R w (c ∷ cs)
+    → SameIn k s ds (w .image) (step w c .image))
     (on : (w : World) (c : Call) (cs : List Call) → Begins k w → R w (c ∷ cs) → Begins k (step w c) × R (step w c) cs) where
-  pub same-run : (cs : List Call) (w : World) → Begins k w → IsFile k (w .image) s → ChainOf k (w .image) s ds → R w cs → SameIn k s ds (w .image) (run w cs .image)
+  pub same-run : (cs : List Call) (w : World) → Begins k w → IsFile k (w .image) s → ChainOf k (w .image) s ds → R w cs
+      → SameIn k s ds (w .image) (run w cs .image)
   same-run [] w b i own r = same-self k s ds (w .image)
   same-run (c ∷ cs) w b i own r =
       let x = one w c cs b i own r in
       let y = on w c cs b r in
-      let rest = same-run cs (step w c) (y .0) (same-file k (w .image) (b .on) s i ds own (step w c .image) x) (same-chain k (w .image) (b .on) s i ds own (step w c .image) x) (y .1) in
+      let rest = same-run cs (step w c) (y .0) (same-file k (w .image) (b .on) s i ds own (step w c .image) x)
+      (same-chain k (w .image) (b .on) s i ds own (step w c .image) x) (y .1) in
       same-then k s ds (w .image) (step w c .image) (run (step w c) cs .image) x rest

@@ -2,11 +2,8 @@
 use Prim.Native.Nat.{ℕ}
 use mathlib.Core.List.{List, [], _∷_}
 use mathlib.Core.Logic.{inl, inr}
-use mathlib.Core.Path.{_≡_}
 use Rattle.diskette.specs.declared.Kind.{Kind}
 use Rattle.sound.specs.Files.{IsFile, ChainOf}
-use Rattle.names.specs.Spelling.{Means}
-use Rattle.rescuing.specs.Rescue.{rescueOutcome}
 use Rattle.changes.specs.Files.{File, Holds}
 use Rattle.changes.specs.Laws.Changed.{on-sound}
 use Rattle.history.specs.Promises.{Given, AllGiven, Begins}
@@ -17,7 +14,7 @@ use Rattle.history.specs.Laws.Runs.{begins-run}
 use Rattle.history.specs.Laws.Tare.{tare-guarded, spared, guarded-still, begins-still}
 use Rattle.history.specs.Laws.TareCalls.{Guarded}
 use Rattle.reset.specs.Torn.{Stands}
-use Rattle.reset.specs.Promises.{LeftByRun, giving, TareThroughReset, RescuedAfterReset}
+use Rattle.reset.specs.Promises.{LeftByRun, Rescued, TareThroughReset, RescuedAfterReset}
 use Rattle.reset.specs.Aids.Same.{SameIn}
 use Rattle.reset.specs.Laws.Rescued.{rescued}
 use Rattle.reset.specs.Laws.Same.{same-file, same-chain}
@@ -45,9 +42,10 @@ safe-on k s w c cs b r =
       record { guarded = guarded-still k w b s (r .guarded) c y (r .no-mode .0); given = r .given .1; no-mode = r .no-mode .1 },
     )
 
-same-safe : (k : Kind) (s : ℕ) (ds : List ℕ) (cs : List Call) (w : World) → Begins k w → IsFile k (w .image) s → ChainOf k (w .image) s ds → Safe k s w cs
-    → SameIn k s ds (w .image) (run w cs .image)
-same-safe k s ds = same-run k s ds (Safe k s) (λ w c cs b i own r. same-guarded k w b s i ds own c (r .given .0) (r .guarded) (r .no-mode .0)) (safe-on k s)
+same-safe : (k : Kind) (s : ℕ) (ds : List ℕ) (cs : List Call) (w : World) → Begins k w → IsFile k (w .image) s → ChainOf k (w .image) s ds
+    → Safe k s w cs → SameIn k s ds (w .image) (run w cs .image)
+same-safe k s ds = same-run k s ds (Safe k s)
+    (λ w c cs b i own r. same-guarded k w b s i ds own c (r .given .0) (r .guarded) (r .no-mode .0)) (safe-on k s)
 
 -- it is guarded after the run too
 guarded-run : (k : Kind) (s : ℕ) (cs : List Call) (w : World) → Begins k w → Safe k s w cs → Guarded k (run w cs) s
@@ -78,8 +76,7 @@ module _ (k : Kind) (w : World) (b : Begins k w) (s : ℕ) (x : Tare k w s) (cs 
       torn-stands k (v .image) (run v ds .image) m (saved .on) (saving .on) (left .torn) (w .image) (b .on) s i (z .0 s) own
       (saved .bytes) (saving .bytes) before since
 
-  brought : (f : File) → Holds k (w .image) s f → (name : List ℕ) → Means name (f .name) → (out : List ℕ)
-      → rescueOutcome m name out ≡ giving m out (f .bytes)
+  brought : (f : File) → Holds k (w .image) s f → Rescued m f
   brought f h = rescued m k (torn-kind k (v .image) (run v ds .image) m (saved .on) (saving .on) (left .torn)) s f (stands .file f h) (stands .alone)
 
 pub tare-through-reset : TareThroughReset
