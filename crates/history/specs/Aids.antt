@@ -1,0 +1,2 @@
+-- What only the proofs speak of.
+pub mod Came
