@@ -31,3 +31,6 @@ pub mod OneFile
 pub mod EndsWell
 pub mod FileMade
 pub mod ListingCase
+pub mod Spoils
+pub mod WrongLibraries
+pub mod WrongRefused
