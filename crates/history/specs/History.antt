@@ -4,19 +4,20 @@
 use Prim.Native.Nat.{ℕ}
 use mathlib.Core.Bool.{cond}
 use mathlib.Core.List.{List, [], _∷_}
+use mathlib.Core.Logic.{_≢_}
 use mathlib.Core.Option.{Option, none, some}
 use mathlib.Core.Path.{_≡_}
 use lib.Dec.{eqb}
 use lib.ListN.{take}
-use Rattle.chains.specs.Put.{put}
 use Rattle.chains.specs.Write.{written}
-use Rattle.names.specs.Reading.{nameOf}
-use Rattle.opened.specs.Records.{slotOf, pointerOf, writtenOf}
+use Rattle.diskette.specs.declared.Kind.{Kind}
+use Rattle.names.specs.Spelling.{Means}
+use Rattle.opened.specs.Records.{pointerOf, writtenOf}
 use Rattle.calls.specs.Outcome.{Outcome}
-use Rattle.calls.specs.Refusals.{fileSlot}
 use Rattle.closing.specs.Close.{archived}
 use Rattle.changes.specs.Files.{File, file, Files}
-use Rattle.history.specs.World.{World, Call, outcomeOf, step, check, countFree, tellEntry, openFile, create, read, write, seek, close, delete, rename, mode, view}
+use Rattle.history.specs.Meant.{Names}
+use Rattle.history.specs.World.{World, Call, Library, stepBy, look, openFile, create, read, write, seek, close, delete, rename, mode}
 
 -- ---- what is done to one file, if there is one
 
@@ -38,32 +39,31 @@ markedWith attr f = file (f .name) attr (f .bytes)
 abbrev pub withArchiveBit : File → File
 withArchiveBit f = file (f .name) (archived (f .attr)) (f .bytes)
 
--- the file in slot s is changed
-abbrev pub at : ℕ → (Option File → Option File) → Files → Files
-at s f fs = put fs s (f (fs s))
+-- ---- what a call that ends well makes of the file f in the slot that it names: w is the world before it, o its outcome
 
--- ---- what a call that ends well does to the files: w is the world before it, o its outcome
+abbrev pub Becomes : Call → World → Outcome → Option File → Option File → Type 0
+Becomes (create name attr stamp) w o f g = (n : List ℕ) × Means name n × (g ≡ some (file n attr []))
+Becomes (write h bs) w o f g = g ≡ cond (eqb (o .value) 0) f (each (withBytes (pointerOf (w .table) h) (take (o .value) bs)) f)
+Becomes (close h stamp) w o f g = g ≡ cond (writtenOf (w .table) h) (each withArchiveBit f) f
+Becomes (delete name) w o f g = g ≡ none
+Becomes (rename name new) w o f g = (n : List ℕ) × Means new n × (g ≡ each (renamedTo n) f)
+Becomes (mode name function attr) w o f g = g ≡ cond (eqb function 1) (each (markedWith attr) f) f
+Becomes (openFile name access) w o f g = g ≡ f
+Becomes (read h buffer) w o f g = g ≡ f
+Becomes (seek h method offset) w o f g = g ≡ f
+Becomes (look x) w o f g = g ≡ f
 
-abbrev pub changes : Call → World → Outcome → Files → Files
-changes (create s attr stamp) w o fs = put fs (slotOf (o .table) (o .value)) (some (file (nameOf s .name) attr []))
-changes (write h bs) w o fs = cond (eqb (o .value) 0) fs (at (slotOf (w .table) h) (each (withBytes (pointerOf (w .table) h) (take (o .value) bs))) fs)
-changes (close h stamp) w o fs = cond (writtenOf (w .table) h) (at (slotOf (w .table) h) (each withArchiveBit) fs) fs
-changes (delete s) w o fs = put fs (fileSlot (w .image) s) none
-changes (rename s n) w o fs = at (fileSlot (w .image) s) (each (renamedTo (nameOf n .name))) fs
-changes (mode s function attr) w o fs = cond (eqb function 1) (at (fileSlot (w .image) s) (each (markedWith attr)) fs) fs
-changes check w o fs = fs
-changes countFree w o fs = fs
-changes (tellEntry slot) w o fs = fs
-changes (openFile s access) w o fs = fs
-changes (read h buffer) w o fs = fs
-changes (seek h method offset) w o fs = fs
-changes (view s offset) w o fs = fs
+-- ---- the files after a call: fs are those before it, gs those after
 
--- a call that refuses changes nothing
-abbrev pub after : Call → World → Files → Files
-after c w fs = cond (eqb (outcomeOf c w .number) 0) (changes c w (outcomeOf c w) fs) fs
+pub record After (lib : Library) (k : Kind) (w : World) (c : Call) (fs gs : Files) : Type 0 where
+  -- a call that refuses changes no file
+  pub refused : lib c w .number ≢ 0 → (s : ℕ) → gs s ≡ fs s
+  -- one that ends well changes the one that it names
+  pub named : lib c w .number ≡ 0 → (s : ℕ) → Names c k w s → Becomes c w (lib c w) (fs s) (gs s)
+  -- and no other
+  pub others : (s : ℕ) → ¬ Names c k w s → gs s ≡ fs s
 
--- the files after a run
-abbrev pub history : World → List Call → Files → Files
-history w [] fs = fs
-history w (c ∷ cs) fs = history (step w c) cs (after c w fs)
+-- and after a run
+abbrev pub History : Library → Kind → World → List Call → Files → Files → Type 0
+History lib k w [] fs gs = (s : ℕ) → gs s ≡ fs s
+History lib k w (c ∷ cs) fs gs = (hs : Files) × After lib k w c fs hs × History lib k (stepBy lib w c) cs hs gs

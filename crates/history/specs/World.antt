@@ -1,9 +1,8 @@
--- A world is an image and an open table. A call is its name with what the caller gives; a run is a list of calls. Format stands
--- apart: it makes a new volume. Check on a system area alone reads other bytes than the world's.
+-- A world is an image and an open table. A call is its name with what the caller gives; a run is a list of calls; a library is
+-- what answers calls. Format stands apart: it makes a new volume. Check on a system area alone reads other bytes than the world's.
 use Prim.Native.Nat.{ℕ}
 use mathlib.Core.Bool.{Bool, true, false}
 use mathlib.Core.List.{List, [], _∷_}
-use mathlib.Core.Path.{_≡_}
 use lib.IntN.{ℤ}
 use Rattle.stamps.specs.declared.Stamp.{Stamp}
 use Rattle.sound.specs.Judged.{checkOf}
@@ -11,9 +10,7 @@ use Rattle.sound.specs.declared.Verdict.{Verdict}
 use Rattle.sound.specs.declared.Verdict.the-variants.{Sound, Finding}
 use Rattle.freespace.specs.FreeSpace.{freeSpace}
 use Rattle.entries.specs.Entry.{entryTold}
-use Rattle.opened.specs.Records.{slotOf}
 use Rattle.calls.specs.Outcome.{Outcome, outcome}
-use Rattle.calls.specs.Refusals.{fileSlot}
 use Rattle.opening.specs.Open.{openOutcome}
 use Rattle.seeking.specs.Seek.{seekOutcome}
 use Rattle.closing.specs.Close.{closeOutcome}
@@ -21,6 +18,7 @@ use Rattle.marking.specs.Mode.{modeOutcome}
 use Rattle.renaming.specs.Rename.{renameOutcome}
 use Rattle.reading.specs.Read.{readOutcome}
 use Rattle.viewing.specs.View.{viewOutcome}
+use Rattle.rescuing.specs.Rescue.{rescueOutcome}
 use Rattle.creating.specs.Create.{createOutcome}
 use Rattle.deleting.specs.Delete.{deleteOutcome}
 use Rattle.writing.specs.Write.{writeOutcome}
@@ -32,11 +30,18 @@ pub record World : Type 0 where
 abbrev pub world : List ℕ → List ℕ → World
 world image table = record { image = image; table = table }
 
--- names, buffers and bytes to write are lists; the numbers come in the order of the calls' own arguments
+-- ---- calls: names, buffers and bytes to write are lists; the numbers come in the order of the calls' own arguments
+
+-- the calls that only look
+pub data Look : Type 0 where
+  check : Look
+  countFree : Look
+  tellEntry : ℕ → Look
+  view : List ℕ → ℕ → Look
+  rescue : List ℕ → List ℕ → Look
+
 pub data Call : Type 0 where
-  check : Call
-  countFree : Call
-  tellEntry : ℕ → Call
+  look : Look → Call
   openFile : List ℕ → ℕ → Call
   create : List ℕ → ℕ → Stamp → Call
   read : ℕ → List ℕ → Call
@@ -46,9 +51,24 @@ pub data Call : Type 0 where
   delete : List ℕ → Call
   rename : List ℕ → List ℕ → Call
   mode : List ℕ → ℕ → ℕ → Call
-  view : List ℕ → ℕ → Call
 
--- what a call answers that only looks at the volume: a number, 0 where all is well, and a value
+-- ---- libraries
+
+abbrev pub Library : Type 0
+Library = Call → World → Outcome
+
+-- the world after a call, if this library answers it
+abbrev pub stepBy : Library → World → Call → World
+stepBy lib w c = world (lib c w .image) (lib c w .table)
+
+-- the world after a run
+abbrev pub runBy : Library → World → List Call → World
+runBy lib w [] = w
+runBy lib w (c ∷ cs) = runBy lib (stepBy lib w c) cs
+
+-- ---- our library: the calls' own outcome functions
+
+-- what a look answers: a number, 0 where all is well, and a value
 abbrev pub looked : ℕ → ℕ → World → Outcome
 looked number value w = outcome number value (w .image) (w .table) []
 
@@ -61,52 +81,39 @@ abbrev pub bit : Bool → ℕ
 bit true = 1
 bit false = 0
 
--- view takes no table: it stays
+-- view and rescue take no table: it stays
 abbrev pub viewedIn : Outcome → World → Outcome
 viewedIn o w = outcome (o .number) (o .value) (o .image) (w .table) (o .buffer)
 
--- what a call does: its own outcome function
+abbrev pub lookOutcome : Look → World → Outcome
+lookOutcome check w = verdictIn (checkOf (w .image)) w
+lookOutcome countFree w = looked (freeSpace (w .image) .number) (freeSpace (w .image) .free) w
+lookOutcome (tellEntry slot) w = looked (entryTold (w .image) slot .number) (bit (entryTold (w .image) slot .found)) w
+lookOutcome (view name offset) w = viewedIn (viewOutcome (w .image) name offset) w
+lookOutcome (rescue name out) w = viewedIn (rescueOutcome (w .image) name out) w
+
 abbrev pub outcomeOf : Call → World → Outcome
-outcomeOf check w = verdictIn (checkOf (w .image)) w
-outcomeOf countFree w = looked (freeSpace (w .image) .number) (freeSpace (w .image) .free) w
-outcomeOf (tellEntry slot) w = looked (entryTold (w .image) slot .number) (bit (entryTold (w .image) slot .found)) w
-outcomeOf (openFile s access) w = openOutcome (w .image) (w .table) s access
-outcomeOf (create s attr stamp) w = createOutcome (w .image) (w .table) s attr stamp
+outcomeOf (look x) w = lookOutcome x w
+outcomeOf (openFile name access) w = openOutcome (w .image) (w .table) name access
+outcomeOf (create name attr stamp) w = createOutcome (w .image) (w .table) name attr stamp
 outcomeOf (read h buffer) w = readOutcome (w .image) (w .table) h buffer
 outcomeOf (write h bs) w = writeOutcome (w .image) (w .table) h bs
 outcomeOf (seek h method offset) w = seekOutcome (w .image) (w .table) h method offset
 outcomeOf (close h stamp) w = closeOutcome (w .image) (w .table) h stamp
-outcomeOf (delete s) w = deleteOutcome (w .image) (w .table) s
-outcomeOf (rename s n) w = renameOutcome (w .image) (w .table) s n
-outcomeOf (mode s function attr) w = modeOutcome (w .image) (w .table) s function attr
-outcomeOf (view s offset) w = viewedIn (viewOutcome (w .image) s offset) w
+outcomeOf (delete name) w = deleteOutcome (w .image) (w .table) name
+outcomeOf (rename name new) w = renameOutcome (w .image) (w .table) name new
+outcomeOf (mode name function attr) w = modeOutcome (w .image) (w .table) name function attr
 
--- the file that a call names stands in slot s: by its name, by a handle's place, or, where create made it, by the place that it took
-abbrev pub Names : Call → World → ℕ → Type 0
-Names check w s = ⊥
-Names countFree w s = ⊥
-Names (tellEntry slot) w s = s ≡ slot
-Names (openFile name access) w s = s ≡ fileSlot (w .image) name
-Names (create name attr stamp) w s = s ≡ slotOf (outcomeOf (create name attr stamp) w .table) (outcomeOf (create name attr stamp) w .value)
-Names (read h buffer) w s = s ≡ slotOf (w .table) h
-Names (write h bs) w s = s ≡ slotOf (w .table) h
-Names (seek h method offset) w s = s ≡ slotOf (w .table) h
-Names (close h stamp) w s = s ≡ slotOf (w .table) h
-Names (delete name) w s = s ≡ fileSlot (w .image) name
-Names (rename name new) w s = s ≡ fileSlot (w .image) name
-Names (mode name function attr) w s = s ≡ fileSlot (w .image) name
-Names (view name offset) w s = s ≡ fileSlot (w .image) name
+abbrev pub ours : Library
+ours = outcomeOf
 
--- the world after a call
 abbrev pub step : World → Call → World
-step w c = world (outcomeOf c w .image) (outcomeOf c w .table)
+step = stepBy ours
 
--- the world after a run
 abbrev pub run : World → List Call → World
-run w [] = w
-run w (c ∷ cs) = run (step w c) cs
+run = runBy ours
 
--- what its calls answered, one after the other
+-- what the calls of a run answered, one after the other
 abbrev pub answers : World → List Call → List Outcome
 answers w [] = []
 answers w (c ∷ cs) = outcomeOf c w ∷ answers (step w c) cs

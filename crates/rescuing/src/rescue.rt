@@ -3,18 +3,19 @@ use calls::Answer;
 use diskette::Kind;
 use diskette::WhichKind;
 use search::Found;
-use walks::Length;
-ghost use Prim.Native.Nat.{_≤_};
-ghost use mathlib.Core.Bool.{false};
+ghost use Prim.Native.Nat.{_+_, _≤_};
+ghost use mathlib.Core.Bool.{true};
 ghost use mathlib.Core.Path.{_≡_};
 ghost use lib.ListN.{length, take};
 ghost use Rattle.image.specs.Store.{stored};
+ghost use Rattle.chains.specs.Values.{endb};
+ghost use Rattle.table.specs.Entries.{wordAt, tableOf};
 ghost use Rattle.diskette.specs.Images.{kindOfImage};
 ghost use Rattle.diskette.specs.Places.{slotAt};
 ghost use Rattle.diskette.specs.declared.WhichKind.the-variants.{Known};
 ghost use Rattle.fields.specs.Fields.{sizeOf};
 ghost use Rattle.holding.specs.Holding.{fileBytes, FileIn};
-ghost use Rattle.rescuing.specs.Rescue.{rescueCount, badChainIn, Rescues};
+ghost use Rattle.rescuing.specs.Rescue.{endsAfter, goodChain, rescueCount, Rescues};
 
 // How many bytes out and size allow.
 fn count_of(room: usize, size: u32) -> u32
@@ -27,28 +28,61 @@ fn count_of(room: usize, size: u32) -> u32
     }
 }
 
-// Whether the chain of the file in the slot is not as long as its size asks for, or has no end.
-fn has_bad_chain(img: &[u8], k: Kind, slot: usize) -> bool
+// Whether v is an end value.
+fn is_end(v: usize) -> bool
+    ensures { λ r. ⌜ r ≡ endb v ⌝ }
+{
+    if v < 0xFF8 {
+        return false;
+    }
+    v <= 0xFFF
+}
+
+// Whether there are n clusters from start on, each in range, each but the last naming the next, the last an end value.
+fn ends_after(img: &[u8], last: usize, start: usize, n: usize) -> bool
+    requires { ⌜ last ≤ 4079 ⌝ }
+    requires { ⌜ wordAt 512 last + 2 ≤ length (now img) ⌝ }
+    ensures { λ r. ⌜ r ≡ endsAfter last (tableOf last (now (img .entry))) start n ⌝ }
+{
+    let mut v = start;
+    let mut left = n;
+    while 0 < left {
+        if v < 2 {
+            return false;
+        }
+        if last < v {
+            return false;
+        }
+        v = links::value_of(img, last, v);
+        left -= 1;
+    }
+    is_end(v)
+}
+
+// Whether the chain of the file in the slot is as finding 5 asks. None has more clusters than the volume.
+fn has_good_chain(img: &[u8], k: Kind, slot: usize) -> bool
     requires { ⌜ kindOfImage (now img) ≡ Known k ⌝ }
     requires { ⌜ FileIn (now img) k slot ⌝ }
-    ensures { λ r. ⌜ r ≡ badChainIn k (now (img .entry)) slot ⌝ }
+    ensures { λ r. ⌜ r ≡ goodChain k (now (img .entry)) slot ⌝ }
 {
     let a = k.slot_at(slot);
     let start = fields::start_at(img, a) as usize;
-    let needed = k.needed_for(fields::size_at(img, a));
-    let mut marks = [0u8; 4080];
-    let mut left = [0u16; 4080];
-    match walks::chain::visit(img, &mut marks, &mut left, k.last_cluster(), start) {
-        Length::Of(n) => n != needed,
-        Length::NoEnd => true,
+    let size = fields::size_at(img, a);
+    if size == 0 {
+        return start == 0;
     }
+    let needed = k.needed_for(size);
+    if k.clusters() < needed {
+        return false;
+    }
+    ends_after(img, k.last_cluster(), start, needed)
 }
 
 // Copies the first n bytes of the file in the slot, whose chain is good, to the front of out.
 fn copy_out(img: &[u8], k: Kind, slot: usize, out: &mut [u8], n: u32)
     requires { ⌜ kindOfImage (now img) ≡ Known k ⌝ }
     requires { ⌜ FileIn (now img) k slot ⌝ }
-    requires { ⌜ badChainIn k (now img) slot ≡ false ⌝ }
+    requires { ⌜ goodChain k (now img) slot ≡ true ⌝ }
     requires { ⌜ n ≤ sizeOf (now img) (slotAt k slot) ⌝ }
     requires { ⌜ n ≤ length (now out) ⌝ }
     ensures { λ _. ⌜ now (out .exit) ≡ stored (now (out .entry)) 0 (take n (fileBytes k (now (img .entry)) slot)) ⌝ }
@@ -80,7 +114,7 @@ fn rescue_on(img: &[u8], k: Kind, s: &[u8], out: &mut [u8]) -> Answer
     match directory::slot_named(img, k.root_at(), k.root_entries(), name) {
         Found::Nothing => Answer::refused(2),
         Found::At(slot) => {
-            if has_bad_chain(img, k, slot) {
+            if !has_good_chain(img, k, slot) {
                 return Answer::refused(5);
             }
             let size = fields::size_at(img, k.slot_at(slot));

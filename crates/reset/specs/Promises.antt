@@ -7,47 +7,60 @@ use Rattle.image.specs.Store.{stored}
 use Rattle.diskette.specs.declared.Kind.{Kind}
 use Rattle.names.specs.Spelling.{Means}
 use Rattle.sound.specs.Files.{IsFile}
-use Rattle.calls.specs.Outcome.{Outcome, outcome}
-use Rattle.rescuing.specs.Rescue.{rescueCount, rescueOutcome}
+use Rattle.calls.specs.Outcome.{Outcome}
+use Rattle.rescuing.specs.Rescue.{rescueCount}
 use Rattle.changes.specs.Files.{File, Holds}
-use Rattle.history.specs.Promises.{AllGiven, Begins}
+use Rattle.history.specs.Meant.{Names}
+use Rattle.history.specs.Promises.{AllGiven, AfterAnyRun}
 use Rattle.history.specs.Tare.{Tare, NoModeSet}
-use Rattle.history.specs.World.{World, Call, Names, step, run}
+use Rattle.history.specs.World.{World, Call, Library, world, stepBy, runBy, look, rescue}
 use Rattle.reset.specs.Torn.{Torn, Stands}
 
--- m is a disk that a run may leave: cs are its calls up to the last save that ended, ds those since, and none sets the mode of
--- the file in slot s
-pub record LeftByRun (w : World) (s : ℕ) (cs ds : List Call) (m : List ℕ) : Type 0 where
-  pub given : AllGiven cs × AllGiven ds
-  pub no-mode : NoModeSet w cs s × NoModeSet (run w cs) ds s
-  pub torn : Torn (run w cs .image) (run (run w cs) ds .image) m
+-- ---- what stands
 
--- on each such disk the tare stands as it was when the run began
-abbrev pub TareThroughReset : Type 0
-TareThroughReset = (k : Kind) (w : World) → Begins k w → (s : ℕ) → Tare k w s → (cs ds : List Call) (m : List ℕ) → LeftByRun w s cs ds m
-    → Stands k s (w .image) m
+-- m is a disk that a run from w on may leave: cs are its calls up to the last save that ended, ds those since, and none sets the
+-- mode of the file in slot s
+pub record LeftByRun (lib : Library) (k : Kind) (w : World) (s : ℕ) (cs ds : List Call) (m : List ℕ) : Type 0 where
+  pub given : AllGiven cs × AllGiven ds
+  pub no-mode : NoModeSet lib k w cs s × NoModeSet lib k (runBy lib w cs) ds s
+  pub torn : Torn (runBy lib w cs .image) (runBy lib (runBy lib w cs) ds .image) m
+
+-- on each such disk the tare stands as it was when the run began; the run may begin after any other
+abbrev pub TareThroughReset : Library → Type 0
+TareThroughReset lib = AfterAnyRun lib (λ k w. (s : ℕ) → Tare k w s
+    → (cs ds : List Call) (m : List ℕ) → LeftByRun lib k w s cs ds m → Stands k s (w .image) m)
 
 -- no call of a run names the file in slot s, each in the world that it meets
-abbrev pub NoneNames : World → List Call → ℕ → Type 0
-NoneNames w [] s = Unit {0}
-NoneNames w (c ∷ cs) s = (¬ Names c w s) × NoneNames (step w c) cs s
+abbrev pub NoneNames : Library → Kind → World → List Call → ℕ → Type 0
+NoneNames lib k w [] s = Unit {0}
+NoneNames lib k w (c ∷ cs) s = (¬ Names c k w s) × NoneNames lib k (stepBy lib w c) cs s
 
 -- so does every file that no call since the last save names, be it one call or many: w is the world at that save
-abbrev pub OthersThroughReset : Type 0
-OthersThroughReset = (k : Kind) (w : World) → Begins k w → (cs : List Call) → AllGiven cs → (s : ℕ) → IsFile k (w .image) s → NoneNames w cs s
-    → (m : List ℕ) → Torn (w .image) (run w cs .image) m → Stands k s (w .image) m
+abbrev pub OthersThroughReset : Library → Type 0
+OthersThroughReset lib = AfterAnyRun lib (λ k w. (s : ℕ) → IsFile k (w .image) s
+    → (cs : List Call) → AllGiven cs → NoneNames lib k w cs s
+    → (m : List ℕ) → Torn (w .image) (runBy lib w cs .image) m → Stands k s (w .image) m)
 
--- what rescue answers where it gives these bytes: as many as out allows, to the front of out
-abbrev pub giving : List ℕ → List ℕ → List ℕ → Outcome
-giving m out bytes = let n = rescueCount (length out) (length bytes) in outcome 0 n m [] (stored out 0 (take n bytes))
+-- ---- what rescue gives
 
--- on each disk that a run may leave rescue gives the tare, byte for byte, by any spelling of its name
-abbrev pub RescuedAfterReset : Type 0
-RescuedAfterReset = (k : Kind) (w : World) → Begins k w → (s : ℕ) → Tare k w s → (cs ds : List Call) (m : List ℕ) → LeftByRun w s cs ds m
-    → (f : File) → Holds k (w .image) s f → (name : List ℕ) → Means name (f .name) → (out : List ℕ) → rescueOutcome m name out ≡ giving m out (f .bytes)
+-- it ends well with the first of these bytes, as many as out allows, at the front of out
+pub record Gives (o : Outcome) (out bytes : List ℕ) : Type 0 where
+  pub well : o .number ≡ 0
+  pub count : o .value ≡ rescueCount (length out) (length bytes)
+  pub put : o .buffer ≡ stored out 0 (take (o .value) bytes)
+
+-- from the disk m, by any spelling of the file's name; the open table may hold any bytes
+abbrev pub Rescued : Library → List ℕ → File → Type 0
+Rescued lib m f = (name : List ℕ) → Means name (f .name) → (table out : List ℕ) → Gives (lib (look (rescue name out)) (world m table)) out (f .bytes)
+
+-- on each disk that a run may leave rescue gives the tare, byte for byte
+abbrev pub RescuedAfterReset : Library → Type 0
+RescuedAfterReset lib = AfterAnyRun lib (λ k w. (s : ℕ) → Tare k w s
+    → (cs ds : List Call) (m : List ℕ) → LeftByRun lib k w s cs ds m
+    → (f : File) → Holds k (w .image) s f → Rescued lib m f)
 
 -- and every file that no call since the last save names
-abbrev pub OthersRescuedAfterReset : Type 0
-OthersRescuedAfterReset = (k : Kind) (w : World) → Begins k w → (cs : List Call) → AllGiven cs → (s : ℕ) → NoneNames w cs s
-    → (m : List ℕ) → Torn (w .image) (run w cs .image) m
-    → (f : File) → Holds k (w .image) s f → (name : List ℕ) → Means name (f .name) → (out : List ℕ) → rescueOutcome m name out ≡ giving m out (f .bytes)
+abbrev pub OthersRescuedAfterReset : Library → Type 0
+OthersRescuedAfterReset lib = AfterAnyRun lib (λ k w. (s : ℕ) (f : File) → Holds k (w .image) s f
+    → (cs : List Call) → AllGiven cs → NoneNames lib k w cs s
+    → (m : List ℕ) → Torn (w .image) (runBy lib w cs .image) m → Rescued lib m f)

@@ -1,11 +1,11 @@
 -- The image is saved by sectors of 512 bytes, in any order. A reset in the middle of a save leaves on the disk, of each sector,
 -- the old bytes or the new ones.
-use Prim.Native.Nat.{ℕ, _*_, _/_}
+use Prim.Native.Nat.{ℕ, _+_, _*_, _/_, _<_}
 use mathlib.Core.List.{List}
 use mathlib.Core.Logic.{_⊎_}
 use mathlib.Core.Path.{_≡_}
 use lib.ListN.{length, getD}
-use Rattle.chains.specs.Content.{InCluster}
+use Rattle.chains.specs.Content.{clusterAt}
 use Rattle.diskette.specs.Places.{firstData, clusterBytes, slotAt}
 use Rattle.diskette.specs.declared.Kind.{Kind}
 use Rattle.directory.specs.Entries.{SameBytes}
@@ -33,7 +33,8 @@ pub record Stands (k : Kind) (s : ℕ) (l m : List ℕ) : Type 0 where
   pub entry : SameBytes m (slotAt k s) l (slotAt k s)
   -- for each of its clusters the table's value (of copy 1) and the bytes
   pub values : (c : ℕ) → InChain k l s c → valueOf k m c ≡ valueOf k l c
-  pub bytes : (c q : ℕ) → InChain k l s c → InCluster (512 * firstData k) (clusterBytes k) c q → getD m q 0 ≡ getD l q 0
+  pub bytes : (c i : ℕ) → InChain k l s c → i < clusterBytes k
+      → let q = clusterAt (512 * firstData k) (clusterBytes k) c + i in getD m q 0 ≡ getD l q 0
   -- so it is the same file,
   pub file : (f : File) → Holds k l s f → Holds k m s f
   -- and no second one has its name

@@ -11,17 +11,16 @@ use Rattle.chains.specs.Tests.{bit}
 use Rattle.chains.specs.Sums.{sum}
 use Rattle.chains.specs.Values.{free, freeb, asideb}
 use Rattle.chains.specs.Laws.Sums.{sum-cong, sum-one, sum-zero}
-use Rattle.chains.specs.Laws.Tests.{true-says}
 use Rattle.chains.specs.Laws.Values.{free-no-use, free-one, free-no-aside, free-sum, aside-sum}
 use Rattle.diskette.specs.Kinds.{named, Usable}
 use Rattle.diskette.specs.Places.{clusters, lastCluster}
+use Rattle.diskette.specs.Laws.Images.{image-of-kind}
 use Rattle.diskette.specs.declared.Kind.{Kind}
 use Rattle.diskette.specs.declared.WhichKind.the-variants.{Known}
 use Rattle.sound.specs.Counts.{freeOf, asideOf}
 use Rattle.sound.specs.Files.{valueOf, IsFile}
 use Rattle.sound.specs.Sound.{Sound}
 use Rattle.sound.specs.Laws.Copies.{no-difference-from}
-use Rattle.sound.specs.Laws.IsSound.{known-says}
 use Rattle.formatting.specs.Format.{blank, formatted}
 use Rattle.formatting.specs.Laws.Blank.{blank-head, blank-agrees, blank-table, blank-slot, blank-bytes, kind-of-blank}
 use Rattle.changes.specs.Files.{Shows}
@@ -56,7 +55,8 @@ module _ (k : Kind) (u : Usable k) (named-so : named (k .byte) ≡ Known k) wher
 
   pub blank-begins : (t : List ℕ) → Begins k (world (blank k) t)
   blank-begins t = record {
-    on = record { known = kind-of-blank k u named-so; sound = true-says (known-says (blank k) k (kind-of-blank k u named-so)) blank-sound };
+    of-kind = image-of-kind (blank k) k .0 (kind-of-blank k u named-so);
+    sound = blank-sound;
     bytes = blank-bytes k u named-so;
   }
 
@@ -66,13 +66,15 @@ module _ (k : Kind) (u : Usable k) (named-so : named (k .byte) ≡ Known k) wher
   pub blank-free : freeOf k (blank k) ≡ clusters k
   blank-free =
       let n : ℕ = lastCluster k - 1 in
-      let e : sum n (λ i. bit (freeb (valueOf k (blank k) (i + 2)))) ≡ sum n (λ i. 1) = sum-cong n _ _ (λ i h. free-one (valueOf k (blank k) (i + 2)) (blank-table k u (i + 2))) in
+      let e : sum n (λ i. bit (freeb (valueOf k (blank k) (i + 2)))) ≡ sum n (λ i. 1)
+      = sum-cong n _ _ (λ i h. free-one (valueOf k (blank k) (i + 2)) (blank-table k u (i + 2))) in
       omega (arith, free-sum (lastCluster k) (valueOf k (blank k)), e, sum-one n)
 
   pub blank-aside : asideOf k (blank k) ≡ 0
   blank-aside =
       let n : ℕ = lastCluster k - 1 in
-      let e : sum n (λ i. bit (asideb (valueOf k (blank k) (i + 2)))) ≡ sum n (λ i. 0) = sum-cong n _ _ (λ i h. free-no-aside (valueOf k (blank k) (i + 2)) (blank-table k u (i + 2))) in
+      let e : sum n (λ i. bit (asideb (valueOf k (blank k) (i + 2)))) ≡ sum n (λ i. 0)
+      = sum-cong n _ _ (λ i h. free-no-aside (valueOf k (blank k) (i + 2)) (blank-table k u (i + 2))) in
       omega (arith, aside-sum (lastCluster k) (valueOf k (blank k)), e, sum-zero n)
 
   -- what format makes of any image of that length

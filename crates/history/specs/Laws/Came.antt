@@ -3,46 +3,105 @@
 use Prim.Native.Nat.{ℕ, _+_, _<_}
 use native.Mathlib.Decide.{ℕ-discrete}
 use mathlib.Core.List.{List}
+use mathlib.Core.Logic.{_≢_, _⊎_, inl, inr}
 use mathlib.Core.Option.{Option, none, some}
-use mathlib.Core.Path.{_≡_, refl, sym, ap, _∙_, subst}
+use mathlib.Core.Path.{_≡_, refl, sym, ap, subst}
 use lib.ListN.{getD}
-use Rattle.image.specs.Bytes.{Bytes}
+use Rattle.chains.specs.Put.{put}
+use Rattle.chains.specs.Laws.Put.{put-same, put-other}
 use Rattle.diskette.specs.Places.{rootEntries, slotAt}
 use Rattle.diskette.specs.declared.Kind.{Kind}
 use Rattle.directory.specs.Entries.{SameBytes}
-use Rattle.calls.specs.Ready.{OnVolume}
-use Rattle.history.specs.Came.{Came, Changes, stays, changes}
 use Rattle.changes.specs.Files.{File, Files, Shows, ShowsAt}
-use Rattle.history.specs.History.{after}
-use Rattle.history.specs.World.{World, Call, Names, step}
 use Rattle.changes.specs.Laws.Changed.{changed-on, other-none, other-holds}
+use Rattle.history.specs.Aids.Came.{Came, Does, Changes, idle, stays, changes}
+use Rattle.history.specs.History.{Becomes, After}
+use Rattle.history.specs.Meant.{Names, target, nothing}
+use Rattle.history.specs.Promises.{Begins}
+use Rattle.history.specs.World.{World, Call, ours, outcomeOf, step}
+use Rattle.history.specs.Laws.Begins.{on, on-begins}
+use Rattle.history.specs.Laws.Meant.{names-one, names-none}
 
-module _ (k : Kind) (w : World) (c : Call) (v : OnVolume (w .image) k) where
-  pub came-on : Came k w c → OnVolume (step w c .image) k
-  came-on (stays e h) = subst (λ (l : List ℕ). OnVolume l k) (sym e) v
-  came-on (changes s ds x) = changed-on k (w .image) v (step w c .image) s ds (x .changed)
+module _ (k : Kind) (w : World) (c : Call) (b : Begins k w) where
+  abbrev m : List ℕ
+  m = step w c .image
 
-  pub came-bytes : Bytes (w .image) → Came k w c → Bytes (step w c .image)
-  came-bytes b (stays e h) = subst Bytes (sym e) b
-  came-bytes b (changes s ds x) = x .bytes
+  -- an image that stays is sound as it was
+  same-begins : m ≡ w .image → Begins k (step w c)
+  same-begins e = on-begins k (step w c) (rw e (on b)) (rw e (b .bytes))
 
-  other-shows : (s : ℕ) (ds : List ℕ) → Changes k w c s ds → (t : ℕ) → ¬ (t ≡ s) → (o : Option File) → ShowsAt k (w .image) t o → ShowsAt k (step w c .image) t o
-  other-shows s ds x t n none h = other-none k (w .image) v (step w c .image) s ds (x .changed) t n h
-  other-shows s ds x t n (some f) h = other-holds k (w .image) v (step w c .image) s ds (x .changed) t n (h .is-file) f h
+  pub came-begins : Came k w c → Begins k (step w c)
+  came-begins (idle q e) = same-begins e
+  came-begins (stays s d e q) = same-begins e
+  came-begins (changes s ds d x) = on-begins k (step w c) (changed-on k (w .image) (on b) m s ds (x .changed)) (x .bytes)
 
-  pub came-shows : Came k w c → (fs : Files) → Shows k (w .image) fs → Shows k (step w c .image) (after c w fs)
-  came-shows (stays e h) fs x t = subst (Shows k (step w c .image)) (sym (h fs)) (subst (λ (l : List ℕ). Shows k l fs) (sym e) x) t
-  came-shows (changes s ds y) fs x t = elim (ℕ-discrete t s) [
-    | yes e ↦ subst (λ (i : ℕ). ShowsAt k (step w c .image) i (after c w fs i)) (sym e) (y .there fs x)
-    | no n ↦ subst (ShowsAt k (step w c .image) t) (sym (y .others fs t n)) (other-shows s ds y t n (fs t) (x t))
+  -- ---- the file that it names
+
+  one : (s t : ℕ) → Does k w c s → Names c k w t → t ≡ s
+  one s t d n = names-one k w (on b) t s c n (d .named)
+
+  pub came-names : Came k w c → target c ≢ nothing → outcomeOf c w .number ≡ 0 → (s : ℕ) × Names c k w s × ((t : ℕ) → Names c k w t → t ≡ s)
+  came-names (idle (inl n) e) about well = absurd (n well)
+  came-names (idle (inr q) e) about well = absurd (about q)
+  came-names (stays s d e q) about well = (s, d .named, λ t. one s t d)
+  came-names (changes s ds d x) about well = (s, d .named, λ t. one s t d)
+
+  -- ---- the files after it
+
+  -- a call that ends well and names slot s, and files that differ there as the history says
+  pub after-does : (s : ℕ) → Does k w c s → (fs gs : Files) → Becomes c w (outcomeOf c w) (fs s) (gs s) → ((t : ℕ) → t ≢ s → gs t ≡ fs t)
+      → After ours k w c fs gs
+  after-does s d fs gs there others = record {
+    refused = λ n. absurd (n (d .well));
+    named = λ well t n. subst (λ (i : ℕ). Becomes c w (outcomeOf c w) (fs i) (gs i)) (sym (one s t d n)) there;
+    others = λ t n. others t (λ e. n (subst (Names c k w) (sym e) (d .named)));
+  }
+
+  -- the history goes on
+  pub came-after : Came k w c → (fs : Files) → (gs : Files) × After ours k w c fs gs
+  came-after (idle q e) fs = (fs, record { refused = λ n s. refl; named = λ well s n. absurd (clash q well s n); others = λ s n. refl })
+    where
+      clash : (outcomeOf c w .number ≢ 0) ⊎ (target c ≡ nothing) → outcomeOf c w .number ≡ 0 → (s : ℕ) → Names c k w s → ⊥
+      clash (inl n) well s x = n well
+      clash (inr p) well s x = names-none k w c p s x
+  came-after (stays s d e q) fs = (fs, after-does s d fs fs (q (fs s) (fs s) .1 refl) (λ t n. refl))
+  came-after (changes s ds d x) fs =
+      let g = x .makes (fs s) in
+      let gs = put fs s (g .0) in
+      (gs, after-does s d fs gs (rw (put-same fs s (g .0) s refl) (g .1)) (λ t n. put-other fs s (g .0) t n))
+
+  other-shows : (s : ℕ) (ds : List ℕ) → Changes k w c s ds → (t : ℕ) → t ≢ s → (o : Option File) → ShowsAt k (w .image) t o → ShowsAt k m t o
+  other-shows s ds x t n none h = other-none k (w .image) (on b) m s ds (x .changed) t n h
+  other-shows s ds x t n (some f) h = other-holds k (w .image) (on b) m s ds (x .changed) t n (h .is-file) f h
+
+  pub came-shows : Came k w c → (fs gs : Files) → After ours k w c fs gs → Shows k (w .image) fs → Shows k m gs
+  came-shows (idle q e) fs gs a y t = rw e (subst (ShowsAt k (w .image) t) (sym (kept q)) (y t))
+    where
+      kept : (outcomeOf c w .number ≢ 0) ⊎ (target c ≡ nothing) → gs t ≡ fs t
+      kept (inl n) = a .refused n t
+      kept (inr p) = a .others t (names-none k w c p t)
+  came-shows (stays s d e q) fs gs a y t = rw e (subst (ShowsAt k (w .image) t) (sym kept) (y t))
+    where
+      kept : gs t ≡ fs t
+      kept = elim (ℕ-discrete t s) [
+        | yes z ↦ q (fs t) (gs t) .0 (a .named (d .well) t (subst (Names c k w) (sym z) (d .named)))
+        | no n ↦ a .others t (λ x. n (one s t d x))
+      ]
+  came-shows (changes s ds d x) fs gs a y t = elim (ℕ-discrete t s) [
+    | yes z ↦ subst (λ (i : ℕ). ShowsAt k m i (gs i)) (sym z) (x .there (fs s) (gs s) (y s) (a .named (d .well) s (d .named)))
+    | no n ↦ subst (ShowsAt k m t) (sym (a .others t (λ q. n (one s t d q)))) (other-shows s ds x t n (fs t) (y t))
   ]
 
-  -- the 32 bytes of every other entry
-  pub came-entries : Came k w c → (t : ℕ) → t < rootEntries k → ¬ Names c w t → SameBytes (step w c .image) (slotAt k t) (w .image) (slotAt k t)
-  came-entries (stays e h) t i n j b = ap (λ (l : List ℕ). getD l (slotAt k t + j) 0) e
-  came-entries (changes s ds x) t i n j b = x .changed .frame .others t i (λ q. n (subst (Names c w) (sym q) (x .named))) j b
+  -- ---- every other slot
 
-  -- and what every other slot shows
-  pub came-others : Came k w c → (t : ℕ) → ¬ Names c w t → (o : Option File) → ShowsAt k (w .image) t o → ShowsAt k (step w c .image) t o
-  came-others (stays e h) t n o y = subst (λ (l : List ℕ). ShowsAt k l t o) (sym e) y
-  came-others (changes s ds x) t n o y = other-shows s ds x t (λ q. n (subst (Names c w) (sym q) (x .named))) o y
+  -- the 32 bytes of its entry
+  pub came-entries : Came k w c → (t : ℕ) → t < rootEntries k → ¬ Names c k w t → SameBytes m (slotAt k t) (w .image) (slotAt k t)
+  came-entries (idle q e) t i n j h = ap (λ (l : List ℕ). getD l (slotAt k t + j) 0) e
+  came-entries (stays s d e q) t i n j h = ap (λ (l : List ℕ). getD l (slotAt k t + j) 0) e
+  came-entries (changes s ds d x) t i n j h = x .changed .frame .others t i (λ q. n (subst (Names c k w) (sym q) (d .named))) j h
+
+  -- and what it shows
+  pub came-others : Came k w c → (t : ℕ) → ¬ Names c k w t → (o : Option File) → ShowsAt k (w .image) t o → ShowsAt k m t o
+  came-others (idle q e) t n o y = rw e y
+  came-others (stays s d e q) t n o y = rw e y
+  came-others (changes s ds d x) t n o y = other-shows s ds x t (λ q. n (subst (Names c k w) (sym q) (d .named))) o y

@@ -1,59 +1,51 @@
 -- What delete, create and write come to.
-use Prim.Native.Nat.{ℕ, _≤_, _<_}
+use Prim.Native.Nat.{ℕ}
 use native.Mathlib.Omega.{arith}
 use native.Mathlib.Decide.{ℕ-discrete}
-use mathlib.Core.Bool.{Bool, true, false, cond}
+use mathlib.Core.Bool.{Bool, true, false}
 use mathlib.Core.List.{List, []}
-use mathlib.Core.Logic.{inl, inr, _≢_}
-use mathlib.Core.Option.{none, some}
+use mathlib.Core.Logic.{_↔_, inl, inr}
+use mathlib.Core.Option.{Option, none, some}
 use mathlib.Core.Path.{_≡_, refl, sym, ap, _∙_, subst}
-use lib.Dec.{eqb}
 use lib.ListN.{length, take}
 use borrow.Author.Tests.{eq-eqb, ne-eqb}
 use Rattle.image.specs.Bytes.{Bytes}
-use Rattle.chains.specs.Put.{put}
 use Rattle.diskette.specs.Places.{rootAt, rootEntries, slotAt}
 use Rattle.diskette.specs.declared.Kind.{Kind}
-use Rattle.search.specs.Search.{Answers}
-use Rattle.search.specs.declared.Found.{Found}
-use Rattle.search.specs.declared.Found.the-variants.{At, Nothing}
+use Rattle.search.specs.declared.Found.the-variants.{At}
 use Rattle.fields.specs.Fields.{withEntry}
 use Rattle.directory.specs.Search.{lowestOpenSlot}
 use Rattle.names.specs.Reading.{nameOf}
+use Rattle.names.specs.Spelling.{Means}
 use Rattle.stamps.specs.Stamps.{packed}
 use Rattle.stamps.specs.declared.Stamp.{Stamp}
 use Rattle.stamps.specs.declared.Packed.{Packed}
 use Rattle.stamps.specs.declared.Packed.the-variants.{Words, OutOfRange}
-use Rattle.opened.specs.Places.{lowestUnused}
-use Rattle.opened.specs.Records.{placeCount, usedOf, slotOf, pointerOf, withRecord}
-use Rattle.opened.specs.Laws.Places.{unused-answers}
-use Rattle.opened.specs.Laws.Stores.{record-holds}
+use Rattle.opened.specs.Records.{slotOf, pointerOf}
 use Rattle.calls.specs.Outcome.{Outcome, refusal}
-use Rattle.calls.specs.Refusals.{isNothing, placeFound, noFile, fileSlot, slotForNew, noPlace, freePlace, isOut, theKind}
-use Rattle.calls.specs.Laws.Ready.{on-kind, on-usable}
-use Rattle.holding.specs.Holding.{FileIn}
-use Rattle.holding.specs.Laws.Chain.{slot-fits}
-use Rattle.creating.specs.Create.{made, madeBy, createRows, createEffect, createOutcome}
+use Rattle.calls.specs.Refusals.{placeFound, noFile, fileSlot, slotForNew, isOut}
+use Rattle.calls.specs.Laws.Ready.{on-kind}
+use Rattle.creating.specs.Create.{made, createRows, createEffect, createOutcome}
 use Rattle.deleting.specs.Delete.{erasedIn, deleteRows, deleteEffect, deleteOutcome}
 use Rattle.freeing.specs.Freed.{chainFreed}
-use Rattle.creating.specs.Laws.Create.{open-below}
 use Rattle.putting.specs.Written.{writtenIn}
 use Rattle.writing.specs.Write.{writeCount, writeRows, writeEffect, writeOutcome, writeAt}
-use Rattle.history.specs.Came.{Came, stays}
 use Rattle.changes.specs.Changed.{SlotChanged}
-use Rattle.changes.specs.Files.{file, Holds}
+use Rattle.changes.specs.Files.{File, file, Holds, ShowsAt}
+use Rattle.changes.specs.Laws.Made.{empty-changed, empty-holds, empty-bytes, new-changed, new-holds, new-bytes}
+use Rattle.changes.specs.Laws.Wrote.{wrote-changed, wrote-holds, wrote-bytes}
+use Rattle.history.specs.Aids.Came.{Does, Came, stays}
 use Rattle.history.specs.History as history
+use Rattle.history.specs.Meant.{Names}
 use Rattle.history.specs.Promises.{Begins}
 use Rattle.history.specs.World.{World, outcomeOf, step, create, delete, write}
+use Rattle.history.specs.Laws.Begins.{on}
 use Rattle.history.specs.Laws.Count.{taken-fits, bytes-take}
 use Rattle.history.specs.Laws.Ended.{delete-changed, delete-ends, delete-bytes}
-use Rattle.history.specs.Laws.Looks.{came-refused, after-well}
-use Rattle.changes.specs.Laws.Made.{empty-changed, empty-holds, empty-bytes, new-changed, new-holds, new-bytes}
-use Rattle.history.specs.Laws.Found.{good-name, found-at, place-counts, file-found, file-there, no-file-found, live-there}
+use Rattle.history.specs.Laws.Found.{good-name, found-at, file-found, file-there, no-file-found, live-there}
+use Rattle.history.specs.Laws.Meant.{meant-exactly, by-name, has-name, for-new, reaches}
 use Rattle.history.specs.Laws.Passed.{passed-row}
-use Rattle.history.specs.Laws.Rows.{decided-cases}
-use Rattle.history.specs.Laws.Well.{came-put, came-at}
-use Rattle.changes.specs.Laws.Wrote.{wrote-changed, wrote-holds, wrote-bytes}
+use Rattle.history.specs.Laws.Well.{came-by, came-put, came-at}
 
 module _ (k : Kind) (w : World) (b : Begins k w) where
   abbrev l : List ℕ
@@ -64,115 +56,109 @@ module _ (k : Kind) (w : World) (b : Begins k w) where
 
   -- ---- delete
 
-  pub came-delete : (s : List ℕ) → Came k w (delete s)
+  pub came-delete : (name : List ℕ) → Came k w (delete name)
   unfolding deleteOutcome
-  came-delete s = elim (decided-cases (deleteRows l t s) (deleteEffect l t s) l t []) [
-    | inl x ↦ came-refused k w (delete s) (λ z. x .0 (sym (ap (λ (o : Outcome). o .number) (x .1)) ∙ z)) (ap (λ (o : Outcome). o .image) (x .1))
-    | inr x ↦ well (x .0) (x .1)
-  ]
-    where
-      well : refusal (deleteRows l t s) ≡ 0 → outcomeOf (delete s) w ≡ deleteEffect l t s → Came k w (delete s)
-      well rows e =
-          let row = passed-row (deleteRows l t s) refl rows in
-          let i = file-there k l (b .on) s (row 3) in
-          let m : step w (delete s) .image ≡ erasedIn k l (fileSlot l s) = ap (λ (o : Outcome). o .image) e ∙ rw (on-kind l k (b .on)) in
-          came-put k w (delete s) (fileSlot l s) _ _ (ap (λ (o : Outcome). o .number) e) m refl
-          (delete-changed k l (b .on) (b .bytes) (fileSlot l s) i)
-          (delete-bytes k l (b .on) (b .bytes) (fileSlot l s) i)
-          (λ fs. none) (λ fs. refl)
-          (λ fs y. delete-ends k l (b .on) (b .bytes) (fileSlot l s) i)
+  came-delete name = came-by k w (delete name) (deleteRows l t name) (deleteEffect l t name) [] refl (λ rows e.
+      let row = passed-row (deleteRows l t name) refl rows in
+      let s = fileSlot l name in
+      let does : Does k w (delete name) s
+      = record { well = ap (λ (o : Outcome). o .number) e; named = by-name k w (on b) name (row 2) (row 3) } in
+      let i = file-there k l (on b) name (row 3) in
+      let m : step w (delete name) .image ≡ erasedIn k l s = ap (λ (o : Outcome). o .image) e ∙ rw (on-kind l k (on b)) in
+      came-put k w (delete name) s _ _ does m
+      (delete-changed k l (on b) (b .bytes) s i)
+      (delete-bytes k l (on b) (b .bytes) s i)
+      (λ f. (none, refl))
+      (λ f g y p. subst (ShowsAt k (erasedIn k l s) s) (sym p) (delete-ends k l (on b) (b .bytes) s i)))
 
   -- ---- write
 
   pub came-write : (h : ℕ) (bs : List ℕ) → Bytes bs → Came k w (write h bs)
   unfolding writeOutcome writeAt
-  came-write h bs given = elim (decided-cases (writeRows l t h) (writeEffect l t h bs) l t []) [
-    | inl x ↦ came-refused k w (write h bs) (λ z. x .0 (sym (ap (λ (o : Outcome). o .number) (x .1)) ∙ z)) (ap (λ (o : Outcome). o .image) (x .1))
-    | inr x ↦ by (x .0) (x .1)
-  ]
+  came-write h bs given = came-by k w (write h bs) (writeRows l t h) (writeEffect l t h bs) [] refl by
     where
       by : refusal (writeRows l t h) ≡ 0 → outcomeOf (write h bs) w ≡ writeEffect l t h bs → Came k w (write h bs)
       by rows e =
           let row = passed-row (writeRows l t h) refl rows in
-          let i = live-there k l (b .on) t h (row 2) in
+          let i = live-there k l (on b) t h (row 2) in
           let s = slotOf t h in
           let pointer = pointerOf t h in
           let n = writeCount k l s pointer (length bs) in
-          let kind = on-kind l k (b .on) in
+          let kind = on-kind l k (on b) in
+          let named : Names (write h bs) k w s = reaches k w (on b) h (row 2) in
           elim (ℕ-discrete n 0) [
             | yes z ↦
                 let q = eq-eqb n 0 z in
-                let number : outcomeOf (write h bs) w .number ≡ 0 = ap (λ (o : Outcome). o .number) e ∙ rw (kind, q) in
                 let value : outcomeOf (write h bs) w .value ≡ 0 = ap (λ (o : Outcome). o .value) e ∙ rw (kind, q) in
-                stays (ap (λ (o : Outcome). o .image) e ∙ rw (kind, q)) (λ fs. after-well k w (write h bs) number fs ∙ rw (eq-eqb (outcomeOf (write h bs) w .value) 0 value))
+                stays s (record { well = ap (λ (o : Outcome). o .number) e ∙ rw (kind, q); named = named })
+                (ap (λ (o : Outcome). o .image) e ∙ rw (kind, q)) (λ f g. rw (eq-eqb (outcomeOf (write h bs) w .value) 0 value) (λ p. p, λ p. p))
             | no d ↦
                 let q = ne-eqb n 0 d in
-                let number : outcomeOf (write h bs) w .number ≡ 0 = ap (λ (o : Outcome). o .number) e ∙ rw (kind, q) in
+                let does : Does k w (write h bs) s = record { well = ap (λ (o : Outcome). o .number) e ∙ rw (kind, q); named = named } in
                 let value : outcomeOf (write h bs) w .value ≡ n = ap (λ (o : Outcome). o .value) e ∙ rw (kind, q) in
                 let m : step w (write h bs) .image ≡ writtenIn k l s pointer (take n bs) = ap (λ (o : Outcome). o .image) e ∙ rw (kind, q) in
-                let p = taken-fits k l s pointer bs (b .on) i (b .bytes) d in
-                came-at k w (write h bs) s _ _ number m refl
+                let p = taken-fits k l s pointer bs (on b) i (b .bytes) d in
+                came-at k w (write h bs) s _ _ does m
                 (wrote-changed k l s pointer (take n bs) p)
                 (wrote-bytes k l s pointer (take n bs) p (bytes-take n bs given))
-                i (history.withBytes pointer (take n bs)) (λ fs. rw (value, q))
+                i (history.withBytes pointer (take n bs)) (λ f g. rw (value, q) (λ p. p, λ p. p))
                 (wrote-holds k l s pointer (take n bs) p)
           ]
 
   -- ---- create
 
-  -- the place that is taken names the slot then
-  place-names : noPlace t ≡ false → (slot : ℕ) → slot < rootEntries k → slotOf (withRecord t (freePlace t) 2 slot 0 false) (freePlace t) ≡ slot
-  place-names e slot h =
-      let r : k .root ≤ 4096 = on-usable l k (b .on) .few-slots in
-      record-holds t (freePlace t) (place-counts t e) 2 slot 0 false (omega arith) (omega arith) .slot
-
-  module _ (s : List ℕ) (attr : ℕ) (stamp : Stamp) where
+  module _ (given : List ℕ) (attr : ℕ) (stamp : Stamp) where
     abbrev name : List ℕ
-    name = nameOf s .name
+    name = nameOf given .name
+
+    -- what the history makes of the file there
+    becomes : nameOf given .fits ≡ true → (g : Option File)
+        → ((n : List ℕ) × Means given n × (g ≡ some (file n attr []))) ↔ (g ≡ some (file name attr []))
+    becomes fits g = meant-exactly given fits (λ n. g ≡ some (file n attr []))
 
     -- a file was made in the slot of n, which is the image, with the clusters of the old file freed if there was one
-    made-in : (n : List ℕ) (slot time date : ℕ) → slot < rootEntries k → noPlace t ≡ false → outcomeOf (create s attr stamp) w ≡ made n t k slot name attr time date
-        → SlotChanged k l (withEntry n (slotAt k slot) name attr time date 0 0) slot [] → Bytes (withEntry n (slotAt k slot) name attr time date 0 0)
-        → Holds k (withEntry n (slotAt k slot) name attr time date 0 0) slot (file name attr []) → Came k w (create s attr stamp)
-    made-in n slot time date h place e changed bytes holds =
-        let names : slot ≡ slotOf (outcomeOf (create s attr stamp) w .table) (outcomeOf (create s attr stamp) w .value)
-        = sym (ap (λ (o : Outcome). slotOf (o .table) (o .value)) e ∙ place-names place slot h) in
-        came-put k w (create s attr stamp) slot [] _ (ap (λ (o : Outcome). o .number) e) (ap (λ (o : Outcome). o .image) e) names changed bytes
-        (λ fs. some (file name attr [])) (λ fs. ap (λ (i : ℕ). put fs i (some (file name attr []))) (sym names)) (λ fs y. holds)
+    made-in : (n : List ℕ) (s time date : ℕ) → Names (create given attr stamp) k w s → nameOf given .fits ≡ true
+        → outcomeOf (create given attr stamp) w ≡ made n t k s name attr time date
+        → SlotChanged k l (withEntry n (slotAt k s) name attr time date 0 0) s [] → Bytes (withEntry n (slotAt k s) name attr time date 0 0)
+        → Holds k (withEntry n (slotAt k s) name attr time date 0 0) s (file name attr []) → Came k w (create given attr stamp)
+    made-in n s time date named fits e changed bytes holds =
+        came-put k w (create given attr stamp) s [] _ (record { well = ap (λ (o : Outcome). o .number) e; named = named })
+        (ap (λ (o : Outcome). o .image) e) changed bytes
+        (λ f. (some (file name attr []), becomes fits (some (file name attr [])) .1 refl))
+        (λ f g y p. subst (ShowsAt k (withEntry n (slotAt k s) name attr time date 0 0) s) (sym (becomes fits g .0 p)) holds)
 
-    well : (missing : Bool) → noFile l s ≡ missing → (p : Packed) → packed stamp ≡ p → refusal (createRows l t s attr stamp) ≡ 0 → outcomeOf (create s attr stamp) w ≡ createEffect l t s attr stamp
-        → Came k w (create s attr stamp)
+    well : (missing : Bool) → noFile l given ≡ missing → (p : Packed) → packed stamp ≡ p → refusal (createRows l t given attr stamp) ≡ 0
+        → outcomeOf (create given attr stamp) w ≡ createEffect l t given attr stamp
+        → Came k w (create given attr stamp)
     unfolding slotForNew
     well missing q OutOfRange pe rows e =
-        let row = passed-row (createRows l t s attr stamp) refl rows in
+        let row = passed-row (createRows l t given attr stamp) refl rows in
         absurd (let y : isOut OutOfRange ≡ false = rw pe at (row 3) in let z : _≡_ {A = ℕ} 0 1 = cc in omega arith)
     well true q (Words time date) pe rows e =
-        let row = passed-row (createRows l t s attr stamp) refl rows in
-        let fits = good-name s (row 2) in
-        let kind = on-kind l k (b .on) in
-        let slot = placeFound (lowestOpenSlot l (rootAt k) (rootEntries k)) in
-        let lowest : lowestOpenSlot l (rootAt k) (rootEntries k) ≡ At slot = found-at (lowestOpenSlot l (rootAt k) (rootEntries k)) (rw (q, kind) at (row 7)) in
-        let none-named = no-file-found k l (b .on) s q in
-        let made-there : outcomeOf (create s attr stamp) w ≡ made l t k slot name attr time date = e ∙ rw (q, pe, kind) in
-        made-in l slot time date (open-below l k (lowestOpenSlot l (rootAt k) (rootEntries k)) refl slot lowest) (row 8) made-there
-        (new-changed k l (b .on) (b .bytes) s fits attr (row 4) time date slot none-named lowest)
-        (new-bytes k l (b .on) (b .bytes) s fits attr (row 4) time date slot none-named lowest)
-        (new-holds k l (b .on) (b .bytes) s fits attr (row 4) time date slot none-named lowest)
+        let row = passed-row (createRows l t given attr stamp) refl rows in
+        let fits = good-name given (row 2) in
+        let kind = on-kind l k (on b) in
+        let s = placeFound (lowestOpenSlot l (rootAt k) (rootEntries k)) in
+        let lowest : lowestOpenSlot l (rootAt k) (rootEntries k) ≡ At s
+        = found-at (lowestOpenSlot l (rootAt k) (rootEntries k)) (rw (q, kind) at (row 7)) in
+        let new-one = for-new k l (on b) given fits q (rw q at (row 7)) in
+        let none-named = no-file-found k l (on b) given q in
+        made-in l s time date (inr (rw kind at new-one)) fits (e ∙ rw (q, pe, kind))
+        (new-changed k l (on b) (b .bytes) given fits attr (row 4) time date s none-named lowest)
+        (new-bytes k l (on b) (b .bytes) given fits attr (row 4) time date s none-named lowest)
+        (new-holds k l (on b) (b .bytes) given fits attr (row 4) time date s none-named lowest)
     well false q (Words time date) pe rows e =
-        let row = passed-row (createRows l t s attr stamp) refl rows in
-        let fits = good-name s (row 2) in
-        let kind = on-kind l k (b .on) in
-        let slot = fileSlot l s in
-        let found = file-found k l (b .on) s q in
-        let made-there : outcomeOf (create s attr stamp) w ≡ made (chainFreed k l slot) t k slot name attr time date = e ∙ rw (q, pe, kind) in
-        made-in (chainFreed k l slot) slot time date (file-there k l (b .on) s q .below) (row 8) made-there
-        (empty-changed k l (b .on) (b .bytes) s fits attr (row 4) time date slot found)
-        (empty-bytes k l (b .on) (b .bytes) s fits attr (row 4) time date slot found)
-        (empty-holds k l (b .on) (b .bytes) s fits attr (row 4) time date slot found)
+        let row = passed-row (createRows l t given attr stamp) refl rows in
+        let fits = good-name given (row 2) in
+        let s = fileSlot l given in
+        let found = file-found k l (on b) given q in
+        made-in (chainFreed k l s) s time date (inl (has-name k l (on b) given fits q)) fits (e ∙ rw (q, pe, on-kind l k (on b)))
+        (empty-changed k l (on b) (b .bytes) given fits attr (row 4) time date s found)
+        (empty-bytes k l (on b) (b .bytes) given fits attr (row 4) time date s found)
+        (empty-holds k l (on b) (b .bytes) given fits attr (row 4) time date s found)
 
-    pub came-create : Came k w (create s attr stamp)
+    pub came-create : Came k w (create given attr stamp)
     unfolding createOutcome
-    came-create = elim (decided-cases (createRows l t s attr stamp) (createEffect l t s attr stamp) l t []) [
-      | inl x ↦ came-refused k w (create s attr stamp) (λ z. x .0 (sym (ap (λ (o : Outcome). o .number) (x .1)) ∙ z)) (ap (λ (o : Outcome). o .image) (x .1))
-      | inr x ↦ well (noFile l s) refl (packed stamp) refl (x .0) (x .1)
-    ]
+    came-create =
+        came-by k w (create given attr stamp) (createRows l t given attr stamp) (createEffect l t given attr stamp) [] refl
+        (well (noFile l given) refl (packed stamp) refl)

@@ -40,6 +40,7 @@ module _ (k : Kind) (l : List ℕ) (s pointer : ℕ) (bs : List ℕ) where
 
 module _ (k : Kind) (l : List ℕ) (s pointer n : ℕ) where
   -- the last byte lies past the room, and what is written above 0 fills it to the end
-  pub write-short : writeCount k l s pointer n < n → (roomOf k l s < pointer + n) × (0 < writeCount k l s pointer n → pointer + writeCount k l s pointer n ≡ roomOf k l s)
+  pub write-short : writeCount k l s pointer n < n
+      → (roomOf k l s < pointer + n) × (0 < writeCount k l s pointer n → pointer + writeCount k l s pointer n ≡ roomOf k l s)
   unfolding accepted
   write-short h = (omega arith, λ some. omega arith)

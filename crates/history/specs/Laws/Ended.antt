@@ -26,10 +26,13 @@ use Rattle.changes.specs.Laws.Slots.{used-lower}
 
 module _ (k : Kind) (l : List ℕ) (v : OnVolume l k) (b : Bytes l) (s : ℕ) (i : FileIn l k s) where
   emptied : Emptied k l (erasedIn k l s) s
-  emptied = entry-emptied k l v b s (chainFreed k l s) (slotAt k s) (0xE5 ∷ []) (omega arith) (omega arith) (i .below) (bytes-one 0xE5 (omega arith)) (file-emptied k l v b s i)
+  emptied =
+      entry-emptied k l v b s (chainFreed k l s) (slotAt k s) (0xE5 ∷ []) (omega arith) (omega arith) (i .below)
+      (bytes-one 0xE5 (omega arith)) (file-emptied k l v b s i)
 
   erased : ErasedAt (erasedIn k l s) (slotAt k s)
-  erased = byte-back (chainFreed k l s) (slotAt k s) 0xE5 (omega (arith, file-emptied k l v b s i .frame .long, file-within l k v s i (slotAt k s) refl))
+  erased =
+      byte-back (chainFreed k l s) (slotAt k s) 0xE5 (omega (arith, file-emptied k l v b s i .frame .long, file-within l k v s i (slotAt k s) refl))
 
   -- no live entry is there
   ended : ¬ LiveAt (erasedIn k l s) (slotAt k s)
@@ -37,8 +40,9 @@ module _ (k : Kind) (l : List ℕ) (v : OnVolume l k) (b : Bytes l) (s : ℕ) (i
 
   pub delete-changed : SlotChanged k l (erasedIn k l s) s []
   delete-changed =
+      let nobody = no-holder (clusterBytes k) (erasedIn k l s) (slotAt k s) (λ p. ended (p .0)) in
       emptied-changed k l v b s (erasedIn k l s) (i .below) emptied
-      (subst (λ (h : Holder). Owns (lastCluster k) (valueOf k (erasedIn k l s)) h []) (sym (no-holder (clusterBytes k) (erasedIn k l s) (slotAt k s) (λ p. ended (p .0))))
+      (subst (λ (h : Holder). Owns (lastCluster k) (valueOf k (erasedIn k l s)) h []) (sym nobody)
       (nobody-owns (geometry k (on-usable l k v)) (valueOf k (erasedIn k l s))))
       (record {
         used = λ z. let e : 0xE5 ≡ 0 = sym erased ∙ z in omega arith;

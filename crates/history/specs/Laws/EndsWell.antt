@@ -76,13 +76,15 @@ module _ (k : Kind) (w : World) (v : OnVolume (w .image) k) where
   abbrev t : List ℕ
   t = w .table
 
-  pub create-well : (s : List ℕ) (attr : ℕ) (stamp : Stamp) (time date n : ℕ) → nameOf s .fits ≡ true → packed stamp ≡ Words time date → badAttr attr ≡ false
-      → fileFound l s ≡ Nothing → slotForNew l ≡ At n → lowestUnused t ≡ At 0
-      → outcomeOf (create s attr stamp) w ≡ outcome 0 0 (made l t k n (nameOf s .name) attr time date .image) (withRecord t 0 2 n 0 false) []
+  -- place p is taken
+  pub create-well : (s : List ℕ) (attr : ℕ) (stamp : Stamp) (time date n p : ℕ) → nameOf s .fits ≡ true → packed stamp ≡ Words time date
+      → badAttr attr ≡ false
+      → fileFound l s ≡ Nothing → slotForNew l ≡ At n → lowestUnused t ≡ At p
+      → outcomeOf (create s attr stamp) w ≡ outcome 0 p (made l t k n (nameOf s .name) attr time date .image) (withRecord t p 2 n 0 false) []
   unfolding createOutcome decided refusal
-  create-well s attr stamp time date n fits stamped may none lowest place = rw (v .known, v .sound, fits, stamped, may, none, lowest, place)
+  create-well s attr stamp time date n p fits stamped may none lowest place = rw (v .known, v .sound, fits, stamped, may, none, lowest, place)
 
-  live : (n pointer : ℕ) (written : Bool) → TakenFor t n pointer written → IsFile k l n → notLive l t 0 ≡ false
+  pub live : (n pointer : ℕ) (written : Bool) → TakenFor t n pointer written → IsFile k l n → notLive l t 0 ≡ false
   unfolding notLive
   live n pointer written x i = rw (on-kind l k v)
       (ap not (live-is t 0 l (rootAt k) (rootEntries k) .1 (record {
@@ -93,7 +95,7 @@ module _ (k : Kind) (w : World) (v : OnVolume (w .image) k) where
         plain = rw (x .holds .slot) (i .1);
       })))
 
-  count-all : (n length : ℕ) → length ≤ freeOf k l * clusterBytes k → writeCount k l n 0 length ≡ length
+  pub count-all : (n length : ℕ) → length ≤ freeOf k l * clusterBytes k → writeCount k l n 0 length ≡ length
   unfolding accepted roomOf
   count-all n length h = omega arith
 
@@ -102,9 +104,20 @@ module _ (k : Kind) (w : World) (v : OnVolume (w .image) k) where
   unfolding writeOutcome writeAt decided refusal
   write-well n x i bs some room =
       let z : 0 + length bs ≡ length bs = omega arith in
-      rw (live n 0 false x i, v .known, v .sound, x .holds .access, x .holds .slot, x .holds .pointer, count-all n (length bs) room, ne-eqb (length bs) 0 (omega arith), z)
+      rw (
+        live n 0 false x i,
+        v .known,
+        v .sound,
+        x .holds .access,
+        x .holds .slot,
+        x .holds .pointer,
+        count-all n (length bs) room,
+        ne-eqb (length bs) 0 (omega arith),
+        z,
+      )
 
-  pub close-well : (stamp : Stamp) (time date : ℕ) → packed stamp ≡ Words time date → (n pointer : ℕ) (written : Bool) → TakenFor t n pointer written → IsFile k l n
+  pub close-well : (stamp : Stamp) (time date : ℕ) → packed stamp ≡ Words time date → (n pointer : ℕ) (written : Bool)
+      → TakenFor t n pointer written → IsFile k l n
       → outcomeOf (close 0 stamp) w ≡ closeEffect l t 0 stamp
   unfolding closeOutcome decided refusal
   close-well stamp time date stamped n pointer written x i = rw (live n pointer written x i, v .known, v .sound, stamped)

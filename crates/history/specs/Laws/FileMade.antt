@@ -2,9 +2,9 @@
 use Prim.Native.Nat.{ℕ, _+_, _-_, _≤_, _<_}
 use native.Mathlib.Omega.{arith}
 use native.Mathlib.Decide.{ℕ-discrete}
-use mathlib.Core.Bool.{true, false}
+use mathlib.Core.Bool.{Bool, true, false}
 use mathlib.Core.List.{List, [], _∷_, map}
-use mathlib.Core.Logic.{_≢_}
+use mathlib.Core.Logic.{_≢_, inr}
 use mathlib.Core.Option.{Option, none, some}
 use mathlib.Core.Path.{_≡_, refl, sym, ap, _∙_, subst}
 use lib.ListN.{length, replicate, take}
@@ -21,11 +21,13 @@ use Rattle.fields.specs.Fields.{timeOf, dateOf}
 use Rattle.names.specs.Reading.{nameOf}
 use Rattle.stamps.specs.declared.Stamp.{Stamp}
 use Rattle.stamps.specs.declared.Packed.the-variants.{Words}
+use Rattle.search.specs.declared.Found.the-variants.{At, Nothing}
 use Rattle.sound.specs.Counts.{freeOf, asideOf}
 use Rattle.sound.specs.Files.{IsFile}
 use Rattle.opened.specs.Places.{lowestUnused}
-use Rattle.opened.specs.Records.{slotOf, withRecord, withPointer, withWritten, cleared}
+use Rattle.opened.specs.Records.{withRecord, withPointer, withWritten, cleared}
 use Rattle.calls.specs.Outcome.{Outcome, outcome}
+use Rattle.calls.specs.Refusals.{isNothing, placeFound, fileFound, slotForNew}
 use Rattle.calls.specs.Laws.Ready.{on-kind, on-usable}
 use Rattle.calls.specs.Laws.Files.{slot-within}
 use Rattle.closing.specs.Close.{archived, stamped, closeEffect}
@@ -33,22 +35,25 @@ use Rattle.holding.specs.Laws.Clusters.{on-clusters}
 use Rattle.creating.specs.Create.{made}
 use Rattle.putting.specs.Written.{writtenIn}
 use Rattle.changes.specs.Files.{File, file, Files, ShowsAt}
-use Rattle.history.specs.History as history
-use Rattle.history.specs.ListingCase.{fileCalls, HasStamp, answered}
-use Rattle.history.specs.World.{World, outcomeOf, step, run, answers, create, write, close}
-use Rattle.history.specs.Laws.EndsWell.{TakenFor, place-free, taken-made, taken-written, create-well, write-well, close-well}
-use Rattle.history.specs.Laws.Looks.{after-well}
-use Rattle.history.specs.Laws.OneSlot.{Stands, stands-step, others-step, free-step, aside-step}
 use Rattle.changes.specs.Laws.NewSlot.{none-of-name, lowest-open}
-use Rattle.history.specs.Laws.Room.{needed}
+use Rattle.history.specs.ListingCase.{fileCalls, HasStamp, answered}
+use Rattle.history.specs.Meant.{Reaches, IsForNew}
+use Rattle.history.specs.World.{World, outcomeOf, step, run, answers, create, write, close}
+use Rattle.history.specs.Laws.Begins.{on}
+use Rattle.history.specs.Laws.EndsWell.{TakenFor, place-free, taken-made, taken-written, live, create-well, write-well, close-well}
+use Rattle.history.specs.Laws.Given.{given-create, given-write, given-close}
 use Rattle.history.specs.Laws.HasFiles.{HasFiles, GoodFile}
+use Rattle.history.specs.Laws.Meant.{means, for-new, reaches}
+use Rattle.history.specs.Laws.OneFile.{take-all, written-first}
+use Rattle.history.specs.Laws.OneSlot.{Stands, Makes, stands-step, others-step, free-step, aside-step}
+use Rattle.history.specs.Laws.Room.{needed}
 use Rattle.history.specs.Laws.Stamped.{stamped-words, same-stamp}
-use Rattle.history.specs.Laws.OneFile.{at-again, take-all, written-first}
 
 three : {A : Type 0} {a b c x y z : A} → a ≡ x → b ≡ y → c ≡ z → a ∷ b ∷ c ∷ [] ≡ x ∷ y ∷ z ∷ []
 three e f g = rw (e, f, g)
 
-module _ (k : Kind) (w : World) (fs : Files) (n free : ℕ) (x : HasFiles k w fs n free) (slot : n < rootEntries k) (s : List ℕ) (attr : ℕ) (bs : List ℕ) (stamp : Stamp) (g : GoodFile k fs free s attr bs stamp) where
+module _ (k : Kind) (w : World) (fs : Files) (n free : ℕ) (x : HasFiles k w fs n free) (slot : n < rootEntries k)
+    (s : List ℕ) (attr : ℕ) (bs : List ℕ) (stamp : Stamp) (g : GoodFile k fs free s attr bs stamp) where
   abbrev name : List ℕ
   name = nameOf s .name
 
@@ -58,80 +63,108 @@ module _ (k : Kind) (w : World) (fs : Files) (n free : ℕ) (x : HasFiles k w fs
   there : (a : ℕ) (bytes : List ℕ) → put-file a bytes n ≡ some (file name a bytes)
   there a bytes = put-same fs n (some (file name a bytes)) n refl
 
+  -- the file put there is another one, and all others stay
+  elsewhere : (a c : ℕ) (bytes more : List ℕ) (t : ℕ) → t ≢ n → put-file a bytes t ≡ put-file c more t
+  elsewhere a c bytes more t d = put-other fs n (some (file name a bytes)) t d ∙ sym (put-other fs n (some (file name c more)) t d)
+
   file-there : (u : World) (a : ℕ) (bytes : List ℕ) → Stands k u (put-file a bytes) n → IsFile k (u .image) n
   file-there u a bytes y = subst (ShowsAt k (u .image) n) (there a bytes) (y .shows n) .is-file
+
+  -- a handle that was taken for the file reaches it
+  reached : (u : World) (a : ℕ) (bytes : List ℕ) → Stands k u (put-file a bytes) n → (pointer : ℕ) (written : Bool)
+      → TakenFor (u .table) n pointer written → Reaches k u 0 n
+  reached u a bytes y pointer written taken =
+      let v = on (y .begins) in
+      subst (Reaches k u 0) (taken .holds .slot) (reaches k u v 0 (live k u v n pointer written taken (file-there u a bytes y)))
 
   -- ---- create
 
   abbrev world-created : World
   world-created = step w (create s attr stamp)
 
-  created : outcomeOf (create s attr stamp) w ≡ outcome 0 0 (made (w .image) (w .table) k n name attr (g .time) (g .date) .image) (withRecord (w .table) 0 2 n 0 false) []
+  none-named : fileFound (w .image) s ≡ Nothing
+  none-named = none-of-name k (w .image) (on (x .stands .begins)) fs (x .stands .shows) s (g .long) (g .new-name)
+
+  lowest : slotForNew (w .image) ≡ At n
+  lowest = lowest-open k (w .image) (on (x .stands .begins)) fs (x .stands .shows) n slot (x .below) (x .never)
+
+  created : outcomeOf (create s attr stamp) w
+      ≡ outcome 0 0 (made (w .image) (w .table) k n name attr (g .time) (g .date) .image) (withRecord (w .table) 0 2 n 0 false) []
   created =
-      let v = x .stands .begins .on in
-      create-well k w v s attr stamp (g .time) (g .date) n (g .fits) (g .stamped) (g .may)
-      (none-of-name k (w .image) v fs (x .stands .shows) s (g .long) (g .new-name))
-      (lowest-open k (w .image) v fs (x .stands .shows) n slot (x .below) (x .never))
+      create-well k w (on (x .stands .begins)) s attr stamp (g .time) (g .date) n 0 (g .fits) (g .stamped) (g .may) none-named lowest
       (ap lowestUnused (x .table) ∙ place-free)
 
   taken-created : TakenFor (world-created .table) n 0 false
   taken-created =
-      let r : k .root ≤ 4096 = on-usable (w .image) k (x .stands .begins .on) .few-slots in
-      subst (λ (t : List ℕ). TakenFor t n 0 false) (sym (ap (λ (o : Outcome). o .table) created ∙ ap (λ (t : List ℕ). withRecord t 0 2 n 0 false) (x .table))) (taken-made n (omega arith))
+      let r : k .root ≤ 4096 = on-usable (w .image) k (on (x .stands .begins)) .few-slots in
+      subst (λ (t : List ℕ). TakenFor t n 0 false)
+      (sym (ap (λ (o : Outcome). o .table) created ∙ ap (λ (t : List ℕ). withRecord t 0 2 n 0 false) (x .table)))
+      (taken-made n (omega arith))
 
-  slot-created : slotOf (world-created .table) (outcomeOf (create s attr stamp) w .value) ≡ n
-  slot-created = ap (λ (o : Outcome). slotOf (world-created .table) (o .value)) created ∙ taken-created .holds .slot
+  created-new : IsForNew k (w .image) s n
+  created-new = subst (IsForNew k (w .image) s) (ap placeFound lowest)
+      (for-new k (w .image) (on (x .stands .begins)) s (g .fits) (ap isNothing none-named) (ap isNothing lowest))
 
-  after-created : (t : ℕ) → history.after (create s attr stamp) w fs t ≡ put-file attr [] t
-  after-created t =
-      ap (λ (f : Files). f t) (after-well k w (create s attr stamp) (ap (λ (o : Outcome). o .number) created) fs)
-      ∙ ap (λ (i : ℕ). put fs i (some (file name attr [])) t) slot-created
+  makes-created : Makes k w (create s attr stamp) n fs (put-file attr [])
+  makes-created = record {
+    given = given-create s attr stamp;
+    does = record { well = ap (λ (o : Outcome). o .number) created; named = inr created-new };
+    becomes = (name, means s (g .fits), there attr []);
+    others = put-other fs n (some (file name attr []));
+  }
 
   stands-created : Stands k world-created (put-file attr []) n
-  stands-created = stands-step k w fs n slot (x .stands) (create s attr stamp) tt (λ t e. e ∙ slot-created) (put-file attr []) after-created
+  stands-created = stands-step k w fs (put-file attr []) n slot (x .stands) (create s attr stamp) makes-created
 
   none-needed : (o : Option File) → ShowsAt k (w .image) n o → needed k o ≡ 0
   none-needed none y = refl
   none-needed (some f) y = absurd (y .is-file .1 .0 .0 (x .never))
 
+  empty-needed : needed k (put-file attr [] n) ≡ 0
+  empty-needed = ap (needed k) (there attr []) ∙ clusters-zero (clusterBytes k) (on-clusters (w .image) k (on (x .stands .begins)) .wide)
+
   free-created : freeOf k (world-created .image) ≡ free
   free-created =
-      let e = free-step k w fs n slot (x .stands) (create s attr stamp) tt (λ t e. e ∙ slot-created) (put-file attr []) after-created in
-      let a : needed k (put-file attr [] n) ≡ 0 = ap (needed k) (there attr []) ∙ clusters-zero (clusterBytes k) (on-clusters (w .image) k (x .stands .begins .on) .wide) in
+      let e = free-step k w fs (put-file attr []) n slot (x .stands) (create s attr stamp) makes-created in
       let b : needed k (fs n) ≡ 0 = none-needed (fs n) (x .stands .shows n) in
-      omega (arith, e, a, b, x .free-are)
+      omega (arith, e, empty-needed, b, x .free-are)
 
   -- ---- write
 
   abbrev world-wrote : World
   world-wrote = step world-created (write 0 bs)
 
-  wrote : outcomeOf (write 0 bs) world-created ≡ outcome 0 (length bs) (writtenIn k (world-created .image) n 0 (take (length bs) bs)) (withWritten (withPointer (world-created .table) 0 (length bs)) 0) []
-  wrote = write-well k world-created (stands-created .begins .on) n taken-created (file-there world-created attr [] stands-created) bs (g .some-bytes) (rw free-created (g .room))
+  wrote : outcomeOf (write 0 bs) world-created
+      ≡ outcome 0 (length bs) (writtenIn k (world-created .image) n 0 (take (length bs) bs))
+      (withWritten (withPointer (world-created .table) 0 (length bs)) 0) []
+  wrote =
+      write-well k world-created (on (stands-created .begins)) n taken-created (file-there world-created attr [] stands-created) bs
+      (g .some-bytes) (rw free-created (g .room))
 
   taken-wrote : TakenFor (world-wrote .table) n (length bs) true
-  taken-wrote = subst (λ (t : List ℕ). TakenFor t n (length bs) true) (sym (ap (λ (o : Outcome). o .table) wrote)) (taken-written (world-created .table) n 0 (length bs) taken-created (g .few-bytes))
+  taken-wrote =
+      subst (λ (t : List ℕ). TakenFor t n (length bs) true) (sym (ap (λ (o : Outcome). o .table) wrote))
+      (taken-written (world-created .table) n 0 (length bs) taken-created (g .few-bytes))
 
-  after-wrote : (t : ℕ) → history.after (write 0 bs) world-created (put-file attr []) t ≡ put-file attr bs t
-  after-wrote t =
+  makes-wrote : Makes k world-created (write 0 bs) n (put-file attr []) (put-file attr bs)
+  makes-wrote =
       let value : outcomeOf (write 0 bs) world-created .value ≡ length bs = ap (λ (o : Outcome). o .value) wrote in
-      ap (λ (f : Files). f t) (after-well k world-created (write 0 bs) (ap (λ (o : Outcome). o .number) wrote) (put-file attr []))
-      ∙ rw (value, ne-eqb (length bs) 0 (omega (arith, g .some-bytes)), taken-created .holds .slot, taken-created .holds .pointer)
-      (at-again fs n (file name attr []) (history.withBytes 0 (take (length bs) bs)) t
-      ∙ ap (λ (bytes : List ℕ). put-file attr bytes t) (ap (written [] 0) (take-all bs) ∙ written-first bs))
-
-  only-wrote : (t : ℕ) → t ≡ slotOf (world-created .table) 0 → t ≡ n
-  only-wrote t e = e ∙ taken-created .holds .slot
+      record {
+        given = given-write 0 bs (g .bytes);
+        does = record { well = ap (λ (o : Outcome). o .number) wrote; named = reached world-created attr [] stands-created 0 false taken-created };
+        becomes = rw (value, ne-eqb (length bs) 0 (omega (arith, g .some-bytes)), taken-created .holds .pointer, there attr [], there attr bs)
+            (ap (λ (bytes : List ℕ). some (file name attr bytes)) (sym (ap (written [] 0) (take-all bs) ∙ written-first bs)));
+        others = elsewhere attr attr bs [];
+      }
 
   stands-wrote : Stands k world-wrote (put-file attr bs) n
-  stands-wrote = stands-step k world-created (put-file attr []) n slot stands-created (write 0 bs) (g .bytes) only-wrote (put-file attr bs) after-wrote
+  stands-wrote = stands-step k world-created (put-file attr []) (put-file attr bs) n slot stands-created (write 0 bs) makes-wrote
 
   free-wrote : freeOf k (world-wrote .image) + clustersFor (clusterBytes k) (length bs) ≡ free
   free-wrote =
-      let e = free-step k world-created (put-file attr []) n slot stands-created (write 0 bs) (g .bytes) only-wrote (put-file attr bs) after-wrote in
-      let a : needed k (put-file attr [] n) ≡ 0 = ap (needed k) (there attr []) ∙ clusters-zero (clusterBytes k) (on-clusters (w .image) k (x .stands .begins .on) .wide) in
+      let e = free-step k world-created (put-file attr []) (put-file attr bs) n slot stands-created (write 0 bs) makes-wrote in
       let b : needed k (put-file attr bs n) ≡ clustersFor (clusterBytes k) (length bs) = ap (needed k) (there attr bs) in
-      omega (arith, e, a, b, free-created)
+      omega (arith, e, empty-needed, b, free-created)
 
   -- ---- close
 
@@ -139,58 +172,67 @@ module _ (k : Kind) (w : World) (fs : Files) (n free : ℕ) (x : HasFiles k w fs
   world-closed = step world-wrote (close 0 stamp)
 
   closed : outcomeOf (close 0 stamp) world-wrote ≡ closeEffect (world-wrote .image) (world-wrote .table) 0 stamp
-  closed = close-well k world-wrote (stands-wrote .begins .on) stamp (g .time) (g .date) (g .stamped) n (length bs) true taken-wrote (file-there world-wrote attr bs stands-wrote)
+  closed =
+      close-well k world-wrote (on (stands-wrote .begins)) stamp (g .time) (g .date) (g .stamped) n (length bs) true taken-wrote
+      (file-there world-wrote attr bs stands-wrote)
 
   table-closed : world-closed .table ≡ replicate 16 0
   unfolding cleared
   table-closed = ap (λ (o : Outcome). o .table) closed ∙ stored-whole (world-wrote .table) (replicate 16 0) (taken-wrote .long)
 
-  after-closed : (t : ℕ) → history.after (close 0 stamp) world-wrote (put-file attr bs) t ≡ put-file (archived attr) bs t
-  after-closed t =
-      ap (λ (f : Files). f t) (after-well k world-wrote (close 0 stamp) (ap (λ (o : Outcome). o .number) closed) (put-file attr bs))
-      ∙ rw (taken-wrote .holds .written, taken-wrote .holds .slot) (at-again fs n (file name attr bs) history.withArchiveBit t)
-
-  only-closed : (t : ℕ) → t ≡ slotOf (world-wrote .table) 0 → t ≡ n
-  only-closed t e = e ∙ taken-wrote .holds .slot
+  makes-closed : Makes k world-wrote (close 0 stamp) n (put-file attr bs) (put-file (archived attr) bs)
+  makes-closed = record {
+    given = given-close 0 stamp;
+    does = record { well = ap (λ (o : Outcome). o .number) closed; named = reached world-wrote attr bs stands-wrote (length bs) true taken-wrote };
+    becomes = rw (taken-wrote .holds .written, there attr bs, there (archived attr) bs);
+    others = elsewhere (archived attr) attr bs bs;
+  }
 
   stands-closed : Stands k world-closed (put-file (archived attr) bs) n
-  stands-closed = stands-step k world-wrote (put-file attr bs) n slot stands-wrote (close 0 stamp) tt only-closed (put-file (archived attr) bs) after-closed
+  stands-closed = stands-step k world-wrote (put-file attr bs) (put-file (archived attr) bs) n slot stands-wrote (close 0 stamp) makes-closed
 
   free-closed : freeOf k (world-closed .image) + clustersFor (clusterBytes k) (length bs) ≡ free
   free-closed =
-      let e = free-step k world-wrote (put-file attr bs) n slot stands-wrote (close 0 stamp) tt only-closed (put-file (archived attr) bs) after-closed in
+      let e = free-step k world-wrote (put-file attr bs) (put-file (archived attr) bs) n slot stands-wrote (close 0 stamp) makes-closed in
       let a : needed k (put-file attr bs n) ≡ clustersFor (clusterBytes k) (length bs) = ap (needed k) (there attr bs) in
       let b : needed k (put-file (archived attr) bs n) ≡ clustersFor (clusterBytes k) (length bs) = ap (needed k) (there (archived attr) bs) in
       omega (arith, e, a, b, free-wrote)
 
   aside-closed : asideOf k (world-closed .image) ≡ 0
   aside-closed =
-      aside-step k world-wrote (put-file attr bs) n slot stands-wrote (close 0 stamp) tt only-closed (put-file (archived attr) bs) after-closed
-      ∙ aside-step k world-created (put-file attr []) n slot stands-created (write 0 bs) (g .bytes) only-wrote (put-file attr bs) after-wrote
-      ∙ aside-step k w fs n slot (x .stands) (create s attr stamp) tt (λ t e. e ∙ slot-created) (put-file attr []) after-created
+      aside-step k world-wrote (put-file attr bs) (put-file (archived attr) bs) n slot stands-wrote (close 0 stamp) makes-closed
+      ∙ aside-step k world-created (put-file attr []) (put-file attr bs) n slot stands-created (write 0 bs) makes-wrote
+      ∙ aside-step k w fs (put-file attr []) n slot (x .stands) (create s attr stamp) makes-created
       ∙ x .aside-none
 
   -- its stamp is there, and those of the others stay
   pub file-stamp : HasStamp k (world-closed .image) n stamp
   file-stamp =
-      let v = stands-wrote .begins .on in
-      let e : world-closed .image ≡ stamped (world-wrote .image) (slotAt k n) (g .time) (g .date) = ap (λ (o : Outcome). o .image) closed ∙ rw (taken-wrote .holds .written, taken-wrote .holds .slot, g .stamped, on-kind (world-wrote .image) k v) in
+      let v = on (stands-wrote .begins) in
+      let e : world-closed .image ≡ stamped (world-wrote .image) (slotAt k n) (g .time) (g .date)
+      = ap (λ (o : Outcome). o .image) closed
+      ∙ rw (taken-wrote .holds .written, taken-wrote .holds .slot, g .stamped, on-kind (world-wrote .image) k v) in
       ap (λ (l : List ℕ). Words (timeOf l (slotAt k n)) (dateOf l (slotAt k n))) e
-      ∙ stamped-words (world-wrote .image) (slotAt k n) (g .time) (g .date) (slot-within (world-wrote .image) k v n (slotAt k n) slot refl) (g .small-time) (g .small-date)
+      ∙ stamped-words (world-wrote .image) (slotAt k n) (g .time) (g .date) (slot-within (world-wrote .image) k v n (slotAt k n) slot refl)
+      (g .small-time) (g .small-date)
       ∙ sym (g .stamped)
 
   pub other-stamp : (t : ℕ) → t < rootEntries k → t ≢ n → (old : Stamp) → HasStamp k (w .image) t old → HasStamp k (world-closed .image) t old
   other-stamp t i d old h =
-      same-stamp k (world-wrote .image) (world-closed .image) t old (others-step k world-wrote (put-file attr bs) n slot stands-wrote (close 0 stamp) tt only-closed (put-file (archived attr) bs) after-closed t i d)
-      (same-stamp k (world-created .image) (world-wrote .image) t old (others-step k world-created (put-file attr []) n slot stands-created (write 0 bs) (g .bytes) only-wrote (put-file attr bs) after-wrote t i d)
-      (same-stamp k (w .image) (world-created .image) t old (others-step k w fs n slot (x .stands) (create s attr stamp) tt (λ j e. e ∙ slot-created) (put-file attr []) after-created t i d) h))
+      same-stamp k (world-wrote .image) (world-closed .image) t old
+      (others-step k world-wrote (put-file attr bs) (put-file (archived attr) bs) n slot stands-wrote (close 0 stamp) makes-closed t i d)
+      (same-stamp k (world-created .image) (world-wrote .image) t old
+      (others-step k world-created (put-file attr []) (put-file attr bs) n slot stands-created (write 0 bs) makes-wrote t i d)
+      (same-stamp k (w .image) (world-created .image) t old
+      (others-step k w fs (put-file attr []) n slot (x .stands) (create s attr stamp) makes-created t i d) h))
 
   -- ---- all three
 
   pub file-answers : map answered (answers w (fileCalls s attr bs stamp)) ≡ (0, 0) ∷ (0, length bs) ∷ (0, 0) ∷ []
   file-answers = three (ap answered created) (ap answered wrote) (ap answered closed)
 
-  pub file-made : n + 1 < rootEntries k → HasFiles k (run w (fileCalls s attr bs stamp)) (put-file (archived attr) bs) (n + 1) (free - clustersFor (clusterBytes k) (length bs))
+  pub file-made : n + 1 < rootEntries k
+      → HasFiles k (run w (fileCalls s attr bs stamp)) (put-file (archived attr) bs) (n + 1) (free - clustersFor (clusterBytes k) (length bs))
   file-made h = record {
     stands = record { begins = stands-closed .begins; shows = stands-closed .shows; above = λ t i j. stands-closed .above t (omega arith) j };
     never = stands-closed .above (n + 1) (omega arith) h;

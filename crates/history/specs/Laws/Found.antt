@@ -58,7 +58,8 @@ module _ (k : Kind) (l : List ℕ) (v : OnVolume l k) (s : List ℕ) where
 module _ (k : Kind) (l : List ℕ) (v : OnVolume l k) where
   -- the slot of a file that was found by its name
   pub named-small : (name : List ℕ) → noFile l name ≡ false → fileSlot l name < 4294967296
-  named-small name e = named-fits l k (nameOf name .name) (fileFound l name) (found-is l k v name (nameOf name) refl _ refl) v (fileSlot l name) (found-at _ e)
+  named-small name e =
+      named-fits l k (nameOf name .name) (fileFound l name) (found-is l k v name (nameOf name) refl _ refl) v (fileSlot l name) (found-at _ e)
 
   pub live-at : (t : List ℕ) (h : ℕ) → notLive l t h ≡ false → LiveAt t h l (rootAt (theKind l)) (rootEntries (theKind l))
   unfolding notLive
@@ -73,4 +74,5 @@ module _ (k : Kind) (l : List ℕ) (v : OnVolume l k) where
   unfolding slotForNew
   new-slot e =
       let same : slotForNew l ≡ lowestOpenSlot l (rootAt k) (rootEntries k) = rw (on-kind l k v) refl in
-      subst (Answers (λ (i : ℕ). OpenAt l (slotAt k i)) (rootEntries k)) (sym same ∙ found-at (slotForNew l) e) (open-slot-answers l (rootAt k) (rootEntries k))
+      subst (Answers (λ (i : ℕ). OpenAt l (slotAt k i)) (rootEntries k)) (sym same ∙ found-at (slotForNew l) e)
+      (open-slot-answers l (rootAt k) (rootEntries k))

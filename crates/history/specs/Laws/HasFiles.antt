@@ -22,8 +22,9 @@ use Rattle.sound.specs.declared.Verdict.the-variants.{Sound}
 use Rattle.calls.specs.Refusals.{badAttr}
 use Rattle.changes.specs.Files.{File, Files, ShowsAt}
 use Rattle.history.specs.World.{World}
+use Rattle.history.specs.Laws.Begins.{on}
 use Rattle.history.specs.Laws.OneSlot.{Stands}
-use Rattle.history.specs.Laws.Runs.{total-of}
+use Rattle.history.specs.Laws.Promises.{total-of}
 use Rattle.changes.specs.Laws.Verdict.{sound-verdict, first-count}
 
 -- files in the slots below n, the others never used; so many clusters are free, none is set aside, and the one place of the
@@ -37,7 +38,8 @@ pub record HasFiles (k : Kind) (w : World) (fs : Files) (n free : ℕ) : Type 0 
   pub table : w .table ≡ replicate 16 0
 
 -- what check answers of it
-pub verdict-of : (k : Kind) (w : World) (fs : Files) (n free : ℕ) → HasFiles k w fs n free → n < rootEntries k → checkOf (w .image) ≡ Sound n free (clusters k - free) 0
+pub verdict-of : (k : Kind) (w : World) (fs : Files) (n free : ℕ) → HasFiles k w fs n free → n < rootEntries k
+    → checkOf (w .image) ≡ Sound n free (clusters k - free) 0
 verdict-of k w fs n free x h =
     let files : fileCount k (w .image) ≡ n = first-count k (w .image) n (omega arith)
     (λ t i. subst (ShowsAt k (w .image) t) (x .below t i .1) (x .stands .shows t) .is-file)
@@ -46,7 +48,7 @@ verdict-of k w fs n free x h =
       | no d ↦ x .stands .above t (omega arith) (f .0)
     ])) in
     let held : heldOf k (w .image) ≡ clusters k - free = omega (arith, total-of k w (x .stands .begins), x .free-are, x .aside-none) in
-    sound-verdict k (w .image) (x .stands .begins .on) ∙ rw (files, x .free-are, held, x .aside-none)
+    sound-verdict k (w .image) (on (x .stands .begins)) ∙ rw (files, x .free-are, held, x .aside-none)
 
 -- what is given for a new file: the calls have no reason to refuse it
 pub record GoodFile (k : Kind) (fs : Files) (free : ℕ) (s : List ℕ) (attr : ℕ) (bs : List ℕ) (stamp : Stamp) : Type 0 where

@@ -1,5 +1,5 @@
 -- The listing case, proved: format, then a first file, then a second.
-use Prim.Native.Nat.{ℕ, zero, suc, _+_, _-_}
+use Prim.Native.Nat.{ℕ, zero, suc, _-_, _≤_, _<_}
 use native.Mathlib.Omega.{arith}
 use native.Mathlib.Decide.{ℕ-discrete}
 use mathlib.Core.Bool.{true, false}
@@ -39,11 +39,11 @@ usable : Usable kindFE
 unfolding named
 usable = named-usable 0xFE (named 0xFE) kindFE refl refl
 
-tare-read : nameOf tareGiven ≡ record { fits = true; name = tareName }
+pub tare-read : nameOf tareGiven ≡ record { fits = true; name = tareName }
 unfolding nameOf fitting before after every allowed plain eleven capital
 tare-read = refl
 
-day-read : nameOf dayGiven ≡ record { fits = true; name = dayName }
+pub day-read : nameOf dayGiven ≡ record { fits = true; name = dayName }
 unfolding nameOf fitting before after every allowed plain eleven capital
 day-read = refl
 
@@ -51,7 +51,7 @@ tare-stamped : packed (timeThen 6 40 0) ≡ Words 0x3500 0x0721
 unfolding packed timeFits dateFits
 tare-stamped = refl
 
-day-stamped : packed (timeThen 18 5 29) ≡ Words 0x90BD 0x0721
+pub day-stamped : packed (timeThen 18 5 29) ≡ Words 0x90BD 0x0721
 unfolding packed timeFits dateFits
 day-stamped = refl
 
@@ -59,7 +59,7 @@ tare-attr : (badAttr 0x01 ≡ false) × (archived 0x01 ≡ 0x21)
 unfolding badAttr archived
 tare-attr = (refl, refl)
 
-day-attr : (badAttr 0x00 ≡ false) × (archived 0x00 ≡ 0x20)
+pub day-attr : (badAttr 0x00 ≡ false) × (archived 0x00 ≡ 0x20)
 unfolding badAttr archived
 day-attr = (refl, refl)
 
@@ -76,7 +76,10 @@ needs = (refl, refl)
 abbrev no-files : Files
 no-files = λ s. none
 
-begins : HasFiles kindFE (world (blank kindFE) (replicate 16 0)) no-files 0 313
+abbrev at-first : World
+at-first = world (blank kindFE) (replicate 16 0)
+
+begins : HasFiles kindFE at-first no-files 0 313
 unfolding named
 begins = record {
   stands = record {
@@ -115,45 +118,53 @@ module _ (tare : List ℕ) (bytes : Bytes tare) (long : length tare ≡ 40) wher
   }
 
   -- the files after the first
-  abbrev first-files : Files
+  abbrev pub first-files : Files
   first-files = put no-files 0 (some (file (nameOf tareGiven .name) (archived 0x01) tare))
 
-  other-name : (t : ℕ) (f : File) → first-files t ≡ some f → f .name ≢ nameOf dayGiven .name
+  pub other-name : (t : ℕ) (f : File) → first-files t ≡ some f → f .name ≢ nameOf dayGiven .name
   other-name t f e same = elim (ℕ-discrete t 0) [
     | yes z ↦
-        let q : some (file (nameOf tareGiven .name) (archived 0x01) tare) ≡ some f = sym (put-same no-files 0 (some (file (nameOf tareGiven .name) (archived 0x01) tare)) t z) ∙ e in
+        let q : some (file (nameOf tareGiven .name) (archived 0x01) tare) ≡ some f
+        = sym (put-same no-files 0 (some (file (nameOf tareGiven .name) (archived 0x01) tare)) t z) ∙ e in
         let r : file (nameOf tareGiven .name) (archived 0x01) tare ≡ f = cc in
-        let n : tareName ≡ dayName = sym (ap (λ (x : Spelled). x .name) tare-read) ∙ ap (λ (x : File). x .name) r ∙ same ∙ ap (λ (x : Spelled). x .name) day-read in
+        let n : tareName ≡ dayName
+        = sym (ap (λ (x : Spelled). x .name) tare-read) ∙ ap (λ (x : File). x .name) r ∙ same ∙ ap (λ (x : Spelled). x .name) day-read in
         let d : _≡_ {A = ℕ} 0x54 0x44 = ap (λ (x : List ℕ). getD x 0 0) n in
         omega arith
     | no d ↦ none-is-none f (sym (put-other no-files 0 (some (file (nameOf tareGiven .name) (archived 0x01) tare)) t d) ∙ e)
   ]
 
-  abbrev one-file : World
-  one-file = run (world (blank kindFE) (replicate 16 0)) (fileCalls tareGiven 0x01 tare (timeThen 6 40 0))
+  abbrev pub one-file : World
+  one-file = run at-first (fileCalls tareGiven 0x01 tare (timeThen 6 40 0))
 
-  first-made : HasFiles kindFE one-file first-files 1 312
+  pub first-made : HasFiles kindFE one-file first-files 1 312
   first-made =
       let e : 313 - clustersFor 512 (length tare) ≡ 312 = rw (long, needs .0) in
-      subst (HasFiles kindFE one-file first-files 1) e (file-made kindFE (world (blank kindFE) (replicate 16 0)) no-files 0 313 begins (omega arith) tareGiven 0x01 tare (timeThen 6 40 0) good-tare (omega arith))
+      subst (HasFiles kindFE one-file first-files 1) e
+      (file-made kindFE at-first no-files 0 313 begins (omega arith) tareGiven 0x01 tare (timeThen 6 40 0) good-tare (omega arith))
+
+  -- bytes for a second file
+  pub good-day : (day : List ℕ) → Bytes day → 0 < length day → length day ≤ 1025
+      → GoodFile kindFE first-files 312 dayGiven 0x00 day (timeThen 18 5 29)
+  good-day day day-bytes many few = record {
+    fits = ap (λ (x : Spelled). x .fits) day-read;
+    long = ap (λ (x : Spelled). length (x .name)) day-read;
+    new-name = other-name;
+    may = day-attr .0;
+    time = 0x90BD;
+    date = 0x0721;
+    stamped = day-stamped;
+    small-time = omega arith;
+    small-date = omega arith;
+    bytes = day-bytes;
+    some-bytes = many;
+    few-bytes = omega arith;
+    room = omega arith;
+  }
 
   module _ (day : List ℕ) (day-bytes : Bytes day) (day-long : length day ≡ 1025) where
-    good-day : GoodFile kindFE first-files 312 dayGiven 0x00 day (timeThen 18 5 29)
-    good-day = record {
-      fits = ap (λ (x : Spelled). x .fits) day-read;
-      long = ap (λ (x : Spelled). length (x .name)) day-read;
-      new-name = other-name;
-      may = day-attr .0;
-      time = 0x90BD;
-      date = 0x0721;
-      stamped = day-stamped;
-      small-time = omega arith;
-      small-date = omega arith;
-      bytes = day-bytes;
-      some-bytes = omega (arith, day-long);
-      few-bytes = omega (arith, day-long);
-      room = omega (arith, day-long);
-    }
+    good : GoodFile kindFE first-files 312 dayGiven 0x00 day (timeThen 18 5 29)
+    good = good-day day day-bytes (omega (arith, day-long)) (omega (arith, day-long))
 
     abbrev both-files : Files
     both-files = put first-files 1 (some (file (nameOf dayGiven .name) (archived 0x00) day))
@@ -164,7 +175,8 @@ module _ (tare : List ℕ) (bytes : Bytes tare) (long : length tare ≡ 40) wher
     second-made : HasFiles kindFE two-files both-files 2 309
     second-made =
         let e : 312 - clustersFor 512 (length day) ≡ 309 = rw (day-long, needs .1) in
-        subst (HasFiles kindFE two-files both-files 2) e (file-made kindFE one-file first-files 1 312 first-made (omega arith) dayGiven 0x00 day (timeThen 18 5 29) good-day (omega arith))
+        subst (HasFiles kindFE two-files both-files 2) e
+        (file-made kindFE one-file first-files 1 312 first-made (omega arith) dayGiven 0x00 day (timeThen 18 5 29) good (omega arith))
 
     -- ---- what was promised
 
@@ -176,22 +188,25 @@ module _ (tare : List ℕ) (bytes : Bytes tare) (long : length tare ≡ 40) wher
         put-same first-files 1 _ 1 refl ∙ ap₂ (λ name attr. some (file name attr day)) (ap (λ (x : Spelled). x .name) day-read) (day-attr .1)
     as-listed (suc (suc s)) = put-other first-files 1 _ (suc (suc s)) (λ e. omega arith) ∙ put-other no-files 0 _ (suc (suc s)) (λ e. omega arith)
 
-    ends : ListingEnds (world (blank kindFE) (replicate 16 0)) tare day
+    ends : ListingEnds at-first tare day
     ends = record {
       verdict = verdict-of kindFE two-files both-files 2 309 second-made (omega arith) ∙ rw all-free;
       files = λ t. subst (ShowsAt kindFE (two-files .image) t) (as-listed t) (second-made .stands .shows t);
       tare-stamp =
-          other-stamp kindFE one-file first-files 1 312 first-made (omega arith) dayGiven 0x00 day (timeThen 18 5 29) good-day 0 (omega arith) (λ e. omega arith) (timeThen 6 40 0)
-          (file-stamp kindFE (world (blank kindFE) (replicate 16 0)) no-files 0 313 begins (omega arith) tareGiven 0x01 tare (timeThen 6 40 0) good-tare);
-      day-stamp = file-stamp kindFE one-file first-files 1 312 first-made (omega arith) dayGiven 0x00 day (timeThen 18 5 29) good-day;
+          other-stamp kindFE one-file first-files 1 312 first-made (omega arith) dayGiven 0x00 day (timeThen 18 5 29) good 0 (omega arith)
+          (λ e. omega arith) (timeThen 6 40 0)
+          (file-stamp kindFE at-first no-files 0 313 begins (omega arith) tareGiven 0x01 tare (timeThen 6 40 0) good-tare);
+      day-stamp = file-stamp kindFE one-file first-files 1 312 first-made (omega arith) dayGiven 0x00 day (timeThen 18 5 29) good;
       table = second-made .table;
       answered-so =
-          ap₂ _++_ (file-answers kindFE (world (blank kindFE) (replicate 16 0)) no-files 0 313 begins (omega arith) tareGiven 0x01 tare (timeThen 6 40 0) good-tare)
-          (file-answers kindFE one-file first-files 1 312 first-made (omega arith) dayGiven 0x00 day (timeThen 18 5 29) good-day)
+          ap₂ _++_ (file-answers kindFE at-first no-files 0 313 begins (omega arith) tareGiven 0x01 tare (timeThen 6 40 0) good-tare)
+          (file-answers kindFE one-file first-files 1 312 first-made (omega arith) dayGiven 0x00 day (timeThen 18 5 29) good)
           ∙ rw (long, day-long);
     }
 
 pub listing-case : ListingCase
 unfolding named formatted
 listing-case img tare day e bytes long day-bytes day-long =
-    (rw (eq-eqb (length img) 163840 e), subst (λ (l : List ℕ). ListingEnds (world l (replicate 16 0)) tare day) (sym (formatted-blank kindFE usable refl img e)) (ends tare bytes long day day-bytes day-long))
+    let is-blank = formatted-blank kindFE usable refl img e in
+    let after = ends tare bytes long day day-bytes day-long in
+    (rw (eq-eqb (length img) 163840 e), subst (λ (l : List ℕ). ListingEnds (world l (replicate 16 0)) tare day) (sym is-blank) after)

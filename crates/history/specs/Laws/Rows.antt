@@ -2,14 +2,15 @@
 use Prim.Native.Nat.{ℕ}
 use native.Mathlib.Decide.{ℕ-discrete}
 use mathlib.Core.Bool.{Bool, true, false}
-use mathlib.Core.List.{List, [], _∷_}
+use mathlib.Core.List.{List, _∷_}
 use mathlib.Core.Logic.{_⊎_, _≢_, inl, inr}
 use mathlib.Core.Path.{_≡_, refl, ap, _∙_}
 use borrow.Author.Tests.{eq-eqb, ne-eqb}
 use Rattle.calls.specs.Outcome.{Row, Outcome, outcome, refusal, decided}
 
 module _ (rows : List Row) (effect : Outcome) (l t b : List ℕ) where
-  pub decided-cases : ((refusal rows ≢ 0) × (decided rows effect l t b ≡ outcome (refusal rows) 0 l t b)) ⊎ ((refusal rows ≡ 0) × (decided rows effect l t b ≡ effect))
+  pub decided-cases : ((refusal rows ≢ 0) × (decided rows effect l t b ≡ outcome (refusal rows) 0 l t b))
+      ⊎ ((refusal rows ≡ 0) × (decided rows effect l t b ≡ effect))
   unfolding decided
   decided-cases = elim (ℕ-discrete (refusal rows) 0) [
     | yes e ↦ inr (e, rw (eq-eqb (refusal rows) 0 e))

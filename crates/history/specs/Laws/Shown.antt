@@ -1,5 +1,5 @@
 -- The files that a sound volume has, and that read answers their bytes.
-use Prim.Native.Nat.{ℕ, _*_, _<_, _≤_}
+use Prim.Native.Nat.{ℕ, _*_, _<_}
 use native.Mathlib.Omega.{arith}
 use native.Mathlib.Decide.{decLt}
 use mathlib.Core.Bool.{Bool, true, false}
@@ -7,37 +7,42 @@ use mathlib.Core.List.{List}
 use mathlib.Core.Logic.{inl, inr}
 use mathlib.Core.Option.{Option, none, some}
 use mathlib.Core.Path.{_≡_, refl, sym, ap, _∙_, subst}
-use Rattle.image.specs.Store.{stored, part}
+use lib.ListN.{length}
 use Rattle.chains.specs.Content.{content}
 use Rattle.chains.specs.Holders as Theory
-use Rattle.diskette.specs.Places.{firstData, clusterBytes, lastCluster, rootAt, rootEntries, slotAt}
+use Rattle.chains.specs.Laws.Content.{content-length}
+use Rattle.contents.specs.Laws.Chain.{chain-room}
+use Rattle.diskette.specs.Places.{firstData, clusterBytes, lastCluster, rootEntries, slotAt}
 use Rattle.diskette.specs.declared.Kind.{Kind}
-use Rattle.fields.specs.Fields.{nameOf, attrOf, sizeOf}
-use Rattle.directory.specs.Slots.{standingOf, isPlain, PlainAt}
+use Rattle.fields.specs.Fields.{nameOf, attrOf, startOf, sizeOf}
+use Rattle.directory.specs.Slots.{standingOf, isPlain}
 use Rattle.directory.specs.Laws.Slots.{plain-is}
-use Rattle.opened.specs.Records.{slotOf, pointerOf}
 use Rattle.sound.specs.Files.{valueOf, IsFile, ChainOf}
 use Rattle.sound.specs.Holders.{rootHolders}
 use Rattle.sound.specs.Laws.Chains.{file-owns-chain}
 use Rattle.sound.specs.Laws.Holders.{root-holder, plain-holder}
 use Rattle.sound.specs.Laws.Sound.{chain-only}
-use Rattle.calls.specs.Outcome.{Outcome, decided}
-use Rattle.calls.specs.Refusals.{theKind}
+use Rattle.calls.specs.Outcome.{Outcome}
 use Rattle.calls.specs.Ready.{OnVolume}
 use Rattle.calls.specs.Laws.Ready.{on-usable, on-kind}
 use Rattle.holding.specs.Holding.{fileChain, fileBytes, FileIn}
-use Rattle.holding.specs.Laws.Chain.{file-owned}
+use Rattle.holding.specs.Laws.Chain.{file-owned, file-holds}
+use Rattle.holding.specs.Laws.Clusters.{on-clusters}
 use Rattle.reading.specs.Read.{readRows, readEffect, readOutcome}
 use Rattle.changes.specs.Files.{File, file, Files, Holds, Shows, ShowsAt}
-use Rattle.history.specs.Promises.{Begins, FirstFiles, ReadsAreOfHistory}
-use Rattle.history.specs.World.{World, outcomeOf, read}
 use Rattle.changes.specs.Laws.Changed.{on-sound}
+use Rattle.history.specs.Promises.{FirstFiles, ReadsAreOfHistory}
+use Rattle.history.specs.World.{ours, run}
+use Rattle.history.specs.Laws.Begins.{on}
 use Rattle.history.specs.Laws.Rows.{decided-cases}
+use Rattle.history.specs.Laws.Runs.{begins-run}
 
 module _ (k : Kind) (l : List ℕ) (v : OnVolume l k) where
   -- what slot s has, by whether a plain file stands there
   shown : (s : ℕ) → Dec (s < rootEntries k) → Bool → Option File
-  shown s (yes h) true = some (file (nameOf l (slotAt k s)) (attrOf l (slotAt k s)) (content (512 * firstData k) (clusterBytes k) l (on-sound k l v .0 s) (sizeOf l (slotAt k s))))
+  shown s (yes h) true =
+      some (file (nameOf l (slotAt k s)) (attrOf l (slotAt k s))
+      (content (512 * firstData k) (clusterBytes k) l (on-sound k l v .0 s) (sizeOf l (slotAt k s))))
   shown s (yes h) false = none
   shown s (no n) b = none
 
@@ -53,33 +58,47 @@ module _ (k : Kind) (l : List ℕ) (v : OnVolume l k) where
   shows s (no n) b e = λ i. n (i .0)
 
   pub volume-shows : (fs : Files) × Shows k l fs
-  volume-shows = (λ s. shown s (decLt s (rootEntries k)) (isPlain (standingOf l (slotAt k s))), λ s. shows s (decLt s (rootEntries k)) (isPlain (standingOf l (slotAt k s))) refl)
+  volume-shows = (
+    λ s. shown s (decLt s (rootEntries k)) (isPlain (standingOf l (slotAt k s))),
+    λ s. shows s (decLt s (rootEntries k)) (isPlain (standingOf l (slotAt k s))) refl,
+  )
 
   -- the chain that a walk finds is the file's
   pub file-chain-of : (s : ℕ) → FileIn l k s → ChainOf k l s (fileChain k l s)
   file-chain-of s i =
+      let holder = root-holder k l s (i .below) ∙ plain-holder (clusterBytes k) l (slotAt k s) (i .plain) in
       file-owns-chain k (on-usable l k v) l (rootHolders k l) (root-holder k l) s (fileChain k l s) (i .below, i .plain) .0
-      (subst (λ (h : Theory.Holder). Theory.Owns (lastCluster k) (valueOf k l) h (fileChain k l s)) (sym (root-holder k l s (i .below) ∙ plain-holder (clusterBytes k) l (slotAt k s) (i .plain))) (file-owned l k v s i))
+      (subst (λ (h : Theory.Holder). Theory.Owns (lastCluster k) (valueOf k l) h (fileChain k l s)) (sym holder) (file-owned l k v s i))
+
+  -- as many bytes as its size says
+  pub bytes-long : (s : ℕ) → FileIn l k s → length (fileBytes k l s) ≡ sizeOf l (slotAt k s)
+  unfolding fileBytes
+  bytes-long s i =
+      content-length (512 * firstData k) (clusterBytes k) (on-clusters l k v .wide) l (fileChain k l s) (sizeOf l (slotAt k s))
+      (chain-room (512 * firstData k) (clusterBytes k) (lastCluster k) l (startOf l (slotAt k s)) (on-clusters l k v)) (file-holds l k v s i)
 
   pub holds-bytes : (s : ℕ) (f : File) → Holds k l s f → fileBytes k l s ≡ f .bytes
   unfolding fileBytes
   holds-bytes s f x =
       let i : FileIn l k s = record { below = x .is-file .0; plain = x .is-file .1 } in
-      ap (λ (cs : List ℕ). content (512 * firstData k) (clusterBytes k) l cs (sizeOf l (slotAt k s))) (chain-only k (on-usable l k v) l s (fileChain k l s) (x .bytes .0) (file-chain-of s i) (x .bytes .1))
+      ap (λ (cs : List ℕ). content (512 * firstData k) (clusterBytes k) l cs (sizeOf l (slotAt k s)))
+      (chain-only k (on-usable l k v) l s (fileChain k l s) (x .bytes .0) (file-chain-of s i) (x .bytes .1))
       ∙ x .bytes .2
 
 pub first-files : FirstFiles
-first-files k w b = volume-shows k (w .image) (b .on)
+first-files k w b = volume-shows k (w .image) (on b)
 
-pub reads-are-of-history : ReadsAreOfHistory
+pub reads-are-of-history : ReadsAreOfHistory ours
 unfolding readOutcome
-reads-are-of-history k w b h buffer e f x =
-    elim (decided-cases (readRows (w .image) (w .table) h) (readEffect (w .image) (w .table) h buffer) (w .image) (w .table) buffer) [
+reads-are-of-history k v c cs g h buffer s f e n x =
+    let w = run v cs in
+    let b = begins-run k cs v c g in
+    let l = w .image in
+    let t = w .table in
+    let i : FileIn l k s = record { below = x .is-file .0; plain = x .is-file .1 } in
+    let bytes : fileBytes k l s ≡ f .bytes = holds-bytes k l (on b) s f x in
+    let size : sizeOf l (slotAt k s) ≡ length (f .bytes) = sym (bytes-long k l (on b) s i) ∙ ap length bytes in
+    elim (decided-cases (readRows l t h) (readEffect l t h buffer) l t buffer) [
       | inl y ↦ absurd (y .0 (sym (ap (λ (o : Outcome). o .number) (y .1)) ∙ e))
-      | inr y ↦
-          let n = readEffect (w .image) (w .table) h buffer .value in
-          let same : fileBytes (theKind (w .image)) (w .image) (slotOf (w .table) h) ≡ f .bytes = rw (on-kind (w .image) k (b .on)) (holds-bytes k (w .image) (b .on) (slotOf (w .table) h) f x) in
-          ap (λ (o : Outcome). o .buffer) (y .1)
-          ∙ ap (λ (bytes : List ℕ). stored buffer 0 (part bytes (pointerOf (w .table) h) n)) same
-          ∙ ap (λ (m : ℕ). stored buffer 0 (part (f .bytes) (pointerOf (w .table) h) m)) (sym (ap (λ (o : Outcome). o .value) (y .1)))
+      | inr y ↦ rw (y .1, on-kind l k (on b), n .slot, size, bytes) (refl, refl)
     ]

@@ -6,7 +6,7 @@ use native.Mathlib.Decide.{ℕ-discrete}
 use mathlib.Core.Bool.{Bool, true, false, cond, not, _&&_}
 use mathlib.Core.List.{List, []}
 use mathlib.Core.Logic.{_⊎_, inl, inr}
-use mathlib.Core.Path.{_≡_, refl, sym, ap, _∙_, subst}
+use mathlib.Core.Path.{_≡_, refl, sym, ap, subst}
 use lib.Dec.{eqb, ltb}
 use lib.IntN.{ℤ}
 use lib.ListN.{length}
@@ -21,12 +21,11 @@ use Rattle.stamps.specs.declared.Stamp.{Stamp}
 use Rattle.stamps.specs.declared.Packed.{Packed}
 use Rattle.stamps.specs.declared.Packed.the-variants.{Words, OutOfRange}
 use Rattle.opened.specs.Records.{slotOf, pointerOf, accessOf}
-use Rattle.opened.specs.Laws.Stores.{record-holds}
+use Rattle.sound.specs.Files.{IsFile}
 use Rattle.calls.specs.Outcome.{Row, Outcome, refusal, decided}
 use Rattle.calls.specs.Ready.{OnVolume}
-use Rattle.calls.specs.Refusals.{isNothing, placeFound, theKind, noFile, fileSlot, readOnly, notLive, noPlace, freePlace, slotForNew}
+use Rattle.calls.specs.Refusals.{isNothing, placeFound, theKind, badName, noFile, fileSlot, readOnly, notLive, noPlace, freePlace, slotForNew}
 use Rattle.calls.specs.Laws.Ready.{on-usable}
-use Rattle.holding.specs.Holding.{FileIn}
 use Rattle.creating.specs.Create.{made, madeBy, createRows, createEffect, createOutcome}
 use Rattle.deleting.specs.Delete.{deleteRows, deleteEffect, deleteOutcome}
 use Rattle.freeing.specs.Freed.{chainFreed}
@@ -37,36 +36,38 @@ use Rattle.opening.specs.Open.{openRows, openEffect, openOutcome}
 use Rattle.seeking.specs.Seek.{seekRows, seekEffect, seekOutcome}
 use Rattle.reading.specs.Read.{readRows, readEffect, readOutcome}
 use Rattle.writing.specs.Write.{writeCount, writeRows, writeAt, writeEffect, writeOutcome}
-use Rattle.history.specs.World.{World}
+use Rattle.history.specs.Meant.{Names, NamedBy, byName}
+use Rattle.history.specs.World.{World, Call, outcomeOf, openFile, create, read, write, seek, close, delete, rename, mode}
+use Rattle.history.specs.Laws.Found.{good-name, place-counts, named-small, live-at, new-slot}
+use Rattle.history.specs.Laws.Meant.{has-name, for-new, names-one, by-name-only}
 use Rattle.history.specs.Laws.Passed.{passed-row}
 use Rattle.history.specs.Laws.Rows.{decided-cases}
-use Rattle.history.specs.Laws.Found.{place-counts, named-small, live-at, new-slot}
 use Rattle.history.specs.Laws.TarePlaces.{Watched, ReadsOnly, record-watched, pointer-watched, wrote-watched, cleared-watched}
 
 -- a read-only file whose places, where it has any, only read
 pub record Guarded (k : Kind) (w : World) (s : ℕ) : Type 0 where
-  pub is-file : FileIn (w .image) k s
+  pub is-file : IsFile k (w .image) s
   pub marked : readOnly (w .image) s ≡ true
   pub places : Watched (w .table) s
 
--- an outcome spares slot s of the image l: the image stays, or the call does not name the slot, which N says of the outcome; and
--- the slot is watched still
-pub record Spares (l : List ℕ) (s : ℕ) (N : Outcome → Type 0) (o : Outcome) : Type 0 where
-  pub image : (o .image ≡ l) ⊎ ¬ N o
+-- the call c spares slot s, if o is its outcome: the image stays, or the call does not name the slot; and it is watched still
+pub record Spares (k : Kind) (w : World) (s : ℕ) (c : Call) (o : Outcome) : Type 0 where
+  pub image : (o .image ≡ w .image) ⊎ ¬ Names c k w s
   pub places : Watched (o .table) s
 
--- a refusal spares it; so there is the effect to look at, where the rows are passed
-decided-spares : (rows : List Row) (effect : Outcome) (l t b : List ℕ) (s : ℕ) (N : Outcome → Type 0) → Watched t s
-    → (refusal rows ≡ 0 → Spares l s N effect) → Spares l s N (decided rows effect l t b)
-decided-spares rows effect l t b s N x f = elim (decided-cases rows effect l t b) [
-  | inl y ↦ subst (Spares l s N) (sym (y .1)) (record { image = inl refl; places = x })
-  | inr y ↦ subst (Spares l s N) (sym (y .1)) (f (y .0))
-]
+module _ (k : Kind) (w : World) (s : ℕ) (c : Call) where
+  -- a refusal spares it; so there is the effect to look at, where the rows are passed
+  decided-spares : (rows : List Row) (effect : Outcome) (b : List ℕ) → Watched (w .table) s
+      → (refusal rows ≡ 0 → Spares k w s c effect) → Spares k w s c (decided rows effect (w .image) (w .table) b)
+  decided-spares rows effect b x f = elim (decided-cases rows effect (w .image) (w .table) b) [
+    | inl y ↦ subst (Spares k w s c) (sym (y .1)) (record { image = inl refl; places = x })
+    | inr y ↦ subst (Spares k w s c) (sym (y .1)) (f (y .0))
+  ]
 
--- one of two outcomes
-either-spares : (b : Bool) (o q : Outcome) (l : List ℕ) (s : ℕ) (N : Outcome → Type 0) → (b ≡ true → Spares l s N o) → (b ≡ false → Spares l s N q) → Spares l s N (cond b o q)
-either-spares true o q l s N f g = f refl
-either-spares false o q l s N f g = g refl
+  -- one of two outcomes
+  either-spares : (b : Bool) (o q : Outcome) → (b ≡ true → Spares k w s c o) → (b ≡ false → Spares k w s c q) → Spares k w s c (cond b o q)
+  either-spares true o q f g = f refl
+  either-spares false o q f g = g refl
 
 -- ---- what a row that was passed says where one of its tests holds
 
@@ -88,112 +89,135 @@ module _ (k : Kind) (w : World) (v : OnVolume (w .image) k) (s : ℕ) (g : Guard
   abbrev t : List ℕ
   t = w .table
 
-  -- a slot whose file is not read-only is another
+  abbrev Spared : Call → Type 0
+  Spared c = Spares k w s c (outcomeOf c w)
+
+  -- a slot whose file is not read-only is another, and its name is of another file
   other-slot : (slot : ℕ) → readOnly l slot ≡ false → ¬ (s ≡ slot)
   other-slot slot e q = clash (subst (λ (n : ℕ). readOnly l n ≡ true) q (g .marked)) e
 
+  other-file : (name : List ℕ) → badName name ≡ false → noFile l name ≡ false → readOnly l (fileSlot l name) ≡ false
+      → ¬ NamedBy (byName name) k w s
+  other-file name good there writable x = other-slot (fileSlot l name) writable (by-name-only k w v name good there s x)
+
   -- ---- delete and rename: the row of read-only files was passed
 
-  pub delete-spares : (name : List ℕ) → Spares l s (λ o. s ≡ fileSlot l name) (deleteOutcome l t name)
+  pub delete-spares : (name : List ℕ) → Spared (delete name)
   unfolding deleteOutcome
-  delete-spares name = decided-spares (deleteRows l t name) (deleteEffect l t name) l t [] s _ (g .places)
-      (λ p. record { image = inr (other-slot (fileSlot l name) (passed-row (deleteRows l t name) refl p 5)); places = g .places })
+  delete-spares name = decided-spares k w s (delete name) (deleteRows l t name) (deleteEffect l t name) [] (g .places) (λ p.
+      let row = passed-row (deleteRows l t name) refl p in
+      record { image = inr (other-file name (row 2) (row 3) (row 5)); places = g .places })
 
-  pub rename-spares : (name new : List ℕ) → Spares l s (λ o. s ≡ fileSlot l name) (renameOutcome l t name new)
+  pub rename-spares : (name new : List ℕ) → Spared (rename name new)
   unfolding renameOutcome
-  rename-spares name new = decided-spares (renameRows l t name new) (renameEffect l t name new) l t [] s _ (g .places)
-      (λ p. record { image = inr (other-slot (fileSlot l name) (passed-row (renameRows l t name new) refl p 6)); places = g .places })
+  rename-spares name new = decided-spares k w s (rename name new) (renameRows l t name new) (renameEffect l t name new) [] (g .places) (λ p.
+      let row = passed-row (renameRows l t name new) refl p in
+      record { image = inr (other-file name (row 2) (row 4) (row 6)); places = g .places })
 
   -- ---- file mode: function 1 is on another file, and any other function leaves the image
 
-  pub mode-spares : (name : List ℕ) (function attr : ℕ) → ¬ ((function ≡ 1) × (s ≡ fileSlot l name)) → Spares l s (λ o. s ≡ fileSlot l name) (modeOutcome l t name function attr)
+  pub mode-spares : (name : List ℕ) (function attr : ℕ) → (function ≡ 1 → ¬ NamedBy (byName name) k w s) → Spared (mode name function attr)
   unfolding modeOutcome
-  mode-spares name function attr unset = decided-spares (modeRows l t name function attr) (modeEffect l t name function attr) l t [] s _ (g .places) (λ p.
-      either-spares (eqb function 1) _ _ l s _
-      (λ e. record { image = inr (λ n. unset (eqb-true function 1 e, n)); places = g .places })
+  mode-spares name function attr unset =
+      decided-spares k w s (mode name function attr) (modeRows l t name function attr) (modeEffect l t name function attr) [] (g .places) (λ p.
+      either-spares k w s (mode name function attr) (eqb function 1) _ _
+      (λ e. record { image = inr (unset (eqb-true function 1 e)); places = g .places })
       (λ e. record { image = inl refl; places = g .places }))
 
   -- ---- open: access 0, as the file is read-only
 
-  pub open-spares : (name : List ℕ) (access : ℕ) → Spares l s (λ o. s ≡ fileSlot l name) (openOutcome l t name access)
+  pub open-spares : (name : List ℕ) (access : ℕ) → Spared (openFile name access)
   unfolding openOutcome
-  open-spares name access = decided-spares (openRows l t name access) (openEffect l t name access) l t [] s _ (g .places) (λ p.
+  open-spares name access = decided-spares k w s (openFile name access) (openRows l t name access) (openEffect l t name access) [] (g .places) (λ p.
       let row = passed-row (openRows l t name access) refl p in
       record {
         image = inl refl;
-        places = record-watched t s (g .places) (freePlace t) (place-counts t (row 6)) access (fileSlot l name) (named-small k l v name (row 4)) (λ e. reads e (row 5));
+        places =
+            record-watched t s (g .places) (freePlace t) (place-counts t (row 6)) access (fileSlot l name) (named-small k l v name (row 4))
+            (λ e. reads e (row 5));
       })
     where
       reads : fileSlot l name ≡ s → (ltb 0 access && readOnly l (fileSlot l name)) ≡ false → access ≡ 0
-      reads e row = not-above access (second-holds (ltb 0 access) (readOnly l (fileSlot l name)) row (subst (λ (n : ℕ). readOnly l n ≡ true) (sym e) (g .marked)))
+      reads e row =
+          not-above access
+          (second-holds (ltb 0 access) (readOnly l (fileSlot l name)) row (subst (λ (n : ℕ). readOnly l n ≡ true) (sym e) (g .marked)))
 
   -- ---- read and seek: the pointer of a live place
 
-  pub read-spares : (h : ℕ) (buffer : List ℕ) → Spares l s (λ o. s ≡ slotOf t h) (readOutcome l t h buffer)
+  pub read-spares : (h : ℕ) (buffer : List ℕ) → Spared (read h buffer)
   unfolding readOutcome
-  read-spares h buffer = decided-spares (readRows l t h) (readEffect l t h buffer) l t buffer s _ (g .places) (λ p.
-      record { image = inl refl; places = pointer-watched t s (g .places) h (live-at k l v t h (passed-row (readRows l t h) refl p 2) .counted) _ })
+  read-spares h buffer = decided-spares k w s (read h buffer) (readRows l t h) (readEffect l t h buffer) buffer (g .places) (λ p.
+      let live = live-at k l v t h (passed-row (readRows l t h) refl p 2) in
+      record { image = inl refl; places = pointer-watched t s (g .places) h (live .counted) _ })
 
-  pub seek-spares : (h method : ℕ) (offset : ℤ) → Spares l s (λ o. s ≡ slotOf t h) (seekOutcome l t h method offset)
+  pub seek-spares : (h method : ℕ) (offset : ℤ) → Spared (seek h method offset)
   unfolding seekOutcome
-  seek-spares h method offset = decided-spares (seekRows l t h method offset) (seekEffect l t h method offset) l t [] s _ (g .places) (λ p.
-      record { image = inl refl; places = pointer-watched t s (g .places) h (live-at k l v t h (passed-row (seekRows l t h method offset) refl p 3) .counted) _ })
+  seek-spares h method offset =
+      decided-spares k w s (seek h method offset) (seekRows l t h method offset) (seekEffect l t h method offset) [] (g .places) (λ p.
+      let live = live-at k l v t h (passed-row (seekRows l t h method offset) refl p 3) in
+      record { image = inl refl; places = pointer-watched t s (g .places) h (live .counted) _ })
 
   -- ---- write and close: a place of this file has access 0, and is not marked as written
 
-  reads-only : (h : ℕ) → notLive l t h ≡ false → s ≡ slotOf t h → ReadsOnly t h
-  reads-only h e q = let live = live-at k l v t h e in g .places h (live .counted) (record { used = live .used; names = sym q })
+  reads-only : (h : ℕ) → notLive l t h ≡ false → slotOf t h ≡ s → ReadsOnly t h
+  reads-only h e q = let live = live-at k l v t h e in g .places h (live .counted) (record { used = live .used; names = q })
 
-  pub write-spares : (h : ℕ) (bs : List ℕ) → Spares l s (λ o. s ≡ slotOf t h) (writeOutcome l t h bs)
+  pub write-spares : (h : ℕ) (bs : List ℕ) → Spared (write h bs)
   unfolding writeOutcome writeAt
-  write-spares h bs = decided-spares (writeRows l t h) (writeEffect l t h bs) l t [] s _ (g .places) (λ p.
+  write-spares h bs = decided-spares k w s (write h bs) (writeRows l t h) (writeEffect l t h bs) [] (g .places) (λ p.
       let row = passed-row (writeRows l t h) refl p in
-      let other : ¬ (s ≡ slotOf t h) = λ q. eqb-false (accessOf t h) 0 (row 3) (reads-only h (row 2) q .access) in
-      either-spares (eqb (writeCount (theKind l) l (slotOf t h) (pointerOf t h) (length bs)) 0) _ _ l s _
+      let other : ¬ (slotOf t h ≡ s) = λ q. eqb-false (accessOf t h) 0 (row 3) (reads-only h (row 2) q .access) in
+      either-spares k w s (write h bs) (eqb (writeCount (theKind l) l (slotOf t h) (pointerOf t h) (length bs)) 0) _ _
       (λ e. record { image = inl refl; places = g .places })
-      (λ e. record { image = inr other; places = wrote-watched t s (g .places) h (live-at k l v t h (row 2) .counted) (λ q. other (sym q)) _ }))
+      (λ e. record { image = inr (λ x. other (x .slot)); places = wrote-watched t s (g .places) h (live-at k l v t h (row 2) .counted) other _ }))
 
-  pub close-spares : (h : ℕ) (stamp : Stamp) → Spares l s (λ o. s ≡ slotOf t h) (closeOutcome l t h stamp)
+  pub close-spares : (h : ℕ) (stamp : Stamp) → Spared (close h stamp)
   unfolding closeOutcome
-  close-spares h stamp = decided-spares (closeRows l t h stamp) (closeEffect l t h stamp) l t [] s _ (g .places) (λ p.
+  close-spares h stamp = decided-spares k w s (close h stamp) (closeRows l t h stamp) (closeEffect l t h stamp) [] (g .places) (λ p.
       let live = passed-row (closeRows l t h stamp) refl p 3 in
       record {
-        image = elim (ℕ-discrete s (slotOf t h)) [
+        image = elim (ℕ-discrete (slotOf t h) s) [
           | yes q ↦ inl (rw (reads-only h live q .written) refl)
-          | no d ↦ inr d
+          | no d ↦ inr (λ x. d (x .slot))
         ];
         places = cleared-watched t s (g .places) h (live-at k l v t h live .counted);
       })
 
   -- ---- create: a file of that name is not read-only, and a new one takes an open slot
 
-  -- a place is taken for another slot
-  module _ (slot : ℕ) (small : slot < 4294967296) (other : ¬ (s ≡ slot)) (room : noPlace t ≡ false) where
-    made-spares : (m : List ℕ) (j : Kind) (name : List ℕ) (attr time date : ℕ) → Spares l s (λ o. s ≡ slotOf (o .table) (o .value)) (made m t j slot name attr time date)
-    made-spares m j name attr time date = record {
-      image = inr (λ e. other (e ∙ record-holds t (freePlace t) (place-counts t room) 2 slot 0 false small (omega arith) .slot));
-      places = record-watched t s (g .places) (freePlace t) (place-counts t room) 2 slot small (λ e. absurd (other (sym e)));
-    }
+  module _ (name : List ℕ) (attr : ℕ) (stamp : Stamp) where
+    -- a place is taken for another slot, the one that is named
+    module _ (slot : ℕ) (small : slot < 4294967296) (other : ¬ (s ≡ slot)) (named : Names (create name attr stamp) k w slot)
+        (room : noPlace t ≡ false) (m : List ℕ) (j : Kind) where
+      made-spares : (time date : ℕ) → Spares k w s (create name attr stamp) (made m t j slot (nameOf name .name) attr time date)
+      made-spares time date = record {
+        image = inr (λ x. other (names-one k w v s slot (create name attr stamp) x named));
+        places = record-watched t s (g .places) (freePlace t) (place-counts t room) 2 slot small (λ e. absurd (other (sym e)));
+      }
 
-    made-by-spares : (m : List ℕ) (j : Kind) (name : List ℕ) (attr : ℕ) (words : Packed) → Spares l s (λ o. s ≡ slotOf (o .table) (o .value)) (madeBy m t j slot name attr words)
-    made-by-spares m j name attr (Words time date) = made-spares m j name attr time date
-    made-by-spares m j name attr OutOfRange = made-spares m j name attr 0 0
+      made-by-spares : (words : Packed) → Spares k w s (create name attr stamp) (madeBy m t j slot (nameOf name .name) attr words)
+      made-by-spares (Words time date) = made-spares time date
+      made-by-spares OutOfRange = made-spares 0 0
 
-  new-small : isNothing (slotForNew l) ≡ false → placeFound (slotForNew l) < 4294967296
-  new-small e = omega (arith, new-slot k l v e .below, on-usable l k v .few-slots)
+    new-small : isNothing (slotForNew l) ≡ false → placeFound (slotForNew l) < 4294967296
+    new-small e = omega (arith, new-slot k l v e .below, on-usable l k v .few-slots)
 
-  new-other : isNothing (slotForNew l) ≡ false → ¬ (s ≡ placeFound (slotForNew l))
-  new-other e q = elim (subst (λ (n : ℕ). OpenAt l (slotAt k n)) (sym q) (new-slot k l v e .passes)) [
-    | inl z ↦ g .is-file .plain .0 .1 z
-    | inr z ↦ g .is-file .plain .0 .0 z
-  ]
+    new-other : isNothing (slotForNew l) ≡ false → ¬ (s ≡ placeFound (slotForNew l))
+    new-other e q = elim (subst (λ (n : ℕ). OpenAt l (slotAt k n)) (sym q) (new-slot k l v e .passes)) [
+      | inl z ↦ g .is-file .1 .0 .1 z
+      | inr z ↦ g .is-file .1 .0 .0 z
+    ]
 
-  pub create-spares : (name : List ℕ) (attr : ℕ) (stamp : Stamp) → Spares l s (λ o. s ≡ slotOf (o .table) (o .value)) (createOutcome l t name attr stamp)
-  unfolding createOutcome
-  create-spares name attr stamp = decided-spares (createRows l t name attr stamp) (createEffect l t name attr stamp) l t [] s _ (g .places) (λ p.
-      let row = passed-row (createRows l t name attr stamp) refl p in
-      either-spares (noFile l name) _ _ l s _
-      (λ e. let found = first-holds (noFile l name) (isNothing (slotForNew l)) (row 7) e in
-      made-by-spares (placeFound (slotForNew l)) (new-small found) (new-other found) (row 8) l (theKind l) (nameOf name .name) attr (packed stamp))
-      (λ e. let writable = first-holds (not (noFile l name)) (readOnly l (fileSlot l name)) (row 6) (ap not e) in
-      made-by-spares (fileSlot l name) (named-small k l v name e) (other-slot (fileSlot l name) writable) (row 8) (chainFreed (theKind l) l (fileSlot l name)) (theKind l) (nameOf name .name) attr (packed stamp)))
+    pub create-spares : Spared (create name attr stamp)
+    unfolding createOutcome
+    create-spares =
+        decided-spares k w s (create name attr stamp) (createRows l t name attr stamp) (createEffect l t name attr stamp) [] (g .places) (λ p.
+        let row = passed-row (createRows l t name attr stamp) refl p in
+        let fits = good-name name (row 2) in
+        either-spares k w s (create name attr stamp) (noFile l name) _ _
+        (λ e. let found = first-holds (noFile l name) (isNothing (slotForNew l)) (row 7) e in
+        made-by-spares (placeFound (slotForNew l)) (new-small found) (new-other found) (inr (for-new k l v name fits e found)) (row 8)
+        l (theKind l) (packed stamp))
+        (λ e. let writable = first-holds (not (noFile l name)) (readOnly l (fileSlot l name)) (row 6) (ap not e) in
+        made-by-spares (fileSlot l name) (named-small k l v name e) (other-slot (fileSlot l name) writable) (inl (has-name k l v name fits e)) (row 8)
+        (chainFreed (theKind l) l (fileSlot l name)) (theKind l) (packed stamp)))

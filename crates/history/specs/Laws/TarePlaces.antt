@@ -68,7 +68,9 @@ module _ (t : List ℕ) (s : ℕ) (x : Watched t s) where
 
       -- a pointer moved
       pub pointer-watched : Watched (withPointer t p v) s
-      pointer-watched = only-watched (withPointer t p v) p (pointer-only t p k v) (λ n. same (x p k (record { used = sym used ∙ n .used; names = sym pointer-slot ∙ n .names })))
+      pointer-watched =
+          only-watched (withPointer t p v) p (pointer-only t p k v)
+          (λ n. same (x p k (record { used = sym used ∙ n .used; names = sym pointer-slot ∙ n .names })))
         where
           used : usedOf (withPointer t p v) p ≡ usedOf t p
           used = own .used (inl (omega arith))
@@ -80,6 +82,7 @@ module _ (t : List ℕ) (s : ℕ) (x : Watched t s) where
       pointer-count = subst (λ (c : ℕ). p < c) (sym (only-count p (withPointer t p v) t (pointer-only t p k v))) k
 
 -- a pointer moved in a place of another slot, which is marked as written
-pub wrote-watched : (t : List ℕ) (s : ℕ) → Watched t s → (p : ℕ) → p < placeCount t → slotOf t p ≢ s → (v : ℕ) → Watched (withWritten (withPointer t p v) p) s
+pub wrote-watched : (t : List ℕ) (s : ℕ) → Watched t s → (p : ℕ) → p < placeCount t → slotOf t p ≢ s → (v : ℕ)
+    → Watched (withWritten (withPointer t p v) p) s
 wrote-watched t s x p k d v =
     written-watched (withPointer t p v) s (pointer-watched t s x p k v) p (pointer-count t s x p k v) (λ e. d (sym (pointer-slot t s x p k v) ∙ e))

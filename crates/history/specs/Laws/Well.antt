@@ -1,37 +1,47 @@
--- A call that ended well, in the form that its own laws have: the slot, the image after, and what the history puts there.
+-- A call by its rows: it is refused, or it ended well; and then what it comes to, in the form that its own laws have.
 use Prim.Native.Nat.{ℕ}
 use mathlib.Core.List.{List}
+use mathlib.Core.Logic.{_↔_, inl, inr}
 use mathlib.Core.Option.{Option, none, some}
 use mathlib.Core.Path.{_≡_, refl, sym, ap, _∙_, subst}
 use Rattle.image.specs.Bytes.{Bytes}
-use Rattle.chains.specs.Put.{put}
-use Rattle.chains.specs.Laws.Put.{put-same, put-other}
 use Rattle.diskette.specs.declared.Kind.{Kind}
+use Rattle.calls.specs.Outcome.{Row, Outcome, refusal, decided}
 use Rattle.holding.specs.Holding.{FileIn}
-use Rattle.history.specs.Came.{Came, changes}
 use Rattle.changes.specs.Changed.{SlotChanged}
-use Rattle.changes.specs.Files.{File, Files, Holds, Shows, ShowsAt}
+use Rattle.changes.specs.Files.{File, Holds, ShowsAt}
+use Rattle.history.specs.Aids.Came.{Does, Came, idle, changes}
 use Rattle.history.specs.History as history
-use Rattle.history.specs.World.{World, Call, Names, outcomeOf, step}
-use Rattle.history.specs.Laws.Looks.{after-well}
+use Rattle.history.specs.World.{World, Call, outcomeOf, step}
+use Rattle.history.specs.Laws.Rows.{decided-cases}
 
-module _ (k : Kind) (w : World) (c : Call) (s : ℕ) (ds m : List ℕ) (well : outcomeOf c w .number ≡ 0) (image : step w c .image ≡ m) (named : Names c w s) (x : SlotChanged k (w .image) m s ds) (b : Bytes m) where
-  pub came-put : (new : Files → Option File) → ((fs : Files) → history.changes c w (outcomeOf c w) fs ≡ put fs s (new fs)) → ((fs : Files) → Shows k (w .image) fs → ShowsAt k m s (new fs)) → Came k w c
-  came-put new put-there there = changes s ds (record {
-    named = named;
-    changed = subst (λ (l : List ℕ). SlotChanged k (w .image) l s ds) (sym image) x;
-    bytes = subst Bytes (sym image) b;
-    there = λ fs y.
-        let e : history.after c w fs s ≡ new fs = ap (λ (f : Files). f s) (after-well k w c well fs ∙ put-there fs) ∙ put-same fs s (new fs) s refl in
-        subst (λ (l : List ℕ). ShowsAt k l s (history.after c w fs s)) (sym image) (subst (ShowsAt k m s) (sym e) (there fs y));
-    others = λ fs t n. ap (λ (f : Files). f t) (after-well k w c well fs ∙ put-there fs) ∙ put-other fs s (new fs) t n;
-  })
+module _ (k : Kind) (w : World) (c : Call) where
+  pub came-by : (rows : List Row) (effect : Outcome) (b : List ℕ) → outcomeOf c w ≡ decided rows effect (w .image) (w .table) b
+      → (refusal rows ≡ 0 → outcomeOf c w ≡ effect → Came k w c) → Came k w c
+  came-by rows effect b e well = elim (decided-cases rows effect (w .image) (w .table) b) [
+    | inl x ↦ idle (inl (λ z. x .0 (sym (ap (λ (o : Outcome). o .number) (e ∙ x .1)) ∙ z))) (ap (λ (o : Outcome). o .image) (e ∙ x .1))
+    | inr x ↦ well (x .0) (e ∙ x .1)
+  ]
 
-  -- the file that stands there is changed
-  pub came-at : FileIn (w .image) k s → (g : File → File) → ((fs : Files) → history.changes c w (outcomeOf c w) fs ≡ history.at s (history.each g) fs)
-      → ((f : File) → Holds k (w .image) s f → Holds k m s (g f)) → Came k w c
-  came-at i g at-there holds = came-put (λ fs. history.each g (fs s)) at-there (λ fs y. go (fs s) (y s))
-    where
-      go : (o : Option File) → ShowsAt k (w .image) s o → ShowsAt k m s (history.each g o)
-      go none y = absurd (y (i .below, i .plain))
-      go (some f) y = holds f y
+  module _ (s : ℕ) (ds m : List ℕ) (does : Does k w c s) (image : step w c .image ≡ m) (x : SlotChanged k (w .image) m s ds) (b : Bytes m) where
+    abbrev Becomes : Option File → Option File → Type 0
+    Becomes = history.Becomes c w (outcomeOf c w)
+
+    pub came-put : ((f : Option File) → (g : Option File) × Becomes f g)
+        → ((f g : Option File) → ShowsAt k (w .image) s f → Becomes f g → ShowsAt k m s g) → Came k w c
+    came-put makes there = changes s ds does (record {
+      changed = subst (λ (l : List ℕ). SlotChanged k (w .image) l s ds) (sym image) x;
+      bytes = subst Bytes (sym image) b;
+      makes = makes;
+      there = λ f g y p. subst (λ (l : List ℕ). ShowsAt k l s g) (sym image) (there f g y p);
+    })
+
+    -- the file that stands there is changed
+    pub came-at : FileIn (w .image) k s → (h : File → File) → ((f g : Option File) → Becomes f g ↔ (g ≡ history.each h f))
+        → ((f : File) → Holds k (w .image) s f → Holds k m s (h f)) → Came k w c
+    came-at i h becomes holds = came-put (λ f. (history.each h f, becomes f (history.each h f) .1 refl))
+        (λ f g y p. subst (ShowsAt k m s) (sym (becomes f g .0 p)) (go f y))
+      where
+        go : (o : Option File) → ShowsAt k (w .image) s o → ShowsAt k m s (history.each h o)
+        go none y = absurd (y (i .below, i .plain))
+        go (some f) y = holds f y

@@ -41,9 +41,5 @@ module _ (img : List ℕ) (k : Kind) (e : kindOfImage img ≡ Known k) where
   pub last-small : (last : ℕ) → last ≡ lastCluster k → last ≤ 4079
   last-small last r = rw r (usable .below-aside)
 
-  -- a buffer of 4,080 places has one for each cluster
-  pub last-below : (last : ℕ) → last ≡ lastCluster k → last < 4080
-  last-below last r = omega (arith, last-small last r)
-
   pub table-inside : (last : ℕ) → last ≡ lastCluster k → wordAt 512 last + 2 ≤ length img
   table-inside last r = rw r (omega (arith, clusters-inside .table, area))

@@ -5,6 +5,7 @@ use mathlib.Core.Bool.{Bool, true, false, not}
 use mathlib.Core.List.{List}
 use mathlib.Core.Path.{_≡_, sym, ap, _∙_}
 use lib.ListN.{length, take}
+use borrow.Author.Tests.{not-false}
 use Rattle.image.specs.Store.{stored}
 use Rattle.diskette.specs.Images.{kindOfImage}
 use Rattle.diskette.specs.Places.{rootAt, rootEntries, slotAt}
@@ -21,7 +22,7 @@ use Rattle.calls.specs.Refusals.{isUnknown, kindFound, theKind, notOfKind, file
 use Rattle.calls.specs.declared.Answer.{Answer}
 use Rattle.holding.specs.Holding.{fileBytes, FileIn}
 use Rattle.holding.specs.Laws.Found.{named-file}
-use Rattle.rescuing.specs.Rescue.{badChainIn, rescueCount, rescueOutcome, Rescues}
+use Rattle.rescuing.specs.Rescue.{goodChain, rescueCount, rescueOutcome, Rescues}
 use Rattle.rescuing.specs.Laws.Kinds.{slot-inside}
 use Rattle.names.specs.Reading as reading
 
@@ -36,8 +37,8 @@ rescues-only x y =
 pub count-roomy : (room size n : ℕ) → n ≡ rescueCount room size → n ≤ room
 count-roomy room size n e = omega arith
 
-pub count-short : (img : List ℕ) (k : Kind) (slot room size n : ℕ) → n ≡ rescueCount room size → (a : ℕ) → size ≡ sizeOf img a → a ≡ slotAt k slot
-    → n ≤ sizeOf img (slotAt k slot)
+pub count-short : (img : List ℕ) (k : Kind) (slot room size n : ℕ) → n ≡ rescueCount room size
+    → (a : ℕ) → size ≡ sizeOf img a → a ≡ slotAt k slot → n ≤ sizeOf img (slotAt k slot)
 count-short img k slot room size n e a z i = rw (← i, ← z) (omega arith)
 
 -- ---- the ways out
@@ -84,15 +85,16 @@ module _ (img s out : List ℕ) where
       pub found-inside : (slot : ℕ) → f ≡ At slot → (a : ℕ) → a ≡ slotAt k slot → a + 32 ≤ length img
       found-inside slot at a i = slot-inside img k e slot a (found-file slot at .below) i
 
-      module _ (slot : ℕ) (at : f ≡ At slot) (b : Bool) (judged : b ≡ badChainIn k img slot) where
-        pub rescue-5 : b ≡ true → Refuses 5
+      module _ (slot : ℕ) (at : f ≡ At slot) (b : Bool) (judged : b ≡ goodChain k img slot) where
+        pub rescue-5 : not b ≡ true → Refuses 5
         unfolding rescueOutcome decided refusal
         rescue-5 h a x = record { is = rw (x, passed, found-is, ← given, fits, at, is-kind, ← judged, h) }
 
-        pub good-chain : b ≡ false → badChainIn k img slot ≡ false
-        good-chain h = sym judged ∙ h
+        pub good-chain : not b ≡ false → goodChain k img slot ≡ true
+        good-chain h = sym judged ∙ not-false b h
 
-        pub rescue-well : b ≡ false → (at size n : ℕ) → at ≡ slotAt k slot → size ≡ sizeOf img at → n ≡ rescueCount (length out) size
-            → (after : List ℕ) → after ≡ stored out 0 (take n (fileBytes k img slot)) → (a : Answer) → a ≡ answering n → Rescues img s out a after
+        pub rescue-well : not b ≡ false → (a size n : ℕ) → a ≡ slotAt k slot → size ≡ sizeOf img a → n ≡ rescueCount (length out) size
+            → (after : List ℕ) → after ≡ stored out 0 (take n (fileBytes k img slot)) → (r : Answer) → r ≡ answering n → Rescues img s out r after
         unfolding rescueOutcome decided refusal
-        rescue-well h p size n pe ze ne after q a x = record { is = rw (x, q, passed, found-is, ← given, fits, at, is-kind, ← judged, h, ← pe, ← ze, ← ne) }
+        rescue-well h a size n ae ze ne after q r x =
+            record { is = rw (x, q, passed, found-is, ← given, fits, at, is-kind, ← judged, h, ← ae, ← ze, ← ne) }

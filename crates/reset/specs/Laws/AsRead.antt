@@ -9,15 +9,11 @@ use lib.ListN.{length, take}
 use Rattle.image.specs.Bytes.{Bytes}
 use Rattle.image.specs.Store.{stored}
 use Rattle.image.specs.Laws.Numbers.{number-small}
-use Rattle.chains.specs.Laws.Tests.{true-says, false-says, by-test}
-use Rattle.diskette.specs.Images.{OfKind}
-use Rattle.diskette.specs.Laws.Images.{image-of-kind}
+use Rattle.chains.specs.Laws.Tests.{true-says, by-test}
 use Rattle.diskette.specs.Places.{rootAt, rootEntries, slotAt}
 use Rattle.diskette.specs.declared.Kind.{Kind}
 use Rattle.fields.specs.Fields.{sizeOf}
 use Rattle.stamps.specs.declared.Stamp.{Stamp}
-use Rattle.sound.specs.Sound.{Sound}
-use Rattle.sound.specs.Laws.IsSound.{known-says}
 use Rattle.opened.specs.Changes.{Holds}
 use Rattle.opened.specs.Records.{placeCount, writtenOf, withRecord, withPointer}
 use Rattle.opened.specs.Laws.Places.{live-is}
@@ -31,22 +27,22 @@ use Rattle.holding.specs.Holding.{fileBytes, FileIn}
 use Rattle.opening.specs.Open.{openRows, openEffect, openOutcome}
 use Rattle.closing.specs.Close.{closeOutcome}
 use Rattle.reading.specs.Read.{readOutcome}
-use Rattle.rescuing.specs.Rescue.{badChainIn, rescueOutcome}
-use Rattle.rescuing.specs.Laws.Chain.{says-bad-chain}
+use Rattle.rescuing.specs.Rescue.{goodChain, rescueOutcome}
+use Rattle.rescuing.specs.Laws.Chain.{says-chain}
 use Rattle.changes.specs.Laws.Changed.{on-sound}
 use Rattle.history.specs.Laws.Found.{place-counts, file-there, named-small}
 use Rattle.history.specs.Laws.Passed.{testOf, passed-row}
 use Rattle.history.specs.Laws.Rows.{decided-cases}
-use Rattle.reset.specs.AsRead.{opened, readThen, closedThen, SameAsRead, RescueAsRead, RefusedAsOpen}
-
-on-volume : (k : Kind) (img : List ℕ) → OfKind img k → Sound k img → OnVolume img k
-on-volume k img o s = let e = image-of-kind img k .1 o in record { known = e; sound = true-says (known-says img k e) s }
+use Rattle.history.specs.Laws.Begins.{on}
+use Rattle.history.specs.Laws.Runs.{begins-run}
+use Rattle.history.specs.World.{ours, world, run}
+use Rattle.reset.specs.AsRead.{readThen, closedThen, SameAsRead, RescueAsRead, RefusedAsOpen}
 
 module _ (k : Kind) (img : List ℕ) (v : OnVolume img k) (name : List ℕ) where
   -- a file of a sound volume has a good chain
-  good-chain : FileIn img k (fileSlot img name) → badChainIn k img (fileSlot img name) ≡ false
-  good-chain i = false-says (says-bad-chain img k (v .known) (fileSlot img name) i)
-      (λ b. b .1 (on-sound k img v .0 (fileSlot img name)) (on-sound k img v .1 .chains (fileSlot img name) (b .0)))
+  good-chain : FileIn img k (fileSlot img name) → goodChain k img (fileSlot img name) ≡ true
+  good-chain i = true-says (says-chain img k (v .known) (fileSlot img name))
+      (on-sound k img v .0 (fileSlot img name), on-sound k img v .1 .chains (fileSlot img name) (i .below, i .plain))
 
   abbrev slot : ℕ
   slot = fileSlot img name
@@ -130,11 +126,15 @@ module _ (k : Kind) (img : List ℕ) (v : OnVolume img k) (name : List ℕ) wher
               (λ bad. rw (known-passed img k v, sound-passed img k v, bad))
               (λ fine. rw (known-passed img k v, sound-passed img k v, fine, still-live, not-written))
 
-          pub same-as-read : opened img t name ≡ openEffect img t name 0 → badName name ≡ false → (stamp : Stamp) → SameAsRead img t name out stamp
+          pub same-as-read : openOutcome img t name 0 ≡ openEffect img t name 0 → badName name ≡ false → (stamp : Stamp)
+              → SameAsRead ours (world img t) name out stamp
           same-as-read x fits stamp =
-              let r : readThen img t name out ≡ outcome 0 n img U (filled out) = ap (λ (o : Outcome). readOutcome img (o .table) (o .value) out) x ∙ read-is in
-              let c : closedThen img t name out stamp ≡ closeOutcome img U p stamp
-              = ap (λ (o : Outcome). closeOutcome img (readThen img t name out .table) (o .value) stamp) x ∙ ap (λ (o : Outcome). closeOutcome img (o .table) p stamp) r in
+              let w = world img t in
+              let r : readThen ours w name out ≡ outcome 0 n img U (filled out)
+              = ap (λ (o : Outcome). readOutcome (o .image) (o .table) (o .value) out) x ∙ read-is in
+              let c : closedThen ours w name out stamp ≡ closeOutcome img U p stamp
+              = ap (λ (o : Outcome). let q = readOutcome (o .image) (o .table) (o .value) out in closeOutcome (q .image) (q .table) (o .value) stamp) x
+              ∙ ap (λ (o : Outcome). closeOutcome (o .image) (o .table) p stamp) read-is in
               let y = rescue-is fits out in
               record {
                 read-well = ap (λ (o : Outcome). o .number) r;
@@ -148,29 +148,33 @@ module _ (k : Kind) (img : List ℕ) (v : OnVolume img k) (name : List ℕ) wher
 -- ---- the promises
 
 -- where open ends well, all its rows are passed
-open-well : (img t name : List ℕ) → opened img t name .number ≡ 0 → (refusal (openRows img t name 0) ≡ 0) × (opened img t name ≡ openEffect img t name 0)
+open-well : (img t name : List ℕ) → openOutcome img t name 0 .number ≡ 0
+    → (refusal (openRows img t name 0) ≡ 0) × (openOutcome img t name 0 ≡ openEffect img t name 0)
 unfolding openOutcome
 open-well img t name e = elim (decided-cases (openRows img t name 0) (openEffect img t name 0) img t []) [
   | inl x ↦ absurd (x .0 (sym (ap (λ (o : Outcome). o .number) (x .1)) ∙ e))
   | inr x ↦ x
 ]
 
-pub rescue-as-read : RescueAsRead
-rescue-as-read k img o s b t name out stamp e =
-    let w = open-well img t name e in
-    let row : (i : ℕ) → testOf (openRows img t name 0) i ≡ false = passed-row (openRows img t name 0) refl (w .0) in
-    same-as-read k img (on-volume k img o s) name (row 4) t (row 6) out b (w .1) (row 3) stamp
+pub rescue-as-read : RescueAsRead ours
+rescue-as-read k v b cs g name out stamp e =
+    let w = run v cs in
+    let s = begins-run k cs v b g in
+    let x = open-well (w .image) (w .table) name e in
+    let row : (i : ℕ) → testOf (openRows (w .image) (w .table) name 0) i ≡ false = passed-row (openRows (w .image) (w .table) name 0) refl (x .0) in
+    same-as-read k (w .image) (on s) name (row 4) (w .table) (row 6) out (s .bytes) (x .1) (row 3) stamp
 
-pub refused-as-open : RefusedAsOpen
+pub refused-as-open : RefusedAsOpen ours
 unfolding openOutcome rescueOutcome decided refusal
-refused-as-open k img o s t name out refused place =
-    let v = on-volume k img o s in
-    let p = known-passed img k v in
-    let q = sound-passed img k v in
+refused-as-open k v b cs g name out refused place =
+    let w = run v cs in
+    let s = on (begins-run k cs v b g) in
+    let p = known-passed (w .image) k s in
+    let q = sound-passed (w .image) k s in
     by-test (badName name)
     (λ bad. rw (p, q, bad))
-    (λ fits. by-test (noFile img name)
+    (λ fits. by-test (noFile (w .image) name)
     (λ none. rw (p, q, fits, none))
-    (λ there. absurd (by-test (noPlace t)
+    (λ there. absurd (by-test (noPlace (w .table))
     (λ full. place (rw (p, q, fits, there, full)))
     (λ free. refused (rw (p, q, fits, there, free))))))

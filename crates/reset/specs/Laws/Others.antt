@@ -2,39 +2,40 @@
 use Prim.Native.Nat.{ℕ}
 use mathlib.Core.List.{List}
 use Rattle.diskette.specs.declared.Kind.{Kind}
-use Rattle.sound.specs.Files.{IsFile, ChainOf}
-use Rattle.changes.specs.Laws.Changed.{on-sound}
+use Rattle.sound.specs.Files.{IsFile}
+use Rattle.changes.specs.Files.{File, Holds}
 use Rattle.history.specs.Promises.{AllGiven, Begins}
-use Rattle.history.specs.World.{World, Call, run}
-use Rattle.history.specs.Laws.Came.{came-on, came-bytes}
-use Rattle.history.specs.Laws.Promises.{came}
+use Rattle.history.specs.World.{World, Call, ours, run}
+use Rattle.history.specs.Laws.Begins.{on}
+use Rattle.history.specs.Laws.EveryCall.{came}
 use Rattle.history.specs.Laws.Runs.{begins-run}
-use Rattle.reset.specs.Promises.{NoneNames, OthersThroughReset, OthersRescuedAfterReset}
-use Rattle.reset.specs.Aids.Same.{SameIn}
-use Rattle.reset.specs.Laws.Rescued.{rescued}
+use Rattle.reset.specs.Torn.{Torn, Stands}
+use Rattle.reset.specs.Promises.{NoneNames, Rescued, OthersThroughReset, OthersRescuedAfterReset}
+use Rattle.reset.specs.Laws.Rescued.{rescued-by-name}
+use Rattle.reset.specs.Laws.Runs.{same-call, same-run}
 use Rattle.reset.specs.Laws.Same.{same-self}
 use Rattle.reset.specs.Laws.Stands.{torn-kind, torn-stands}
-use Rattle.reset.specs.Laws.Runs.{same-call, same-run}
 
-record Unnamed (s : ℕ) (w : World) (cs : List Call) : Type 0 where
-  pub given : AllGiven cs
-  pub none-names : NoneNames w cs s
+module _ (k : Kind) (w : World) (b : Begins k w) (s : ℕ) (cs : List Call) (g : AllGiven cs) (u : NoneNames ours k w cs s) (m : List ℕ) (t : Torn (w .image) (run w cs .image) m) where
+  saving : Begins k (run w cs)
+  saving = begins-run k cs w b g
 
-same-unnamed : (k : Kind) (s : ℕ) (ds : List ℕ) (cs : List Call) (w : World) → Begins k w → IsFile k (w .image) s → ChainOf k (w .image) s ds → Unnamed s w cs
-    → SameIn k s ds (w .image) (run w cs .image)
-same-unnamed k s ds = same-run k s ds (Unnamed s) (λ w c cs b i own r. same-call k w b s i ds own c (came k w c b (r .given .0)) (r .none-names .0))
-    (λ w c cs b r. let y = came k w c b (r .given .0) in
-    (record { on = came-on k w c (b .on) y; bytes = came-bytes k w c (b .on) (b .bytes) y }, record { given = r .given .1; none-names = r .none-names .1 }))
+  stands : IsFile k (w .image) s → Stands k s (w .image) m
+  stands i =
+      let es = b .sound .0 s in
+      let own = b .sound .1 .chains s i in
+      let since = same-run k s es (λ v ds. NoneNames ours k v ds s) (λ v c ds x y r j o. same-call k v x s j es o c (came k v c x y) (r .0)) (λ v c ds x y r. r .1)
+      cs w b g u i own in
+      torn-stands k (w .image) (run w cs .image) m (on b) (on saving) t (w .image) (on b) s i es own (b .bytes) (saving .bytes)
+      (same-self k s es (w .image)) since
 
-pub others-through-reset : OthersThroughReset
-others-through-reset k w b cs g s i u m t =
-    let z = on-sound k (w .image) (b .on) in
-    let own = z .1 .chains s i in
-    let n = begins-run k (came k) cs w b g in
-    torn-stands k (w .image) (run w cs .image) m (b .on) (n .on) t (w .image) (b .on) s i (z .0 s) own
-    (b .bytes) (n .bytes) (same-self k s (z .0 s) (w .image)) (same-unnamed k s (z .0 s) cs w b i own (record { given = g; none-names = u }))
+  brought : (f : File) → Holds k (w .image) s f → Rescued ours m f
+  brought f h =
+      let x = stands (h .is-file) in
+      rescued-by-name m k (torn-kind k (w .image) (run w cs .image) m (on b) (on saving) t) s f (x .file f h) (x .alone)
 
-pub others-rescued-after-reset : OthersRescuedAfterReset
-others-rescued-after-reset k w b cs g s u m t f h name means =
-    let y = others-through-reset k w b cs g s (h .is-file) u m t in
-    rescued m k (torn-kind k (w .image) (run w cs .image) m (b .on) (begins-run k (came k) cs w b g .on) t) s f (y .file f h) (y .alone) name means
+pub others-through-reset : OthersThroughReset ours
+others-through-reset k w b ds h s i cs g u m t = stands k (run w ds) (begins-run k ds w b h) s cs g u m t i
+
+pub others-rescued-after-reset : OthersRescuedAfterReset ours
+others-rescued-after-reset k w b ds h s f x cs g u m t = brought k (run w ds) (begins-run k ds w b h) s cs g u m t f x

@@ -1,13 +1,14 @@
 -- A file that stands on a disk, under a name that no other has, is what rescue gives.
-use Prim.Native.Nat.{ℕ, _+_, _*_, _≤_}
+use Prim.Native.Nat.{ℕ, _+_, _*_, _≤_, min}
 use native.Mathlib.Omega.{arith}
-use mathlib.Core.Bool.{false, not}
-use mathlib.Core.List.{List}
+use mathlib.Core.Bool.{true, false, not}
+use mathlib.Core.List.{List, []}
 use mathlib.Core.Path.{_≡_, sym, ap, _∙_}
-use lib.ListN.{length}
+use lib.ListN.{length, take}
+use Rattle.image.specs.Store.{stored}
 use Rattle.search.specs.Laws.Below.{only-answer}
 use Rattle.search.specs.declared.Found.the-variants.{At}
-use Rattle.chains.specs.Laws.Tests.{false-says}
+use Rattle.chains.specs.Laws.Tests.{true-says}
 use Rattle.diskette.specs.Images.{kindOfImage}
 use Rattle.diskette.specs.Laws.Images.{image-of-kind, image-usable, image-has-area}
 use Rattle.diskette.specs.Places.{firstData, rootAt, rootEntries, slotAt}
@@ -22,13 +23,14 @@ use Rattle.names.specs.Spelling.{Means}
 use Rattle.names.specs.Laws.Meaning.{accepted}
 use Rattle.names.specs.Laws.Proper.{proper}
 use Rattle.sound.specs.Files.{IsFile}
-use Rattle.calls.specs.Outcome.{refusal, decided}
+use Rattle.calls.specs.Outcome.{Outcome, outcome, refusal, decided}
 use Rattle.calls.specs.Refusals.{isUnknown, kindFound, theKind, notOfKind, badName, fileFound}
-use Rattle.holding.specs.Holding.{fileBytes, FileIn}
-use Rattle.rescuing.specs.Rescue.{badChainIn, rescueOutcome}
-use Rattle.rescuing.specs.Laws.Chain.{says-bad-chain, held-long, held-by}
+use Rattle.holding.specs.Holding.{fileBytes}
+use Rattle.rescuing.specs.Rescue.{goodChain, rescueOutcome}
+use Rattle.rescuing.specs.Laws.Chain.{says-chain, held-long, held-by}
 use Rattle.changes.specs.Files.{File, Holds}
-use Rattle.reset.specs.Promises.{giving}
+use Rattle.history.specs.World.{ours, world, look, rescue}
+use Rattle.reset.specs.Promises.{Gives, Rescued}
 
 module _ (m : List ℕ) (k : Kind) (e : kindOfImage m ≡ Known k) (s : ℕ) (f : File) (h : Holds k m s f)
     (alone : (r : ℕ) → IsFile k m r → nameOf m (slotAt k r) ≡ nameOf m (slotAt k s) → r ≡ s) (name : List ℕ) (means : Means name (f .name)) where
@@ -57,19 +59,29 @@ module _ (m : List ℕ) (k : Kind) (e : kindOfImage m ≡ Known k) (s : ℕ) (f 
         none-lower = λ q l x. let z : q ≡ s = alone q (omega (arith, h .is-file .0), x .0) (x .1 ∙ sym spelled) in omega arith;
       }))
 
-  there : FileIn m k s
-  there = record { below = h .is-file .0; plain = h .is-file .1 }
-
-  good : badChainIn k m s ≡ false
-  good = false-says (says-bad-chain m k e s there) (λ b. b .1 (h .bytes .0) (h .bytes .1))
+  good : goodChain k m s ≡ true
+  good = true-says (says-chain m k e s) (h .bytes .0, h .bytes .1)
 
   held : fileBytes k m s ≡ f .bytes
-  held = held-by m k e s there (h .bytes .0) (h .bytes .1) ∙ h .bytes .2
+  held = held-by m k e s (h .bytes .0) (h .bytes .1) ∙ h .bytes .2
 
-  pub rescued : (out : List ℕ) → rescueOutcome m name out ≡ giving m out (f .bytes)
+  rescue-is : (out : List ℕ) → let n = min (length out) (length (f .bytes)) in rescueOutcome m name out ≡ outcome 0 n m [] (stored out 0 (take n (f .bytes)))
   unfolding rescueOutcome decided refusal
-  rescued out =
+  rescue-is out =
       let p : notOfKind m ≡ false = ap isUnknown e in
       let q : badName name ≡ false = ap not (accepted name (f .name) .1 means .0) in
-      let z : length (f .bytes) ≡ sizeOf m (slotAt k s) = ap length (sym held) ∙ held-long m k e s there good in
+      let z : length (f .bytes) ≡ sizeOf m (slotAt k s) = ap length (sym held) ∙ held-long m k e s good in
       rw (p, q, found, is-kind, good, held, z)
+
+  gives : (table out : List ℕ) → Gives (ours (look (rescue name out)) (world m table)) out (f .bytes)
+  gives table out =
+      let x = rescue-is out in
+      record {
+        well = ap (λ (o : Outcome). o .number) x;
+        count = ap (λ (o : Outcome). o .value) x;
+        put = ap (λ (o : Outcome). o .buffer) x ∙ ap (λ (n : ℕ). stored out 0 (take n (f .bytes))) (sym (ap (λ (o : Outcome). o .value) x));
+      }
+
+pub rescued-by-name : (m : List ℕ) (k : Kind) → kindOfImage m ≡ Known k → (s : ℕ) (f : File) → Holds k m s f
+    → ((r : ℕ) → IsFile k m r → nameOf m (slotAt k r) ≡ nameOf m (slotAt k s) → r ≡ s) → Rescued ours m f
+rescued-by-name = gives

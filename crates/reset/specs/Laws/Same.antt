@@ -117,7 +117,8 @@ module _ (k : Kind) (l : List ℕ) (v : OnVolume l k) (s : ℕ) (i : IsFile k l 
     whole d h = omega (arith, on-clusters l k v .clusters, cluster-high (512 * firstData k) (clusterBytes k) (G .wide) G d h)
 
     -- their first bytes, as many as the size says
-    same-content : content (512 * firstData k) (clusterBytes k) m cs (sizeOf m (slotAt k s)) ≡ content (512 * firstData k) (clusterBytes k) l cs (sizeOf l (slotAt k s))
+    same-content : content (512 * firstData k) (clusterBytes k) m cs (sizeOf m (slotAt k s))
+        ≡ content (512 * firstData k) (clusterBytes k) l cs (sizeOf l (slotAt k s))
     same-content =
         let size = sizeOf l (slotAt k s) in
         ap (content (512 * firstData k) (clusterBytes k) m cs) (fields .size)

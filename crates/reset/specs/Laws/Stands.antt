@@ -1,5 +1,6 @@
 -- What both images of a torn disk have the same stands on it.
 use Prim.Native.Nat.{ℕ}
+use native.Mathlib.Omega.{arith}
 use mathlib.Core.List.{List}
 use mathlib.Core.Path.{_≡_, sym, _∙_, subst}
 use Rattle.image.specs.Bytes.{Bytes}
@@ -42,7 +43,7 @@ module _ (k : Kind) (old new m : List ℕ) (vo : OnVolume old k) (vn : OnVolume 
         record {
           entry = z .entry;
           values = λ c r. z .values c (mine c r);
-          bytes = λ c q r. z .bytes c q (mine c r);
+          bytes = λ c j r h. z .bytes c _ (mine c r) (omega arith, omega arith);
           file = same-holds k l v s i cs own m z;
           alone = torn-alone k old new m vo vn t s (same-file k l v s i cs own m z) (y .entry);
         }

@@ -32,8 +32,8 @@ refused-requires-2 c κs = search needs
 enum-known-slot : tie.Need-enum-known-slot
 enum-known-slot c = search needs
 
-has-bad-chain-requires : tie.Need-has-bad-chain-requires
-has-bad-chain-requires c κs = (search needs, search found-file)
+has-good-chain-requires : tie.Need-has-good-chain-requires
+has-good-chain-requires c κs = (search needs, search found-file)
 
 refused-requires-3 : tie.Need-refused-requires-3
 refused-requires-3 c κs = search needs
@@ -78,7 +78,7 @@ rescue-on-spec =
     enum-told
     refused-requires-2
     enum-known-slot
-    has-bad-chain-requires
+    has-good-chain-requires
     refused-requires-3
     returns-2
     slot-at-requires

@@ -1,0 +1,3 @@
+-- What only the proofs speak of.
+pub mod Came
+pub mod WrongLibraries

@@ -1,0 +1,116 @@
+-- The file that a call names: that there is one, by the rows that were passed, and that there is no second.
+use Prim.Native.Nat.{ℕ}
+use native.Mathlib.Omega.{arith}
+use native.Mathlib.Decide.{ℕ-discrete, decLt}
+use mathlib.Core.Bool.{true, false}
+use mathlib.Core.List.{List}
+use mathlib.Core.Logic.{_↔_, inl, inr}
+use mathlib.Core.Path.{_≡_, refl, sym, _∙_, subst}
+use Rattle.diskette.specs.Places.{rootAt, rootEntries, slotAt}
+use Rattle.diskette.specs.declared.Kind.{Kind}
+use Rattle.search.specs.Search.{LowestBelow, Answers}
+use Rattle.search.specs.declared.Found.{Found}
+use Rattle.search.specs.declared.Found.the-variants.{At, Nothing}
+use Rattle.fields.specs.Fields as fields
+use Rattle.directory.specs.Search.{slotNamed}
+use Rattle.directory.specs.Slots.{PlainAt}
+use Rattle.directory.specs.Laws.Search.{slot-named-answers}
+use Rattle.names.specs.Reading.{nameOf}
+use Rattle.names.specs.Spelling.{Means}
+use Rattle.names.specs.Laws.Meaning.{accepted}
+use Rattle.names.specs.Laws.Proper.{proper}
+use Rattle.calls.specs.Ready.{OnVolume}
+use Rattle.calls.specs.Refusals.{isNothing, placeFound, badName, noFile, fileSlot, notLive, slotForNew}
+use Rattle.calls.specs.Laws.Files.{root-within}
+use Rattle.calls.specs.Laws.Ready.{on-kind}
+use Rattle.holding.specs.Holding.{FileIn}
+use Rattle.changes.specs.Laws.Slots.{name-once}
+use Rattle.opened.specs.Places.{LiveAt}
+use Rattle.opened.specs.Records.{slotOf}
+use Rattle.history.specs.Meant.{HasName, Reaches, IsForNew, Target, NamedBy, Names, target, nothing, byName, byHandle, toMake}
+use Rattle.history.specs.World.{World, Call}
+use Rattle.history.specs.Laws.Found.{good-name, file-found, no-file-found, live-at, new-slot}
+
+-- ---- the 11 bytes that a name means
+
+pub means : (name : List ℕ) → nameOf name .fits ≡ true → Means name (nameOf name .name)
+means name fits = accepted name (nameOf name .name) .0 (fits, refl)
+
+pub meant-is : {name n : List ℕ} → Means name n → nameOf name .name ≡ n
+meant-is {name} {n} m = accepted name n .1 m .1
+
+-- what holds of bytes that the name means holds of these
+pub meant-exactly : (name : List ℕ) → nameOf name .fits ≡ true → (P : List ℕ → Type 0) → ((n : List ℕ) × Means name n × P n) ↔ P (nameOf name .name)
+meant-exactly name fits P = (λ x. subst P (sym (meant-is (x .1))) (x .2), λ p. (nameOf name .name, means name fits, p))
+
+-- ---- there is one
+
+module _ (k : Kind) (l : List ℕ) (v : OnVolume l k) (name : List ℕ) (fits : nameOf name .fits ≡ true) where
+  abbrev Named : ℕ → Type 0
+  Named s = PlainAt l (slotAt k s) × (fields.nameOf l (slotAt k s) ≡ nameOf name .name)
+
+  searched : (f : Found) → slotNamed l (rootAt k) (rootEntries k) (nameOf name .name) ≡ f → Answers Named (rootEntries k) f
+  searched f e =
+      let within = root-within l k v (rootAt k) (rootEntries k) refl refl in
+      subst (Answers Named (rootEntries k)) e (slot-named-answers l (rootAt k) (rootEntries k) within (nameOf name .name) (proper name fits .long))
+
+  -- the file that the search finds
+  pub has-name : noFile l name ≡ false → HasName k l name (fileSlot l name)
+  has-name there =
+      let x = searched (At (fileSlot l name)) (file-found k l v name there) in
+      record { is-file = (x .below, x .passes .0); meant = rw (x .passes .1) (means name fits) }
+
+  -- and where it finds none
+  pub no-name : noFile l name ≡ true → (s : ℕ) → ¬ HasName k l name s
+  no-name none s x = searched Nothing (no-file-found k l v name none) s (x .is-file .0) (x .is-file .1, sym (meant-is (x .meant)))
+
+  pub for-new : noFile l name ≡ true → isNothing (slotForNew l) ≡ false → IsForNew k l name (placeFound (slotForNew l))
+  for-new none room = record { good = (nameOf name .name, means name fits); new = no-name none; lowest = new-slot k l v room }
+
+pub reaches : (k : Kind) (w : World) → OnVolume (w .image) k → (h : ℕ) → notLive (w .image) (w .table) h ≡ false
+    → Reaches k w h (slotOf (w .table) h)
+reaches k w v h e =
+    let x : LiveAt (w .table) h (w .image) (rootAt k) (rootEntries k) = rw (← on-kind (w .image) k v) (live-at k (w .image) v (w .table) h e) in
+    record { live = x; slot = refl }
+
+-- ---- there is no second
+
+module _ (k : Kind) (w : World) (v : OnVolume (w .image) k) (s t : ℕ) where
+  name-one : {name : List ℕ} → HasName k (w .image) name s → HasName k (w .image) name t → s ≡ t
+  name-one x y = elim (ℕ-discrete s t) [
+    | yes e ↦ e
+    | no d ↦
+        let i : FileIn (w .image) k t = record { below = y .is-file .0; plain = y .is-file .1 } in
+        absurd (name-once k (w .image) v t i s (x .is-file .0) d (x .is-file .1) (sym (meant-is (x .meant)) ∙ meant-is (y .meant)))
+  ]
+
+  lowest-one : {P : ℕ → Type 0} {n : ℕ} → LowestBelow P n s → LowestBelow P n t → s ≡ t
+  lowest-one x y = elim (decLt s t) [
+    | yes h ↦ absurd (y .none-lower s h (x .passes))
+    | no h ↦ elim (decLt t s) [ yes i ↦ absurd (x .none-lower t i (y .passes)) | no i ↦ omega arith ]
+  ]
+
+  named-one : (a : Target) → NamedBy a k w s → NamedBy a k w t → s ≡ t
+  named-one nothing x y = absurd x
+  named-one (byName name) x y = name-one x y
+  named-one (byHandle h) x y = sym (x .slot) ∙ y .slot
+  named-one (toMake name) (inl x) (inl y) = name-one x y
+  named-one (toMake name) (inl x) (inr y) = absurd (y .new s x)
+  named-one (toMake name) (inr x) (inl y) = absurd (x .new t y)
+  named-one (toMake name) (inr x) (inr y) = lowest-one (x .lowest) (y .lowest)
+
+  pub names-one : (c : Call) → Names c k w s → Names c k w t → s ≡ t
+  names-one c = named-one (target c)
+
+-- a call that is about nothing names nothing
+pub names-none : (k : Kind) (w : World) (c : Call) → target c ≡ nothing → (s : ℕ) → ¬ Names c k w s
+names-none k w c e s = subst (λ (a : Target). ¬ NamedBy a k w s) (sym e) (λ x. x)
+
+-- ---- a call by a name, where the search finds a file
+
+module _ (k : Kind) (w : World) (v : OnVolume (w .image) k) (name : List ℕ) (good : badName name ≡ false) (there : noFile (w .image) name ≡ false) where
+  pub by-name : NamedBy (byName name) k w (fileSlot (w .image) name)
+  by-name = has-name k (w .image) v name (good-name name good) there
+
+  pub by-name-only : (s : ℕ) → NamedBy (byName name) k w s → s ≡ fileSlot (w .image) name
+  by-name-only s x = named-one k w v s (fileSlot (w .image) name) (byName name) x by-name
