@@ -26,11 +26,14 @@ class NoFact(Exception):
     """The prover did not stop at a fact; says why."""
 
 
-def fact_of(path, words):
-    """The fact that an error with these words in this file of the crate is about."""
+def fact_of(path, words, changed):
+    """The fact that an error with these words in this file of the crate is about. In a law or proof that the edit changes
+    nothing is shown."""
     declared = DECLARED.match(words)
     if not declared or TAKEN_AWAY.match(declared.group(2)):
         raise NoFact(f"nothing was asked of the prover: {path}: {words}")
+    if path in changed and not path.startswith("src/"):
+        raise NoFact(f"it is refused in a file that it changes: {path}: {words}")
     name = declared.group(1)
     parts = pathlib.PurePath(path).with_suffix("").parts
     if parts[0] == "proofs" and parts[-1] == "Proof":
@@ -40,7 +43,7 @@ def fact_of(path, words):
     raise NoFact(f"what is refused is neither a law nor a function's need: {path}: {words}")
 
 
-def first_fact(edit, log):
+def first_fact(edit, log, changed):
     """The fact at which the prover stops first."""
     lines = log.read_text().splitlines()
     if "logic=not-proved" not in lines:
@@ -51,25 +54,25 @@ def first_fact(edit, log):
             return "`{}`: `{}`".format(*unproved.groups())
         error = ERROR.match(line)
         if error and not FOLLOWS.match(error.group(2)):
-            return fact_of(error.group(1).split(f"/{edit}/")[-1], error.group(2))
+            return fact_of(error.group(1).split(f"/{edit}/")[-1], error.group(2), changed)
     raise NoFact("its log has no error")
 
 
-def see_files(file):
-    """An edit changes code or definitions: a changed proof or law is refused whatever it says."""
-    for line in file.read_text().splitlines():
-        changed = line.removeprefix("file: ")
-        if changed != line and not re.match(r"src/|specs/(?!Laws)", changed):
-            raise NoFact(f"it changes {changed}, which is neither code nor a definition")
+def changed_by(file):
+    """The files that an edit changes: code or definitions. It may change the law that follows a definition along with it."""
+    changed = [line.removeprefix("file: ") for line in file.read_text().splitlines() if line.startswith("file: ")]
+    if not any(re.match(r"src/|specs/(?!Laws)", path) for path in changed):
+        raise NoFact(f"it changes {', '.join(changed)}, which is neither code nor a definition")
+    return changed
 
 
 def see(edit, named, file, log):
     """Whether an edit is refused at the fact that is named for it."""
     try:
-        see_files(file)
+        changed = changed_by(file)
         if not log.exists():
             raise NoFact("it was not tried")
-        found = first_fact(edit, log)
+        found = first_fact(edit, log, changed)
         if found != named:
             raise NoFact(f"it is refused at {found}, and its row says {named}")
     except NoFact as why:
