@@ -28,6 +28,7 @@ use Rattle.calls.specs.Outcome.{Row, Outcome, refusal, decided}
 use Rattle.calls.specs.Ready.{OnVolume}
 use Rattle.calls.specs.Refusals.{isNothing, placeFound, theKind, noFile, fileSlot, noPlace, freePlace, slotForNew}
 use Rattle.calls.specs.Laws.Ready.{on-kind}
+use Rattle.sound.specs.Files.{IsFile}
 use Rattle.freeing.specs.Freed.{chainFreed}
 use Rattle.opening.specs.Open.{openRows, openEffect, openOutcome}
 use Rattle.creating.specs.Create.{madeBy, createRows, createEffect, createOutcome}
@@ -42,7 +43,7 @@ use Rattle.writing.specs.Write.{writeCount, writeRows, writeEffect, writeOutcom
 use Rattle.writing.specs.Laws.Write.{pointer-fits}
 use Rattle.history.specs.Meant.{Names}
 use Rattle.history.specs.World.{World, Call, outcomeOf, openFile, create, read, write, seek, close, delete, rename, mode}
-use Rattle.history.specs.Laws.Found.{good-name, found-at, live-at, live-there}
+use Rattle.history.specs.Laws.Found.{good-name, found-at, file-there, live-at, live-there}
 use Rattle.history.specs.Laws.Meant.{by-name, by-name-only, has-name, for-new}
 use Rattle.history.specs.Laws.Passed.{passed-row}
 use Rattle.history.specs.Laws.Rows.{decided-cases}
@@ -112,6 +113,13 @@ module _ (k : Kind) (w : World) (v : OnVolume (w .image) k) where
         lowest = free-lowest t (row 6);
         table = refl;
       })
+
+  pub open-file : (name : List ℕ) (access : ℕ) → outcomeOf (openFile name access) w .number ≡ 0 → IsFile k l (fileSlot l name)
+  unfolding openOutcome
+  open-file name access well =
+      let x = well-is (openRows l t name access) (openEffect l t name access) l t [] well in
+      let i = file-there k l v name (passed-row (openRows l t name access) refl (x .0) 4) in
+      (i .below, i .plain)
 
   module _ (name : List ℕ) (attr : ℕ) (stamp : Stamp) where
     abbrev Makes : Outcome → Type 0
