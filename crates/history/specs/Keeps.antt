@@ -1,4 +1,5 @@
 -- All of demand 3, of one library.
+use Rattle.history.specs.Handles.{HandsOutItsFile, HandlesKeepTheirFiles, PointersMove}
 use Rattle.history.specs.Promises.{SoundAfterEach, FilesOfHistory, FirstFiles, ReadsAreOfHistory, NamesAFile, AltersNoOther}
 use Rattle.history.specs.Promises.{TotalAfterEach, ShortOnlyWhereFull, LooksAlterNothing, RefusalsLeaveAll, RefusedReadsLeaveBuffer}
 use Rattle.history.specs.Tare.{TareStays}
@@ -17,3 +18,6 @@ pub record Keeps (lib : Library) : Type 0 where
   pub refusals : RefusalsLeaveAll lib
   pub buffer : RefusedReadsLeaveBuffer lib
   pub tare : TareStays lib
+  pub handed : HandsOutItsFile lib
+  pub handles : HandlesKeepTheirFiles lib
+  pub pointers : PointersMove lib
