@@ -2,6 +2,7 @@
 use Rattle.history.specs.Handles.{HandsOutItsFile, HandlesKeepTheirFiles, PointersMove}
 use Rattle.history.specs.Promises.{SoundAfterEach, FilesOfHistory, FirstFiles, ReadsAreOfHistory, NamesAFile, AltersNoOther}
 use Rattle.history.specs.Promises.{TotalAfterEach, ShortOnlyWhereFull, LooksAlterNothing, RefusalsLeaveAll, RefusedReadsLeaveBuffer}
+use Rattle.history.specs.Seeks.{SeeksAreOfHistory}
 use Rattle.history.specs.Tare.{TareStays}
 use Rattle.history.specs.World.{Library}
 
@@ -21,3 +22,4 @@ pub record Keeps (lib : Library) : Type 0 where
   pub handed : HandsOutItsFile lib
   pub handles : HandlesKeepTheirFiles lib
   pub pointers : PointersMove lib
+  pub seeks : SeeksAreOfHistory lib

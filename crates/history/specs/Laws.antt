@@ -27,6 +27,7 @@ pub mod TableBecomes
 pub mod FileStays
 pub mod PlaceKept
 pub mod Handles
+pub mod Seeks
 pub mod Keeps
 pub mod Blank
 pub mod OneSlot

@@ -5,6 +5,7 @@ use Rattle.history.specs.Laws.Handles.{hands-out-its-file, handles-keep-
 use Rattle.history.specs.Laws.Looks.{looks-alter-nothing}
 use Rattle.history.specs.Laws.Promises.{sound-after-each, files-of-history, names-a-file, alters-no-other, total-after-each, short-only-where-full}
 use Rattle.history.specs.Laws.Refused.{refusals-leave-all, refused-reads-leave-buffer}
+use Rattle.history.specs.Laws.Seeks.{seeks-are-of-history}
 use Rattle.history.specs.Laws.Shown.{first-files, reads-are-of-history}
 use Rattle.history.specs.Laws.TableBecomes.{pointers-move}
 use Rattle.history.specs.Laws.Tare.{tare-stays}
@@ -26,4 +27,5 @@ ours-keeps = record {
   handed = hands-out-its-file;
   handles = handles-keep-their-files;
   pointers = pointers-move;
+  seeks = seeks-are-of-history;
 }
