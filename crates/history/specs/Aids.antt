@@ -1,3 +1,4 @@
 -- What only the proofs speak of.
 pub mod Came
 pub mod WrongLibraries
+pub mod WrongHandles

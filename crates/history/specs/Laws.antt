@@ -22,6 +22,12 @@ pub mod Promises
 pub mod TarePlaces
 pub mod TareCalls
 pub mod Tare
+pub mod TableStored
+pub mod TableBecomes
+pub mod FileStays
+pub mod PlaceKept
+pub mod Handles
+pub mod Seeks
 pub mod Keeps
 pub mod Blank
 pub mod OneSlot
@@ -34,3 +40,4 @@ pub mod ListingCase
 pub mod Spoils
 pub mod WrongLibraries
 pub mod WrongRefused
+pub mod WrongHandles

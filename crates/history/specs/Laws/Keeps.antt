@@ -1,10 +1,13 @@
 -- Our library keeps all of demand 3.
 use Rattle.history.specs.Keeps.{Keeps}
 use Rattle.history.specs.World.{ours}
+use Rattle.history.specs.Laws.Handles.{hands-out-its-file, handles-keep-their-files}
 use Rattle.history.specs.Laws.Looks.{looks-alter-nothing}
 use Rattle.history.specs.Laws.Promises.{sound-after-each, files-of-history, names-a-file, alters-no-other, total-after-each, short-only-where-full}
 use Rattle.history.specs.Laws.Refused.{refusals-leave-all, refused-reads-leave-buffer}
+use Rattle.history.specs.Laws.Seeks.{seeks-are-of-history}
 use Rattle.history.specs.Laws.Shown.{first-files, reads-are-of-history}
+use Rattle.history.specs.Laws.TableBecomes.{pointers-move}
 use Rattle.history.specs.Laws.Tare.{tare-stays}
 
 pub ours-keeps : Keeps ours
@@ -21,4 +24,8 @@ ours-keeps = record {
   refusals = refusals-leave-all;
   buffer = refused-reads-leave-buffer;
   tare = tare-stays;
+  handed = hands-out-its-file;
+  handles = handles-keep-their-files;
+  pointers = pointers-move;
+  seeks = seeks-are-of-history;
 }
