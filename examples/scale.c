@@ -6,6 +6,9 @@
  * in TARE.KEY, a read-only file: without it the program refuses to weigh, and never takes a fresh one. The day's file
  * is named by year, month and day, as 19830901.LOG. Each weighing is a line of it: the time and the grams.
  *
+ * A reset in the middle of a save may leave a disk that is not sound. The tare is rescued off it (docs/TARE.md), and
+ * weighings are shown against it, but not stored.
+ *
  * Weighings are stored all or none, and then shown. Where one of them is the last line of the day's file already, none
  * is stored: who is not certain of a weighing may give it again. Exit status: 0 stored, 1 not stored and nothing
  * changed, 2 used wrongly, 3 stored but not certain (not shown, or a cut of power may still undo it).
@@ -16,6 +19,7 @@
 
 #include "imagefile.h"
 #include "say.h"
+#include "standard.h"
 #include "wholefile.h"
 
 #include <ctype.h>
@@ -108,24 +112,30 @@ static bool take_weighings(char **words, struct weighings *weighings)
 #define TABLE table, sizeof table
 #define NAME(name) (const uint8_t *)(name), strlen(name)
 
-/* Says that a call on a file of the image was refused; on a volume that is not sound, with what check finds there. */
-static void say_refused(const char *path, const char *name, uint32_t number, const struct bytes *image)
+static void say_refused(const char *name, uint32_t number)
 {
-    if (number == BM_NOT_SOUND) {
-        uint64_t checked = bm_check(IMAGE, NULL, 0);
-        say("%s: %s (refusal 41; finding %u at %u)", path, bm_sentence(number), (unsigned)BM_NUMBER(checked),
-            (unsigned)BM_VALUE(checked));
-    } else
-        say("%s: %s (refusal %u)", number == BM_NOT_OF_A_KIND ? path : name, bm_sentence(number), (unsigned)number);
+    say("%s: %s (refusal %u)", name, bm_sentence(number), (unsigned)number);
 }
 
-/* Finds the tare, in grams, or says why there is none: -1. It counts only if it is read-only, for then no call that
- * this program makes can change it (docs/TARE.md). */
-static long find_tare(const char *path, const struct bytes *image)
+/* Whether the file that rescue takes for the tare is read-only: of plain files of its name the one in the lowest slot.
+ * Asking for its mode would be refused where the disk is not sound. */
+static bool is_tare_read_only(const struct bytes *image)
+{
+    struct bm_entry_fields entry;
+    uint32_t slot;
+    for (slot = 0; bm_next_entry(IMAGE, &slot, &entry); slot++)
+        if ((entry.attribute & BM_LABEL) == 0 && strcmp(entry.name, tare_name) == 0)
+            return (entry.attribute & BM_READ_ONLY) != 0;
+    return false;
+}
+
+/* Finds the tare, in grams, or says why there is none: -1. The disk need not be sound; on a sound one rescue gives what
+ * open, read and close do. The tare counts only if it is read-only, for then no call that this program makes can change
+ * it (docs/TARE.md). */
+static long find_tare(const struct bytes *image)
 {
     struct bytes contents;
-    uint32_t number = fetch_file(image, tare_name, &contents);
-    uint64_t answer = bm_mode(IMAGE, NULL, 0, NAME(tare_name), BM_MODE_ASK, 0);
+    uint32_t number = rescue_file(image, tare_name, &contents);
     bool is_text = number == 0 && strlen((const char *)contents.at) == contents.length;
     long tare = is_text ? grams_of((const char *)contents.at) : -1;
     free(contents.at);
@@ -134,8 +144,10 @@ static long find_tare(const char *path, const struct bytes *image)
             "(refusal 2)",
             tare_name);
     else if (number != 0)
-        say_refused(path, tare_name, number, image);
-    else if ((BM_VALUE(answer) & BM_READ_ONLY) == 0) {
+        say("%s: The tare's chain of clusters does not fit its size, so nothing is weighed. Put in another disk with "
+            "this season's tare. (refusal %u)",
+            tare_name, (unsigned)number);
+    else if (!is_tare_read_only(image)) {
         say("%s: The tare is not read-only, so it may have been changed. Have it checked, and set its mode to 01.",
             tare_name);
         tare = -1;
@@ -204,7 +216,7 @@ static void say_denied(const struct day *day, bool is_new)
 }
 
 /* Appends the lines to the day's file. A write that has not room for all is no refusal: its count says so. */
-static bool append(const char *path, struct bytes *image, const struct day *day, const struct bytes *lines)
+static bool append(struct bytes *image, const struct day *day, const struct bytes *lines)
 {
     uint8_t table[BM_TABLE_SIZE(1)] = {0};
     bool is_new;
@@ -219,7 +231,7 @@ static bool append(const char *path, struct bytes *image, const struct day *day,
     if (BM_NUMBER(answer) == BM_ACCESS_DENIED)
         say_denied(day, is_new);
     else if (BM_NUMBER(answer) != 0)
-        say_refused(path, day->file, BM_NUMBER(answer), image);
+        say_refused(day->file, BM_NUMBER(answer));
     else if (count < lines->length)
         say("%s: The disk is full, and none of these weighings was stored. Delete old days, or take another disk.",
             day->file);
@@ -228,7 +240,7 @@ static bool append(const char *path, struct bytes *image, const struct day *day,
 
 /* ---- Weighing ---- */
 
-static bool append_all(const char *path, struct bytes *image, const struct day *day, const struct weighings *weighings)
+static bool append_all(struct bytes *image, const struct day *day, const struct weighings *weighings)
 {
     struct bytes lines = new_bytes(weighings->count * LINE_MOST);
     size_t n, length = 0;
@@ -236,19 +248,25 @@ static bool append_all(const char *path, struct bytes *image, const struct day *
     for (n = 0; n < weighings->count; n++)
         length += put_line(lines.at + length, day, weighings->grams[n]);
     lines.length = length;
-    appended = append(path, image, day, &lines);
+    appended = append(image, day, &lines);
     free(lines.at);
     return appended;
 }
 
-/* Shows the weighings, which are stored, and says what is not certain. */
-static enum status show(const struct day *day, const struct weighings *weighings, long tare, enum saved saved)
+/* Shows the weighings. The answer is whether that was done. */
+static bool show(const struct day *day, const struct weighings *weighings, long tare)
 {
-    enum status status = STORED;
     size_t n;
     for (n = 0; n < weighings->count; n++)
         printf("%s %ld g, net %ld g\n", day->time, weighings->grams[n], weighings->grams[n] - tare);
-    if (fflush(stdout) != 0 || ferror(stdout)) {
+    return fflush(stdout) == 0 && !ferror(stdout);
+}
+
+/* Shows weighings that are stored, and says what is not certain. */
+static enum status show_stored(const struct day *day, const struct weighings *weighings, long tare, enum saved saved)
+{
+    enum status status = STORED;
+    if (!show(day, weighings, tare)) {
         say("%s: The weighings are stored, but could not be shown. Don't weigh again; see to where they go.", day->file);
         status = NOT_CERTAIN;
     }
@@ -261,15 +279,47 @@ static enum status show(const struct day *day, const struct weighings *weighings
     return status;
 }
 
+static enum status store(const char *path, struct bytes *image, const struct day *day,
+                         const struct weighings *weighings, long tare)
+{
+    enum saved saved;
+    if (is_stored(image, day, weighings) || !append_all(image, day, weighings))
+        return NOT_STORED;
+    saved = replace_whole(path, image);
+    return saved == NOT_SAVED ? NOT_STORED : show_stored(day, weighings, tare, saved);
+}
+
+/* On a disk that is not sound weighings are shown, if it has a tare, and never stored. */
+static void show_only(const char *path, uint64_t checked, const struct day *day, const struct weighings *weighings,
+                      long tare)
+{
+    unsigned finding = BM_NUMBER(checked), place = BM_VALUE(checked);
+    if (tare < 0)
+        say("%s: %s (finding %u at %u)", path, bm_sentence(BM_NOT_SOUND), finding, place);
+    else {
+        bool shown = show(day, weighings, tare);
+        say("%s: The disk is not sound (finding %u at %u). The weighings %s against the tare that was rescued off it, "
+            "%ld g, and nothing was stored. Bring its files off by balladmoor get --rescue, and put them on a new disk, "
+            "the tare too.",
+            path, finding, place, shown ? "were shown" : "could not be shown", tare);
+    }
+}
+
 static enum status weigh(const char *path, struct bytes *image, const struct day *day,
                          const struct weighings *weighings)
 {
-    long tare = find_tare(path, image);
-    enum saved saved;
-    if (tare < 0 || is_stored(image, day, weighings) || !append_all(path, image, day, weighings))
+    enum { NO_KIND = 1 };
+    uint64_t checked = bm_check(IMAGE, NULL, 0);
+    long tare;
+    if (BM_NUMBER(checked) == NO_KIND) {
+        say_refused(path, BM_NOT_OF_A_KIND);
         return NOT_STORED;
-    saved = replace_whole(path, image);
-    return saved == NOT_SAVED ? NOT_STORED : show(day, weighings, tare, saved);
+    }
+    tare = find_tare(image);
+    if (BM_NUMBER(checked) == 0)
+        return tare < 0 ? NOT_STORED : store(path, image, day, weighings, tare);
+    show_only(path, checked, day, weighings, tare);
+    return NOT_STORED;
 }
 
 int main(int count, char **words)
@@ -278,6 +328,7 @@ int main(int count, char **words)
     struct bytes image;
     struct day day;
     enum status status;
+    hold_standard_files();
     signal(SIGPIPE, SIG_IGN); /* Else a reader that has gone would end the program between storing and its status. */
     if (count < 4 || !take_day(words[2], words[3], &day) || !take_weighings(words + 4, &weighings)) {
         say("Usage: scale IMAGE YYYY-MM-DD HH:MM:SS [GRAMS..], with 1 to %d weighings.", WEIGHINGS_MOST);

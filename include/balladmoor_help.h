@@ -86,6 +86,7 @@ struct bm_entry_fields {
     uint32_t attribute; /* bits such as BM_READ_ONLY; BM_LABEL is the label's */
     struct bm_stamp stamp;
     uint32_t start, size;
+    uint8_t stored[BM_ENTRY_SIZE]; /* all of it, as bm_entry put it: for a name that has ? above */
 };
 
 /* A byte of a stored name as text. Those that no caller may give are ?, and so no call finds such a name. */
@@ -137,6 +138,9 @@ static inline struct bm_stamp bm_stored_stamp(uint32_t time, uint32_t date)
 
 static inline void bm_entry_of(const uint8_t *out, struct bm_entry_fields *entry)
 {
+    unsigned n;
+    for (n = 0; n < BM_ENTRY_SIZE; n++)
+        entry->stored[n] = out[n];
     entry->attribute = out[BM_ENTRY_ATTRIBUTE];
     if (entry->attribute & BM_LABEL)
         bm_label_text(out + BM_ENTRY_NAME, entry->name);

@@ -26,7 +26,7 @@ static const struct verb {
     {"list", 1, 1, AS_NAMES | AS_JSON, list, &help_list},
     {"map", 1, 1, 0, show_map, &help_map},
     {"free", 1, 1, 0, show_free, &help_free},
-    {"get", 2, INT_MAX, KEEP_DATES, get, &help_get},
+    {"get", 2, INT_MAX, KEEP_DATES | RESCUE, get, &help_get},
     {"put", 3, INT_MAX, KEEP_DATES, put, &help_put},
     {"show", 2, 2, 0, show, &help_show},
     {"delete", 2, 2, 0, delete_file, &help_delete},
@@ -42,6 +42,7 @@ static const struct {
     {"--keep-dates", KEEP_DATES},
     {"--names", AS_NAMES},
     {"--json", AS_JSON},
+    {"--rescue", RESCUE},
 };
 
 /* ---- Help ---- */

@@ -19,7 +19,7 @@ static void add_name(const struct bytes *image, uint32_t slot, struct names *nam
     struct entry entry;
     entry.slot = slot;
     if (next_entry(image, &entry) && entry.slot == slot)
-        spell_name(entry.stored, names->name[names->count++]);
+        spell_name(&entry, names->name[names->count++]);
 }
 
 void find_names(const struct bytes *image, uint64_t checked, struct names *names)

@@ -3,7 +3,6 @@
 
 #include "verbs.h"
 
-#include "balladmoor.h"
 #include "entries.h"
 #include "refusal.h"
 #include "say.h"
@@ -21,7 +20,13 @@ struct copies {
     int count;
     const char *to; /* NULL: each to its own name here */
     bool to_folder, dated;
+    bool rescued; /* off a disk that need not be sound */
 };
+
+static uint32_t fetch(const struct copies *copies, const char *name, struct bytes *contents)
+{
+    return copies->rescued ? rescue_file(copies->image, name, contents) : fetch_file(copies->image, name, contents);
+}
 
 static bool is_folder(const char *path)
 {
@@ -43,12 +48,13 @@ static char *path_of(const struct copies *copies, const char *name)
 /* When a file of the image was last changed, in local time. False if its stamp is out of its ranges. */
 static bool find_stamp(const struct bytes *image, const char *name, time_t *changed)
 {
-    uint8_t stored[BM_ENTRY_SIZE] = {0};
+    struct entry entry;
     uint64_t date, time;
     struct tm parts = {0};
-    bm_entry(image->at, image->length, slot_of(image, name), stored, sizeof stored);
-    date = member_date(number_at(stored + BM_ENTRY_DATE, 2));
-    time = member_time(number_at(stored + BM_ENTRY_TIME, 2));
+    entry.slot = slot_of(image, name);
+    next_entry(image, &entry);
+    date = date_of(&entry);
+    time = time_of(&entry);
     parts.tm_year = (int)(BM_VALUE(date) / 10000) - 1900;
     parts.tm_mon = (int)(BM_VALUE(date) / 100 % 100) - 1;
     parts.tm_mday = (int)(BM_VALUE(date) % 100);
@@ -68,7 +74,7 @@ static enum status save(const struct copies *copies, const char *name)
     char *path = path_of(copies, name);
     time_t changed;
     enum saved saved;
-    fetch_file(copies->image, name, &contents);
+    fetch(copies, name, &contents);
     if (copies->dated && find_stamp(copies->image, name, &changed))
         saved = make_dated(path, &contents, changed);
     else
@@ -111,7 +117,7 @@ static enum status print_all(const struct copies *copies)
     struct bytes contents;
     int n;
     for (n = 0; n < copies->count; n++) {
-        fetch_file(copies->image, copies->names[n], &contents);
+        fetch(copies, copies->names[n], &contents);
         fwrite(contents.at, 1, contents.length, stdout);
         free(contents.at);
     }
@@ -126,10 +132,10 @@ static bool can_read(const struct copies *copies, const char *path)
     struct bytes contents;
     int n;
     for (n = 0; n < copies->count; n++) {
-        uint32_t number = fetch_file(copies->image, copies->names[n], &contents);
+        uint32_t number = fetch(copies, copies->names[n], &contents);
         free(contents.at);
         if (number != 0) {
-            say_refusal(READING, path, copies->names[n], number, copies->image);
+            say_refusal(copies->rescued ? RESCUING : READING, path, copies->names[n], number, copies->image);
             return false;
         }
     }
@@ -145,6 +151,7 @@ static bool take_words(const struct order *order, struct copies *copies)
     copies->to = has_to ? order->words[order->count - 1] : NULL;
     copies->to_folder = copies->to != NULL && is_folder(copies->to);
     copies->dated = (order->options & KEEP_DATES) != 0;
+    copies->rescued = (order->options & RESCUE) != 0;
     if (copies->count > 1 && !copies->to_folder && !is_standard(copies->to)) {
         say("%s: This is no folder. Several files go to a folder, such as . or to -.", copies->to);
         return false;
@@ -153,7 +160,21 @@ static bool take_words(const struct order *order, struct copies *copies)
         say("-: Standard output has no date. Leave --keep-dates out.");
         return false;
     }
+    if (copies->dated && copies->rescued) {
+        say("--rescue: It brings off a file's bytes alone. Leave --keep-dates out.");
+        return false;
+    }
     return true;
+}
+
+/* Where the disk is not sound, says once that files were rescued off it. */
+static void say_rescued(const struct copies *copies, const char *path)
+{
+    uint64_t checked = bm_check(copies->image->at, copies->image->length, NULL, 0);
+    char words[FINDING_ROOM];
+    if (BM_NUMBER(checked) != 0)
+        say("%s: The disk is not sound: %s was read by its own chain. Look whether the bytes are right. (%s)", path,
+            copies->count == 1 ? copies->names[0] : "each file", finding_words(checked, words));
 }
 
 enum status get(const struct order *order)
@@ -168,6 +189,8 @@ enum status get(const struct order *order)
     copies.image = &image;
     if (can_read(&copies, order->words[0]))
         status = copies.to != NULL && is_standard(copies.to) ? print_all(&copies) : save_all(&copies);
+    if (copies.rescued && status != NOT_DONE)
+        say_rescued(&copies, order->words[0]);
     free(image.at);
     return status;
 }

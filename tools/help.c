@@ -8,8 +8,8 @@ const char help_text[] =
     "  list [--names|--json] IMAGE  lists its files\n"
     "  map IMAGE                    shows which file has which clusters\n"
     "  free IMAGE                   says how much room is left\n"
-    "  get IMAGE NAME [TO]          copies a file from it, or several\n"
-    "  put IMAGE NAME FROM          copies a file to it, or several\n"
+    "  get IMAGE NAME [TO]          copies files from it, --rescue off a broken one\n"
+    "  put IMAGE NAME FROM          copies files to it\n"
     "  show IMAGE NAME              shows a file's bytes, in hex and as text\n"
     "  delete IMAGE NAME            deletes a file\n"
     "  rename IMAGE OLD NEW         renames a file\n"
@@ -79,13 +79,18 @@ const struct help help_free = {
 };
 
 const struct help help_get = {
-    "[--keep-dates] IMAGE NAME [TO], or IMAGE NAME.. FOLDER",
+    "[--keep-dates|--rescue] IMAGE NAME [TO], or IMAGE NAME.. FOLDER",
     "Copies a file of the image to TO, or else to NAME here; several files, or one,\n"
     "to a folder. None of these may be there yet. - prints. If one can't be copied,\n"
     "none is.\n"
     "\n"
     "--keep-dates gives each copy the file's date and time, in local time. One that\n"
-    "has none that is in range gets the present time.\n",
+    "has none that is in range gets the present time.\n"
+    "\n"
+    "--rescue brings a file off a disk that is not sound, such as a reset in the\n"
+    "middle of a save leaves it. The file is read by its own chain of clusters,\n"
+    "whatever else is wrong, and a sentence on standard error says so. A file whose\n"
+    "chain does not fit its size is refused.\n",
 };
 
 const struct help help_put = {

@@ -4,6 +4,7 @@
 #include "finding.h"
 #include "map.h"
 #include "marks.h"
+#include "print.h"
 
 #include <stdio.h>
 
@@ -39,12 +40,11 @@ static void print_finding(const struct bytes *image, uint64_t checked)
     printf("],\"lost\":%u}\n", (unsigned)lost_clusters(image));
 }
 
-void print_check_json(const struct bytes *image, uint64_t checked, const uint8_t *counts)
+void print_check_json(const struct bytes *image, uint64_t checked, struct bm_counts counts)
 {
     if (BM_NUMBER(checked) == 0)
-        printf("{\"sound\":true,\"files\":%u,\"free\":%u,\"held\":%u,\"aside\":%u}\n", (unsigned)number_at(counts, 4),
-               (unsigned)number_at(counts + 4, 4), (unsigned)number_at(counts + 8, 4),
-               (unsigned)number_at(counts + 12, 4));
+        printf("{\"sound\":true,\"files\":%u,\"free\":%u,\"held\":%u,\"aside\":%u}\n", (unsigned)counts.files,
+               (unsigned)counts.free, (unsigned)counts.held, (unsigned)counts.aside);
     else
         print_finding(image, checked);
 }
@@ -74,12 +74,12 @@ static void print_file(const struct entry *entry)
     char name[NAME_ROOM];
     unsigned n;
     printf("{\"name\":");
-    print_string(spell_name(entry->stored, name));
-    printf(",\"directory\":%s,\"size\":%lu", bool_word(entry->what == MEMBER_DIRECTORY), (unsigned long)size_of(entry));
-    print_date(member_date(number_at(entry->stored + BM_ENTRY_DATE, 2)));
-    print_time(member_time(number_at(entry->stored + BM_ENTRY_TIME, 2)));
+    print_string(spell_name(entry, name));
+    printf(",\"directory\":%s,\"size\":%lu", bool_word(entry->what == MEMBER_DIRECTORY), (unsigned long)entry->fields.size);
+    print_date(date_of(entry));
+    print_time(time_of(entry));
     for (n = 0; n < MARKS; n++)
-        printf(",\"%s\":%s", marks[n].key, bool_word(entry->stored[BM_ENTRY_ATTRIBUTE] & marks[n].bit));
+        printf(",\"%s\":%s", marks[n].key, bool_word(entry->fields.attribute & marks[n].bit));
     printf("}");
 }
 
@@ -90,7 +90,7 @@ static void print_label(const struct bytes *image)
     char label[NAME_ROOM];
     for (entry.slot = 0; next_entry(image, &entry); entry.slot++)
         if (entry.what == MEMBER_LABEL) {
-            print_string(spell_label(entry.stored, label));
+            print_string(spell_label(&entry, label));
             return;
         }
     printf("null");
@@ -110,15 +110,14 @@ static void print_files(const struct bytes *image)
 
 uint32_t print_list_json(const struct bytes *image)
 {
-    uint8_t space[BM_SPACE_SIZE];
-    uint32_t number = BM_NUMBER(bm_free_space(IMAGE, space, sizeof space));
+    uint8_t out[BM_SPACE_SIZE];
+    uint32_t number = BM_NUMBER(bm_free_space(IMAGE, out, sizeof out));
     if (number == BM_NOT_OF_A_KIND)
         return number;
     printf("{\"sound\":%s,\"label\":", bool_word(number == 0));
     print_label(image);
     if (number == 0)
-        printf(",\"free\":%lu",
-               (unsigned long)number_at(space, 4) * number_at(space + 8, 4) * number_at(space + 12, 4));
+        printf(",\"free\":%lu", free_bytes(bm_space_of(out)));
     else
         printf(",\"free\":null");
     printf(",\"files\":[");

@@ -2,10 +2,11 @@
 #ifndef JSON_H
 #define JSON_H
 
+#include "balladmoor_help.h"
 #include "imagefile.h"
 
-/* What check answered; counts are its four words. */
-void print_check_json(const struct bytes *image, uint64_t checked, const uint8_t *counts);
+/* What check answered, and what it counts on a sound volume. */
+void print_check_json(const struct bytes *image, uint64_t checked, struct bm_counts counts);
 
 /* Answers 0, or the number of the refusal: as print_list. */
 uint32_t print_list_json(const struct bytes *image);

@@ -64,8 +64,8 @@ static void print_files(const struct bytes *image)
     char name[NAME_ROOM];
     for (entry.slot = 0; next_entry(image, &entry); entry.slot++)
         if (is_file(&entry))
-            printf("%c  %-12s %9lu bytes\n", letter_of(image, entry.slot), spell_name(entry.stored, name),
-                   (unsigned long)size_of(&entry));
+            printf("%c  %-12s %9lu bytes\n", letter_of(image, entry.slot), spell_name(&entry, name),
+                   (unsigned long)entry.fields.size);
 }
 
 uint32_t print_map(const struct bytes *image)

@@ -15,9 +15,9 @@ void print_text(const char *text)
         putchar(shown(*text));
 }
 
-static unsigned long word_at(const uint8_t *words, unsigned n)
+unsigned long free_bytes(struct bm_space space)
 {
-    return number_at(words + 4 * n, 4);
+    return (unsigned long)space.free * space.cluster_size;
 }
 
 /* A byte as the sign of ASCII that it is, or else this one. */
@@ -28,21 +28,20 @@ static char sign_or(uint8_t byte, char else_this)
 
 /* ---- The list ---- */
 
-static void print_name(const uint8_t *stored)
+static void print_name(const struct entry *entry)
 {
     unsigned n;
     for (n = 0; n < 11; n++) {
         if (n == 8)
             putchar(' ');
-        putchar(sign_or(stored[BM_ENTRY_NAME + n], '?'));
+        putchar(sign_or(entry->fields.stored[BM_ENTRY_NAME + n], '?'));
     }
 }
 
 /* Date and time; one that is out of its ranges prints as none. */
-static void print_stamp(const uint8_t *stored)
+static void print_stamp(const struct entry *entry)
 {
-    uint64_t date = member_date(number_at(stored + BM_ENTRY_DATE, 2));
-    uint64_t time = member_time(number_at(stored + BM_ENTRY_TIME, 2));
+    uint64_t date = date_of(entry), time = time_of(entry);
     unsigned ymd = BM_VALUE(date), hms = BM_VALUE(time);
     if (BM_NUMBER(date) == 0)
         printf(" %04u-%02u-%02u", ymd / 10000, ymd / 100 % 100, ymd % 100);
@@ -57,15 +56,15 @@ static void print_stamp(const uint8_t *stored)
 static void print_file(const struct entry *entry)
 {
     unsigned n;
-    print_name(entry->stored);
+    print_name(entry);
     if (entry->what == MEMBER_DIRECTORY)
         printf(" <DIR>    ");
     else
-        printf(" %9lu", (unsigned long)size_of(entry));
-    print_stamp(entry->stored);
+        printf(" %9lu", (unsigned long)entry->fields.size);
+    print_stamp(entry);
     printf("  ");
     for (n = 0; n < MARKS; n++)
-        putchar(entry->stored[BM_ENTRY_ATTRIBUTE] & marks[n].bit ? marks[n].letter : '-');
+        putchar(entry->fields.attribute & marks[n].bit ? marks[n].letter : '-');
     putchar('\n');
 }
 
@@ -79,7 +78,7 @@ static void print_label(const char *path, const struct bytes *image)
     printf(" Volume in ");
     print_text(path);
     if (found)
-        printf(" is %s\n\n", spell_label(entry.stored, label));
+        printf(" is %s\n\n", spell_label(&entry, label));
     else
         printf(" has no label\n\n");
 }
@@ -100,7 +99,7 @@ static void print_files(const struct bytes *image)
         if (is_file(&entry)) {
             print_file(&entry);
             files++;
-            bytes += size_of(&entry);
+            bytes += entry.fields.size;
         } else if (entry.what == MEMBER_LONG_NAME)
             printf("(long name)\n");
     group(bytes, digits);
@@ -112,15 +111,15 @@ static void print_files(const struct bytes *image)
 
 uint32_t print_list(const char *path, const struct bytes *image)
 {
-    uint8_t space[BM_SPACE_SIZE];
-    uint64_t answer = bm_free_space(image->at, image->length, space, sizeof space);
+    uint8_t out[BM_SPACE_SIZE];
+    uint64_t answer = bm_free_space(image->at, image->length, out, sizeof out);
     char digits[DIGITS_ROOM];
     if (BM_NUMBER(answer) == BM_NOT_OF_A_KIND)
         return BM_NUMBER(answer);
     print_label(path, image);
     print_files(image);
     if (BM_NUMBER(answer) == 0) {
-        group(word_at(space, 0) * word_at(space, 2) * word_at(space, 3), digits);
+        group(free_bytes(bm_space_of(out)), digits);
         printf("%35s bytes free\n", digits);
     }
     return BM_NUMBER(answer);
@@ -132,24 +131,23 @@ uint32_t print_names(const struct bytes *image)
     char name[NAME_ROOM];
     for (entry.slot = 0; next_entry(image, &entry); entry.slot++)
         if (entry.what == MEMBER_FILE)
-            printf("%s\n", spell_name(entry.stored, name));
+            printf("%s\n", spell_name(&entry, name));
     return BM_NUMBER(bm_free_space(image->at, image->length, NULL, 0));
 }
 
 /* ---- Numbers and bytes ---- */
 
-void print_counts(const char *path, const uint8_t *counts)
+void print_counts(const char *path, struct bm_counts counts)
 {
     print_text(path);
-    printf(": sound; files %lu; clusters free %lu, held by files %lu, set aside %lu\n", word_at(counts, 0),
-           word_at(counts, 1), word_at(counts, 2), word_at(counts, 3));
+    printf(": sound; files %u; clusters free %u, held by files %u, set aside %u\n", (unsigned)counts.files,
+           (unsigned)counts.free, (unsigned)counts.held, (unsigned)counts.aside);
 }
 
-void print_space(const uint8_t *space)
+void print_space(struct bm_space space)
 {
-    unsigned long cluster = word_at(space, 2) * word_at(space, 3);
-    printf("%lu bytes free: %lu of %lu clusters of %lu bytes\n", word_at(space, 0) * cluster, word_at(space, 0),
-           word_at(space, 1), cluster);
+    printf("%lu bytes free: %u of %u clusters of %u bytes\n", free_bytes(space), (unsigned)space.free,
+           (unsigned)space.clusters, (unsigned)space.cluster_size);
 }
 
 void print_attribute(uint32_t attribute)

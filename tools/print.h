@@ -2,6 +2,7 @@
 #ifndef PRINT_H
 #define PRINT_H
 
+#include "balladmoor_help.h"
 #include "imagefile.h"
 
 /* A text of the user's, as a path: bytes that a terminal would obey come as ?. */
@@ -14,11 +15,14 @@ uint32_t print_list(const char *path, const struct bytes *image);
 /* The same, as names alone, one a line. */
 uint32_t print_names(const struct bytes *image);
 
-/* What check counts on a sound volume: four words. */
-void print_counts(const char *path, const uint8_t *counts);
+/* What check counts on a sound volume. */
+void print_counts(const char *path, struct bm_counts counts);
 
-/* What free space counts: four words. */
-void print_space(const uint8_t *space);
+/* What free space counts. */
+void print_space(struct bm_space space);
+
+/* How many bytes are free. */
+unsigned long free_bytes(struct bm_space space);
 
 /* An attribute: two hex digits, and a word for each bit. */
 void print_attribute(uint32_t attribute);

@@ -6,6 +6,7 @@
 #include "balladmoor.h"
 #include "refusal.h"
 #include "say.h"
+#include "stamp.h"
 #include "wholefile.h"
 
 #include <stdlib.h>
@@ -19,7 +20,7 @@ struct copy {
 
 /* ---- Its stamp ---- */
 
-static bool find_stamp(const struct copy *copy, struct stamp *stamp)
+static bool find_stamp(const struct copy *copy, struct bm_stamp *stamp)
 {
     time_t changed;
     if (!copy->dated)
@@ -51,7 +52,7 @@ static void say_refused(const char *path, const struct copy *copy, uint32_t numb
 
 static bool store(const char *path, struct bytes *image, const struct copy *copy, const struct bytes *contents)
 {
-    struct stamp stamp;
+    struct bm_stamp stamp;
     size_t stored;
     uint32_t number;
     if (!find_stamp(copy, &stamp))

@@ -1,7 +1,6 @@
 /* The verbs that only read an image. */
 #include "verbs.h"
 
-#include "balladmoor.h"
 #include "finding.h"
 #include "json.h"
 #include "map.h"
@@ -14,15 +13,15 @@
 enum status check(const struct order *order)
 {
     struct bytes image;
-    uint8_t counts[BM_COUNTS_SIZE];
+    uint8_t out[BM_COUNTS_SIZE] = {0};
     uint64_t answer;
     if (!read_whole(order->words[0], &image))
         return NOT_DONE;
-    answer = bm_check(IMAGE, counts, sizeof counts);
+    answer = bm_check(IMAGE, out, sizeof out);
     if (order->options & AS_JSON)
-        print_check_json(&image, answer, counts);
+        print_check_json(&image, answer, bm_counts_of(out));
     else if (BM_NUMBER(answer) == 0)
-        print_counts(order->words[0], counts);
+        print_counts(order->words[0], bm_counts_of(out));
     else
         say_finding(order->words[0], &image, answer);
     free(image.at);
@@ -67,13 +66,13 @@ enum status show_map(const struct order *order)
 enum status show_free(const struct order *order)
 {
     struct bytes image;
-    uint8_t space[BM_SPACE_SIZE];
+    uint8_t out[BM_SPACE_SIZE];
     uint64_t answer;
     if (!read_whole(order->words[0], &image))
         return NOT_DONE;
-    answer = bm_free_space(IMAGE, space, sizeof space);
+    answer = bm_free_space(IMAGE, out, sizeof out);
     if (BM_NUMBER(answer) == 0)
-        print_space(space);
+        print_space(bm_space_of(out));
     return end(order->words, BM_NUMBER(answer), &image);
 }
 

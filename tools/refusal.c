@@ -1,6 +1,6 @@
 #include "refusal.h"
 
-#include "balladmoor.h"
+#include "balladmoor_help.h"
 #include "say.h"
 
 #include <stdio.h>
@@ -8,7 +8,8 @@
 /* Number 5. Whoever asks here has no file open but the one in hand, so it is never for an open file. */
 static const char *const denied[TASKS] = {
     [READING] = "The file was not opened for reading. That is a mistake in this program: please report it.",
-    [CHANGING] = "The file is read-only. If it may be changed, take that mark away first (mode -r).",
+    [RESCUING] = "The file's chain of clusters does not fit its size, so its bytes can't be told. Take the disk to the "
+                 "service bench.",
     [MAKING] = "The directory has no room for another name. Delete a file first, or take another disk.",
     [REPLACING] = "A file of that name is read-only. If it may be replaced, take that mark away first (mode -r).",
     [DELETING] = "The file is read-only. If it may go, take that mark away first (mode -r).",
@@ -20,31 +21,7 @@ static const char *const denied[TASKS] = {
 
 const char *refusal_sentence(enum task task, uint32_t number)
 {
-    switch (number) {
-    case BM_INVALID_FUNCTION:
-        return "There is no such function or place in a file. That is a mistake in this program: please report it.";
-    case BM_FILE_NOT_FOUND:
-        return "No file of that name is on the disk. Look at the list.";
-    case BM_TOO_MANY_OPEN:
-        return "Too many files are open. Close one first.";
-    case BM_ACCESS_DENIED:
-        return denied[task];
-    case BM_INVALID_HANDLE:
-        return "The file is not open. That is a mistake in this program: please report it.";
-    case BM_INVALID_ACCESS:
-        return "There is no such access. That is a mistake in this program: please report it.";
-    case BM_NOT_OF_A_KIND:
-        return "This is no whole image of a diskette of 160, 180, 320 or 360 KB. See that it is the right file.";
-    case BM_NOT_SOUND:
-        return "The disk is broken. Keep a copy of it as it is, and take it to the service bench.";
-    case BM_BAD_NAME:
-        return "A name has 1 to 8 letters, digits or $&#@!%'()-{}_, then perhaps a dot and up to 3 more. Take such a "
-               "name.";
-    case BM_BAD_STAMP:
-        return "The date or the time is out of range, or not in the years 1980 to 2099. See where it comes from.";
-    default:
-        return "No such number is known. Header and archive are not of one version: build this program again.";
-    }
+    return number == BM_ACCESS_DENIED ? denied[task] : bm_sentence(number);
 }
 
 /* What each finding is, and what its place counts. */

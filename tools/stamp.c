@@ -7,26 +7,21 @@
 #include <errno.h>
 #include <stdlib.h>
 
-struct stamp stamp_of(const struct tm *time)
-{
-    int second = time->tm_sec < 60 ? time->tm_sec : 59; /* A leap second has no step of its own. */
-    struct stamp stamp = {(uint32_t)time->tm_hour,      (uint32_t)time->tm_min,     (uint32_t)second / 2,
-                          (uint32_t)time->tm_year - 80, (uint32_t)time->tm_mon + 1, (uint32_t)time->tm_mday};
-    return stamp;
-}
-
 /* known is NULL where a second has no date. */
-static bool take(const char *whose, const struct tm *known, struct stamp *stamp)
+static bool take(const char *whose, const struct tm *known, struct bm_stamp *stamp)
 {
+    int second;
     if (known == NULL) {
         say("%s: This time has no date. Set it right.", whose);
         return false;
     }
-    *stamp = stamp_of(known);
+    second = known->tm_sec < 60 ? known->tm_sec : 59; /* A leap second has no step of its own. */
+    *stamp = bm_stamp_of((uint32_t)known->tm_year + 1900, (uint32_t)known->tm_mon + 1, (uint32_t)known->tm_mday,
+                         (uint32_t)known->tm_hour, (uint32_t)known->tm_min, (uint32_t)second);
     return true;
 }
 
-bool stamp_of_second(const char *whose, time_t second, struct stamp *stamp)
+bool stamp_of_second(const char *whose, time_t second, struct bm_stamp *stamp)
 {
     struct tm parts;
     return take(whose, localtime_r(&second, &parts), stamp);
@@ -39,7 +34,7 @@ bool has_epoch(void)
     return getenv(epoch_name) != NULL;
 }
 
-bool stamp_of_now(struct stamp *stamp)
+bool stamp_of_now(struct bm_stamp *stamp)
 {
     const char *epoch = getenv(epoch_name);
     struct tm parts;

@@ -8,7 +8,7 @@
 #include <string.h>
 
 /* Options, as a sum of bits. */
-enum { KEEP_DATES = 1, AS_NAMES = 2, AS_JSON = 4 };
+enum { KEEP_DATES = 1, AS_NAMES = 2, AS_JSON = 4, RESCUE = 8 };
 
 /* What stands behind the verb. */
 struct order {

@@ -1,7 +1,5 @@
 #include "wholefile.h"
 
-#include "balladmoor.h"
-
 #include <string.h>
 
 #define IMAGE image->at, image->length
@@ -27,20 +25,29 @@ uint32_t fetch_file(const struct bytes *image, const char *name, struct bytes *c
     return BM_NUMBER(answer);
 }
 
+uint32_t rescue_file(const struct bytes *image, const char *name, struct bytes *contents)
+{
+    uint64_t answer;
+    *contents = new_bytes(image->length); /* No file of it is longer. */
+    answer = bm_rescue(IMAGE, NAME, contents->at, contents->length);
+    contents->length = BM_VALUE(answer);
+    return BM_NUMBER(answer);
+}
+
 uint32_t store_file(const struct bytes *image, const char *name, const struct bytes *contents,
-                    const struct stamp *stamp, size_t *stored)
+                    const struct bm_stamp *stamp, size_t *stored)
 {
     uint8_t table[BM_TABLE_SIZE(1)] = {0};
     /* The marks of the file that is replaced; none, and a value of 0, where there is no such file. */
     uint32_t marks = BM_VALUE(bm_mode(IMAGE, NULL, 0, NAME, BM_MODE_ASK, 0));
-    uint64_t answer = bm_create(IMAGE, TABLE, NAME, marks, STAMP(stamp));
+    uint64_t answer = bm_create(IMAGE, TABLE, NAME, marks, BM_STAMP(*stamp));
     uint32_t handle = BM_VALUE(answer);
     *stored = 0;
     if (BM_NUMBER(answer) == 0)
         answer = bm_write(IMAGE, TABLE, handle, contents->at, contents->length);
     if (BM_NUMBER(answer) == 0) {
         *stored = BM_VALUE(answer);
-        answer = bm_close(IMAGE, TABLE, handle, STAMP(stamp));
+        answer = bm_close(IMAGE, TABLE, handle, BM_STAMP(*stamp));
     }
     return BM_NUMBER(answer);
 }
@@ -48,7 +55,6 @@ uint32_t store_file(const struct bytes *image, const char *name, const struct by
 uint32_t slot_of(const struct bytes *image, const char *name)
 {
     uint8_t table[BM_TABLE_SIZE(1)] = {0};
-    const uint8_t *slot = table + BM_RECORD_SLOT;
     bm_open(IMAGE, TABLE, NAME, BM_READ);
-    return slot[0] | (uint32_t)slot[1] << 8 | (uint32_t)slot[2] << 16 | (uint32_t)slot[3] << 24;
+    return bm_number_4(table + BM_RECORD_SLOT);
 }

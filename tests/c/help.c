@@ -140,6 +140,8 @@ static void try_entries(uint8_t *image)
     put_entry(image + ROOT + 96, "MY OLD DISK", BM_LABEL, 0, 0, 0);
     expect(bm_next_entry(image, BM_IMAGE_SIZE_FE, &slot, &entry) && slot == 0, "the first is in slot 0");
     expect(is_listed(&entry, "TARE.KEY", 0x21, 40, 2, bm_stamp_of(1983, 9, 1, 6, 40, 0)), "it is document 01's tare");
+    expect(memcmp(entry.stored, image + ROOT, 12) == 0 && memcmp(entry.stored + 12, image + ROOT + 22, 10) == 0,
+           ".. with its bytes as they are stored");
     slot++;
     expect(bm_next_entry(image, BM_IMAGE_SIZE_FE, &slot, &entry) && slot == 2, "the next is past an erased slot");
     expect(is_listed(&entry, "DAY001.LOG", 0x20, 1025, 3, bm_stamp_of(1983, 9, 1, 18, 5, 58)), "it is document 01's day");

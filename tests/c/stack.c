@@ -80,7 +80,8 @@ static const char *name;
     CALL(bm_delete, (IMAGE, TABLE, NAME(name)))                       \
     CALL(bm_rename, (IMAGE, TABLE, NAME(name), NAME("NEW")))          \
     CALL(bm_mode, (IMAGE, TABLE, NAME(name), BM_MODE_SET, BM_HIDDEN)) \
-    CALL(bm_view_number, (IMAGE, NAME(name), 1))
+    CALL(bm_view_number, (IMAGE, NAME(name), 1))                      \
+    CALL(bm_rescue, (IMAGE, NAME(name), buffer, sizeof buffer))
 
 static uint8_t *frame;
 static uint64_t answer;

@@ -1,6 +1,12 @@
 # Sourced by run: sentences say what is wrong, of the right thing, and what to do; and they come whole.
 # shellcheck shell=bash disable=SC2154
 
+echo "-- every refusal number has a sentence of its own"
+check "the program builds" "$root/tests/x86.sh" --cc -Wall -Wextra -Werror -std=c11 -pedantic -I"$root/include" \
+  -I"$root/tools" "$root"/tests/command/sentences.c "$root"/tools/{refusal,say}.c "$root/target/staticlib/libscale.a" \
+  -o "$made/sentences"
+count "$root/tests/x86.sh" "$made/sentences"
+
 cp listed.img disk.img
 cp listed.img before.img
 mkdir empty

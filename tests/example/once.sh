@@ -25,6 +25,10 @@ to_nobody() {
   scale "$@" >&-
 }
 
+to_nobody_at_all() {
+  scale "$@" <&- >&- 2>&-
+}
+
 # The reader at the other end of the pipe has gone.
 to_a_gone_reader() {
   local pipe
@@ -43,6 +47,9 @@ once 07:00:00 50000
 ends 3 "standard output is closed" to_nobody hive.img 1983-09-04 07:00:01 50000
 says "are stored, but could not be shown."
 once 07:00:01 50000
+to_nobody_at_all hive.img 1983-09-04 07:00:01 50001
+check "standard input and error too" [ $? -eq 3 ]
+once 07:00:01 50001
 ends 3 "whoever was to read the weights has gone" to_a_gone_reader hive.img 1983-09-04 07:00:02 50000
 says "are stored, but could not be shown."
 once 07:00:02 50000

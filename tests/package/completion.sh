@@ -40,7 +40,9 @@ completes "balladmoor check --" --json
 completes "balladmoor list --" --names --json
 completes "balladmoor list --names hi" hive.img
 completes "balladmoor map hi" hive.img
-completes "balladmoor get --k" --keep-dates
+completes "balladmoor get --" --keep-dates --rescue
+completes "balladmoor get --rescue hive.img TA" TARE.KEY
+completes "balladmoor put --" --keep-dates
 completes "balladmoor get hive.img " TARE.KEY 19830901.LOG 19830902.LOG
 completes "balladmoor get --keep-dates hive.img 1983" 19830901.LOG 19830902.LOG
 completes "balladmoor get hive.img TARE.KEY ta" TARE.KEY tare.txt
