@@ -2,4 +2,6 @@
 pub mod Rows
 pub mod Ready
 pub mod Files
+pub mod Named
+pub mod Stamps
 pub mod Attribute

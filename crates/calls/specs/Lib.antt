@@ -1,5 +1,7 @@
--- What the calls have in common. Read Outcome and Refusals; Ready is what every call does first. The laws are for the proofs.
+-- What the calls have in common. Read Outcome, Numbers and Refusals; Ready is what every call does first. The laws are for the
+-- proofs.
 pub mod Outcome
+pub mod Numbers
 pub mod Refusals
 pub mod Ready
 pub mod Laws

@@ -10,16 +10,17 @@ use Rattle.diskette.specs.declared.WhichKind.the-variants.{Known, Unknown}
 use Rattle.sound.specs.Judged.{checkOf, isSound}
 use Rattle.sound.specs.declared.Verdict.{Verdict}
 use Rattle.sound.specs.declared.Verdict.the-variants.{Sound, Finding}
+use Rattle.calls.specs.Numbers.{ofNoKind, unsound}
 use Rattle.calls.specs.declared.Ready.{Ready}
 use Rattle.calls.specs.declared.Ready.the-variants.{Refused, Volume}
 
 abbrev pub readyWith : Kind → Verdict → Ready
 readyWith k (Sound files free held aside) = Volume k free
-readyWith k (Finding number place) = Refused 41
+readyWith k (Finding number place) = Refused unsound
 
 abbrev pub readyBy : WhichKind → Verdict → Ready
 readyBy (Known k) v = readyWith k v
-readyBy Unknown v = Refused 40
+readyBy Unknown v = Refused ofNoKind
 
 unfoldable pub readyOf : List ℕ → Ready
 readyOf img = readyBy (kindOfImage img) (checkOf img)

@@ -21,6 +21,7 @@ use Rattle.stamps.specs.declared.Packed.{Packed}
 use Rattle.stamps.specs.declared.Packed.the-variants.{Words, OutOfRange}
 use Rattle.opened.specs.Places.{isLive, lowestUnused}
 use Rattle.sound.specs.Judged.{isSound}
+use Rattle.calls.specs.Numbers.{outOfRange}
 
 -- ---- what a search found, as a test and as a number (0 where there is nothing; no rule rests on it then)
 
@@ -60,9 +61,13 @@ notSound img = not (isSound img)
 abbrev pub badName : List ℕ → Bool
 badName s = not (nameOf s .fits)
 
+-- a stamp's words by this paper's number: 43, or 0 where they are no refusal
+abbrev pub stampNumber : Packed → ℕ
+stampNumber (Words time date) = 0
+stampNumber OutOfRange = outOfRange
+
 abbrev pub isOut : Packed → Bool
-isOut (Words t d) = false
-isOut OutOfRange = true
+isOut p = not (eqb (stampNumber p) 0)
 
 -- 43: a stamp out of its ranges
 abbrev pub badStamp : Stamp → Bool

@@ -1,6 +1,7 @@
 // What the calls on a volume and an open table have in common.
 pub mod attribute;
 pub mod files;
+pub mod numbers;
 
 use diskette::Kind;
 use diskette::WhichKind;
@@ -41,8 +42,8 @@ pub fn make_ready(img: &[u8]) -> Ready
     match diskette::kind_of_image(img) {
         WhichKind::Known(k) => match sound::check(img) {
             Verdict::Sound(_, free, _, _) => Ready::Volume(k, free),
-            Verdict::Finding(_, _) => Ready::Refused(41),
+            Verdict::Finding(_, _) => Ready::Refused(numbers::UNSOUND),
         },
-        WhichKind::Unknown => Ready::Refused(40),
+        WhichKind::Unknown => Ready::Refused(numbers::OF_NO_KIND),
     }
 }

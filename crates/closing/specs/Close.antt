@@ -12,6 +12,7 @@ use Rattle.stamps.specs.declared.Packed.{Packed}
 use Rattle.stamps.specs.declared.Packed.the-variants.{Words, OutOfRange}
 use Rattle.opened.specs.Records.{slotOf, writtenOf, cleared}
 use Rattle.calls.specs.Outcome.{Row, Outcome, outcome, decided}
+use Rattle.calls.specs.Numbers.{ofNoKind, unsound, outOfRange, invalidHandle}
 use Rattle.calls.specs.Refusals.{notOfKind, notSound, badStamp, notLive, addressOf}
 use Rattle.calls.specs.declared.Answer.{Answer}
 
@@ -30,10 +31,10 @@ stampedBy l a OutOfRange = l
 
 abbrev pub closeRows : List ℕ → List ℕ → ℕ → Stamp → List Row
 closeRows img t h s =
-    (notOfKind img, 40)
-    ∷ (notSound img, 41)
-    ∷ (badStamp s, 43)
-    ∷ (notLive img t h, 6)
+    (notOfKind img, ofNoKind)
+    ∷ (notSound img, unsound)
+    ∷ (badStamp s, outOfRange)
+    ∷ (notLive img t h, invalidHandle)
     ∷ []
 
 abbrev pub closeEffect : List ℕ → List ℕ → ℕ → Stamp → Outcome

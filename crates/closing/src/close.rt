@@ -3,6 +3,7 @@ use calls::Answer;
 use calls::Ready;
 use calls::files;
 use calls::make_ready;
+use calls::numbers;
 use diskette::Kind;
 use search::Found;
 use stamps::Packed;
@@ -55,9 +56,9 @@ fn close_on(img: &mut [u8], k: Kind, t: &mut [u8], handle: u32, stamp: Stamp) ->
     ensures { λ r. ⌜ Closes (now (img .entry)) (now (t .entry)) handle stamp r (now (img .exit)) (now (t .exit)) ⌝ }
 {
     match stamp.pack() {
-        Packed::OutOfRange => Answer::refused(43),
+        Packed::OutOfRange => Answer::refused(numbers::OUT_OF_RANGE),
         Packed::Words(time, date) => match files::file_open(img, k, t, handle) {
-            Found::Nothing => Answer::refused(6),
+            Found::Nothing => Answer::refused(numbers::INVALID_HANDLE),
             Found::At(slot) => {
                 let place = handle as usize;
                 stamp_written(img, t, place, k.slot_at(slot), time, date);

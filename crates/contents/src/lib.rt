@@ -37,7 +37,7 @@ fn run_of(cb: usize, p: usize, left: usize) -> usize
 }
 
 // Where byte p of a chain lies, if it is in that cluster.
-fn byte_in(base: usize, cb: usize, cluster: usize, p: usize) -> usize
+pub fn byte_in(base: usize, cb: usize, cluster: usize, p: usize) -> usize
     requires { ⌜ 0 < cb ⌝ }
     requires { ⌜ 2 ≤ cluster ⌝ }
     requires { ⌜ clusterAt base cb cluster + cb < 18446744073709551616 ⌝ }

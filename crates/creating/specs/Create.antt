@@ -17,6 +17,7 @@ use Rattle.stamps.specs.declared.Packed.the-variants.{Words, OutOfRange}
 use Rattle.opened.specs.Places.{isOpen}
 use Rattle.opened.specs.Records.{withRecord}
 use Rattle.calls.specs.Outcome.{Row, Outcome, outcome, decided}
+use Rattle.calls.specs.Numbers.{ofNoKind, unsound, breaksRules, outOfRange, accessDenied, tooManyOpen}
 use Rattle.calls.specs.Refusals.{isNothing, placeFound, theKind, notOfKind, notSound, badName, badStamp, badAttr, noFile, fileSlot, readOnly, slotForNew, noPlace, freePlace}
 use Rattle.freeing.specs.Freed.{chainFreed}
 use Rattle.calls.specs.declared.Answer.{Answer}
@@ -24,15 +25,15 @@ use Rattle.calls.specs.declared.Answer.{Answer}
 -- s is the name; the rows of an existing file, then the one of a new one
 abbrev pub createRows : List ℕ → List ℕ → List ℕ → ℕ → Stamp → List Row
 createRows img t s attr stamp =
-    (notOfKind img, 40)
-    ∷ (notSound img, 41)
-    ∷ (badName s, 42)
-    ∷ (badStamp stamp, 43)
-    ∷ (badAttr attr, 5)
-    ∷ (not (noFile img s) && isOpen t (fileSlot img s), 5)
-    ∷ (not (noFile img s) && readOnly img (fileSlot img s), 5)
-    ∷ (noFile img s && isNothing (slotForNew img), 5)
-    ∷ (noPlace t, 4)
+    (notOfKind img, ofNoKind)
+    ∷ (notSound img, unsound)
+    ∷ (badName s, breaksRules)
+    ∷ (badStamp stamp, outOfRange)
+    ∷ (badAttr attr, accessDenied)
+    ∷ (not (noFile img s) && isOpen t (fileSlot img s), accessDenied)
+    ∷ (not (noFile img s) && readOnly img (fileSlot img s), accessDenied)
+    ∷ (noFile img s && isNothing (slotForNew img), accessDenied)
+    ∷ (noPlace t, tooManyOpen)
     ∷ []
 
 -- an empty file in the slot of the image l, and the lowest unused place taken for it
@@ -60,13 +61,17 @@ pub record Creates (img t s : List ℕ) (attr : ℕ) (stamp : Stamp) (r : Answer
 
 -- ---- an aid to the proofs: the last rows, of an existing file and of a new one
 
+abbrev pub oldRows : List ℕ → List ℕ → ℕ → List Row
+oldRows img t slot = (isOpen t slot, accessDenied) ∷ (readOnly img slot, accessDenied) ∷ (noPlace t, tooManyOpen) ∷ []
+
 pub record Empties (img t : List ℕ) (k : Kind) (slot : ℕ) (name : List ℕ) (attr time date : ℕ) (r : Answer) (after table : List ℕ) : Type 0 where
-  pub is : outcome (r .number) (r .value) after table []
-      ≡ decided ((isOpen t slot, 5) ∷ (readOnly img slot, 5) ∷ (noPlace t, 4) ∷ []) (made (chainFreed k img slot) t k slot name attr time date) img t []
+  pub is : outcome (r .number) (r .value) after table [] ≡ decided (oldRows img t slot) (made (chainFreed k img slot) t k slot name attr time date) img t []
 
 abbrev pub newSlot : Kind → List ℕ → ℕ
 newSlot k img = placeFound (lowestOpenSlot img (rootAt k) (rootEntries k))
 
+abbrev pub newRows : List ℕ → List ℕ → Kind → List Row
+newRows img t k = (isNothing (lowestOpenSlot img (rootAt k) (rootEntries k)), accessDenied) ∷ (noPlace t, tooManyOpen) ∷ []
+
 pub record MakesNew (img t : List ℕ) (k : Kind) (name : List ℕ) (attr time date : ℕ) (r : Answer) (after table : List ℕ) : Type 0 where
-  pub is : outcome (r .number) (r .value) after table []
-      ≡ decided ((isNothing (lowestOpenSlot img (rootAt k) (rootEntries k)), 5) ∷ (noPlace t, 4) ∷ []) (made img t k (newSlot k img) name attr time date) img t []
+  pub is : outcome (r .number) (r .value) after table [] ≡ decided (newRows img t k) (made img t k (newSlot k img) name attr time date) img t []

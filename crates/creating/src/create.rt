@@ -4,6 +4,7 @@ use calls::Ready;
 use calls::attribute;
 use calls::files;
 use calls::make_ready;
+use calls::numbers;
 use diskette::Kind;
 use freeing::freed;
 use search::Found;
@@ -40,13 +41,13 @@ fn empty_old(
     ensures { λ r. ⌜ Empties (now (img .entry)) (now (t .entry)) k slot name attr time date r (now (img .exit)) (now (t .exit)) ⌝ }
 {
     if opened::is_open(t, slot) {
-        return Answer::refused(5);
+        return Answer::refused(numbers::ACCESS_DENIED);
     }
     if files::is_read_only(img, k, slot) {
-        return Answer::refused(5);
+        return Answer::refused(numbers::ACCESS_DENIED);
     }
     match opened::lowest_unused(t) {
-        Found::Nothing => Answer::refused(4),
+        Found::Nothing => Answer::refused(numbers::TOO_MANY_OPEN),
         Found::At(place) => {
             opened::put_record(t, place, 2, slot as u32, 0);
             let a = k.slot_at(slot);
@@ -71,9 +72,9 @@ fn make_new(
     ensures { λ r. ⌜ MakesNew (now (img .entry)) (now (t .entry)) k name attr time date r (now (img .exit)) (now (t .exit)) ⌝ }
 {
     match slot_for_new(img, k) {
-        Found::Nothing => Answer::refused(5),
+        Found::Nothing => Answer::refused(numbers::ACCESS_DENIED),
         Found::At(slot) => match opened::lowest_unused(t) {
-            Found::Nothing => Answer::refused(4),
+            Found::Nothing => Answer::refused(numbers::TOO_MANY_OPEN),
             Found::At(place) => {
                 fields::write_entry(img, k.slot_at(slot), name, attr, time, date, 0, 0);
                 opened::put_record(t, place, 2, slot as u32, 0);
@@ -90,13 +91,13 @@ fn create_on(img: &mut [u8], k: Kind, t: &mut [u8], s: &[u8], attr: u32, stamp: 
 {
     let given = names::name_given(s);
     if !given.fits {
-        return Answer::refused(42);
+        return Answer::refused(numbers::BREAKS_RULES);
     }
     match stamp.pack() {
-        Packed::OutOfRange => Answer::refused(43),
+        Packed::OutOfRange => Answer::refused(numbers::OUT_OF_RANGE),
         Packed::Words(time, date) => {
             if attribute::is_bad_attr(attr) {
-                return Answer::refused(5);
+                return Answer::refused(numbers::ACCESS_DENIED);
             }
             let name = given.name;
             match files::file_named(img, k, name) {

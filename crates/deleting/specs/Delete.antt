@@ -7,6 +7,7 @@ use Rattle.diskette.specs.declared.Kind.{Kind}
 use Rattle.fields.specs.Fields.{withFirst}
 use Rattle.opened.specs.Places.{isOpen}
 use Rattle.calls.specs.Outcome.{Row, Outcome, outcome, decided}
+use Rattle.calls.specs.Numbers.{ofNoKind, unsound, breaksRules, fileNotFound, accessDenied}
 use Rattle.calls.specs.Refusals.{theKind, notOfKind, notSound, badName, noFile, fileSlot, readOnly}
 use Rattle.freeing.specs.Freed.{chainFreed}
 use Rattle.calls.specs.declared.Answer.{Answer}
@@ -14,12 +15,12 @@ use Rattle.calls.specs.declared.Answer.{Answer}
 -- s is the file's name
 abbrev pub deleteRows : List ℕ → List ℕ → List ℕ → List Row
 deleteRows img t s =
-    (notOfKind img, 40)
-    ∷ (notSound img, 41)
-    ∷ (badName s, 42)
-    ∷ (noFile img s, 2)
-    ∷ (isOpen t (fileSlot img s), 5)
-    ∷ (readOnly img (fileSlot img s), 5)
+    (notOfKind img, ofNoKind)
+    ∷ (notSound img, unsound)
+    ∷ (badName s, breaksRules)
+    ∷ (noFile img s, fileNotFound)
+    ∷ (isOpen t (fileSlot img s), accessDenied)
+    ∷ (readOnly img (fileSlot img s), accessDenied)
     ∷ []
 
 -- the image without the file in the slot
@@ -38,6 +39,8 @@ pub record Deletes (img t s : List ℕ) (r : Answer) (after : List ℕ) : Type 0
 
 -- ---- an aid to the proofs: the last two rows, of the file in a slot
 
+abbrev pub lastRows : List ℕ → List ℕ → ℕ → List Row
+lastRows img t slot = (isOpen t slot, accessDenied) ∷ (readOnly img slot, accessDenied) ∷ []
+
 pub record DeletesSlot (img t : List ℕ) (k : Kind) (slot : ℕ) (r : Answer) (after : List ℕ) : Type 0 where
-  pub is : outcome (r .number) (r .value) after t []
-      ≡ decided ((isOpen t slot, 5) ∷ (readOnly img slot, 5) ∷ []) (outcome 0 0 (erasedIn k img slot) t []) img t []
+  pub is : outcome (r .number) (r .value) after t [] ≡ decided (lastRows img t slot) (outcome 0 0 (erasedIn k img slot) t []) img t []

@@ -3,6 +3,7 @@ use calls::Answer;
 use calls::Ready;
 use calls::files;
 use calls::make_ready;
+use calls::numbers;
 use diskette::Kind;
 use freeing::freed;
 use search::Found;
@@ -29,10 +30,10 @@ fn delete_in(img: &mut [u8], k: Kind, t: &[u8], slot: usize) -> Answer
     ensures { λ r. ⌜ DeletesSlot (now (img .entry)) (now (t .entry)) k slot r (now (img .exit)) ⌝ }
 {
     if opened::is_open(t, slot) {
-        return Answer::refused(5);
+        return Answer::refused(numbers::ACCESS_DENIED);
     }
     if files::is_read_only(img, k, slot) {
-        return Answer::refused(5);
+        return Answer::refused(numbers::ACCESS_DENIED);
     }
     erase_in(img, k, slot);
     Answer::well(0)
@@ -45,11 +46,11 @@ fn delete_on(img: &mut [u8], k: Kind, t: &[u8], s: &[u8]) -> Answer
 {
     let given = names::name_given(s);
     if !given.fits {
-        return Answer::refused(42);
+        return Answer::refused(numbers::BREAKS_RULES);
     }
     let name = given.name;
     match files::file_named(img, k, name) {
-        Found::Nothing => Answer::refused(2),
+        Found::Nothing => Answer::refused(numbers::FILE_NOT_FOUND),
         Found::At(slot) => delete_in(img, k, t, slot),
     }
 }

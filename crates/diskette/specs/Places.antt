@@ -39,6 +39,3 @@ slotAt k s = rootAt k + 32 * s
 -- Cluster n starts at sector (n - 2) times sectors per cluster plus first data sector.
 abbrev pub sectorOf : Kind → ℕ → ℕ
 sectorOf k n = (n - 2) * k .per + firstData k
-
-abbrev pub clusterAt : Kind → ℕ → ℕ
-clusterAt k n = 512 * sectorOf k n

@@ -14,6 +14,7 @@ use Rattle.fields.specs.Fields.{nameOf, attrOf, timeOf, dateOf, startOf, sizeOf
 use Rattle.directory.specs.Slots.{standingOf}
 use Rattle.directory.specs.declared.Standing.{Standing}
 use Rattle.directory.specs.declared.Standing.the-variants.{NeverUsed, Erased, Label, Plain}
+use Rattle.calls.specs.Numbers.{ofNoKind}
 use Rattle.entries.specs.declared.EntryAnswer.{EntryAnswer}
 
 -- no entry was found: "none" with number 0, refused with another
@@ -46,7 +47,7 @@ toldAt l a = cond (isTold (standingOf l a)) (asStored l a) (nothing 0)
 -- "none" where the slot is out of range; "40: image not of a kind"
 abbrev pub onKind : WhichKind → List ℕ → ℕ → EntryAnswer
 onKind (Known k) l s = cond (leb (rootEntries k) s) (nothing 0) (toldAt l (slotAt k s))
-onKind Unknown l s = nothing 40
+onKind Unknown l s = nothing ofNoKind
 
 unfoldable pub entryTold : List ℕ → ℕ → EntryAnswer
 entryTold img slot = onKind (kindOfImage img) img slot

@@ -1,5 +1,6 @@
 // Entry at a slot: what stands there, on any image of a kind, sound or not.
 use crate::EntryAnswer;
+use calls::numbers;
 use directory::Standing;
 use diskette::WhichKind;
 ghost use mathlib.Core.Path.{_≡_};
@@ -75,6 +76,6 @@ pub fn entry(img: &[u8], slot: u32) -> EntryAnswer
             }
             told_at(img, k.slot_at(s))
         }
-        WhichKind::Unknown => without_entry(40),
+        WhichKind::Unknown => without_entry(numbers::OF_NO_KIND),
     }
 }

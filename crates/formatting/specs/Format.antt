@@ -11,6 +11,7 @@ use Rattle.diskette.specs.Places.{firstData, copyOne, copyTwo}
 use Rattle.diskette.specs.declared.Kind.{Kind}
 use Rattle.diskette.specs.declared.WhichKind.{WhichKind}
 use Rattle.diskette.specs.declared.WhichKind.the-variants.{Known, Unknown}
+use Rattle.calls.specs.Numbers.{ofNoKind}
 
 -- "data bytes F6; everything before it zero,"
 abbrev pub zerosAndData : Kind → List ℕ
@@ -34,8 +35,8 @@ afterFormat n img = record { number = n; image = img }
 
 -- "40: unknown kind byte or wrong length". A refusal alters nothing.
 abbrev pub formattedAs : WhichKind → List ℕ → AfterFormat
-formattedAs (Known k) img = cond (eqb (length img) (512 * k .sectors)) (afterFormat 0 (blank k)) (afterFormat 40 img)
-formattedAs Unknown img = afterFormat 40 img
+formattedAs (Known k) img = cond (eqb (length img) (512 * k .sectors)) (afterFormat 0 (blank k)) (afterFormat ofNoKind img)
+formattedAs Unknown img = afterFormat ofNoKind img
 
 -- The kind is taken as a whole number.
 unfoldable pub formatted : ℕ → List ℕ → AfterFormat

@@ -1,4 +1,5 @@
 // Format: an image becomes a blank volume of a kind.
+use calls::numbers;
 use diskette::Kind;
 use diskette::WhichKind;
 ghost use mathlib.Core.Path.{_≡_};
@@ -50,11 +51,11 @@ pub fn format(img: &mut [u8], kind: u32) -> u32
     match kind_numbered(kind) {
         WhichKind::Known(k) => {
             if img.len() != 512 * k.sectors {
-                return 40;
+                return numbers::OF_NO_KIND;
             }
             make_blank(img, k);
             0
         }
-        WhichKind::Unknown => 40,
+        WhichKind::Unknown => numbers::OF_NO_KIND,
     }
 }

@@ -10,6 +10,7 @@ use Rattle.diskette.specs.declared.WhichKind.{WhichKind}
 use Rattle.diskette.specs.declared.WhichKind.the-variants.{Known, Unknown}
 use Rattle.sound.specs.Counts.{freeOf}
 use Rattle.sound.specs.Judged.{isSound}
+use Rattle.calls.specs.Numbers.{ofNoKind, unsound}
 use Rattle.freespace.specs.declared.FreeAnswer.{FreeAnswer}
 
 -- of a volume of the kind k, so many of whose clusters are free
@@ -22,8 +23,8 @@ noSpace n = record { number = n; free = 0; clusters = 0; sector = 0; per = 0 }
 
 -- "40: image not of a kind", "41: volume not sound"
 abbrev pub spaceOn : WhichKind → List ℕ → FreeAnswer
-spaceOn (Known k) l = cond (isSound l) (spaceWith k (freeOf k l)) (noSpace 41)
-spaceOn Unknown l = noSpace 40
+spaceOn (Known k) l = cond (isSound l) (spaceWith k (freeOf k l)) (noSpace unsound)
+spaceOn Unknown l = noSpace ofNoKind
 
 unfoldable pub freeSpace : List ℕ → FreeAnswer
 freeSpace img = spaceOn (kindOfImage img) img

@@ -1,5 +1,6 @@
 // Free space: how many clusters of a sound volume are free, and how large they are.
 use crate::FreeAnswer;
+use calls::numbers;
 use diskette::Kind;
 use diskette::WhichKind;
 use sound::Verdict;
@@ -41,8 +42,8 @@ pub fn free_space(img: &[u8]) -> FreeAnswer
     match diskette::kind_of_image(img) {
         WhichKind::Known(k) => match sound::check(img) {
             Verdict::Sound(_, free, _, _) => space_with(k, free),
-            Verdict::Finding(_, _) => without_space(41),
+            Verdict::Finding(_, _) => without_space(numbers::UNSOUND),
         },
-        WhichKind::Unknown => without_space(40),
+        WhichKind::Unknown => without_space(numbers::OF_NO_KIND),
     }
 }

@@ -1,10 +1,12 @@
 // The open table as a row of records that the caller lends, beside its form as bytes (crate opened).
 use calls::Answer;
+use calls::numbers;
 use offset::Moved;
 use records::OpenRecord;
 use search::Found;
 ghost use mathlib.Core.Path.{_≡_};
-ghost use Rattle.records.specs.Seek.{baseFrom, seekFrom, answerOf, SeeksIn};
+ghost use Rattle.seeking.specs.Seek.{answerOf};
+ghost use Rattle.records.specs.Seek.{baseFrom, seekFrom, SeeksIn};
 ghost use Rattle.records.specs.Row.{rowOf, inBytes, recordAt, withRecordAt, lowestUnusedIn, isOpenIn};
 
 // The record that a place of a table of bytes says; an unused one where the table has no such place.
@@ -121,10 +123,10 @@ fn sought(pointer: u32, size: u32, method: u32, offset: i32) -> Answer
     ensures { λ r. ⌜ r ≡ answerOf (seekFrom pointer size method offset) ⌝ }
 {
     if 2 < method {
-        return Answer::refused(1);
+        return Answer::refused(numbers::INVALID_FUNCTION);
     }
     match offset::moved_by(base_of(pointer, size, method), offset) {
-        Moved::Beyond => Answer::refused(1),
+        Moved::Beyond => Answer::refused(numbers::INVALID_FUNCTION),
         Moved::To(to) => Answer::well(to),
     }
 }

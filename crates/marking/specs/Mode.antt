@@ -7,18 +7,19 @@ use lib.Dec.{eqb, ltb}
 use Rattle.fields.specs.Fields.{attrOf, withAttr}
 use Rattle.opened.specs.Places.{isOpen}
 use Rattle.calls.specs.Outcome.{Row, Outcome, outcome, decided}
+use Rattle.calls.specs.Numbers.{ofNoKind, unsound, invalidFunction, breaksRules, fileNotFound, accessDenied}
 use Rattle.calls.specs.Refusals.{notOfKind, notSound, badName, noFile, fileSlot, addressOf, badAttr}
 use Rattle.calls.specs.declared.Answer.{Answer}
 
 abbrev pub modeRows : List ℕ → List ℕ → List ℕ → ℕ → ℕ → List Row
 modeRows img t s function attr =
-    (notOfKind img, 40)
-    ∷ (notSound img, 41)
-    ∷ (ltb 1 function, 1)
-    ∷ (badName s, 42)
-    ∷ (noFile img s, 2)
-    ∷ (eqb function 1 && badAttr attr, 5)
-    ∷ (eqb function 1 && isOpen t (fileSlot img s), 5)
+    (notOfKind img, ofNoKind)
+    ∷ (notSound img, unsound)
+    ∷ (ltb 1 function, invalidFunction)
+    ∷ (badName s, breaksRules)
+    ∷ (noFile img s, fileNotFound)
+    ∷ (eqb function 1 && badAttr attr, accessDenied)
+    ∷ (eqb function 1 && isOpen t (fileSlot img s), accessDenied)
     ∷ []
 
 abbrev pub modeEffect : List ℕ → List ℕ → List ℕ → ℕ → ℕ → Outcome

@@ -4,6 +4,7 @@ use calls::Ready;
 use calls::attribute;
 use calls::files;
 use calls::make_ready;
+use calls::numbers;
 use diskette::Kind;
 use search::Found;
 ghost use mathlib.Core.Path.{_≡_};
@@ -16,25 +17,25 @@ fn mode_on(img: &mut [u8], k: Kind, t: &[u8], s: &[u8], function: u32, attr: u32
     ensures { λ r. ⌜ Modes (now (img .entry)) (now (t .entry)) (now (s .entry)) function attr r (now (img .exit)) ⌝ }
 {
     if 1 < function {
-        return Answer::refused(1);
+        return Answer::refused(numbers::INVALID_FUNCTION);
     }
     let given = names::name_given(s);
     if !given.fits {
-        return Answer::refused(42);
+        return Answer::refused(numbers::BREAKS_RULES);
     }
     let name = given.name;
     match files::file_named(img, k, name) {
-        Found::Nothing => Answer::refused(2),
+        Found::Nothing => Answer::refused(numbers::FILE_NOT_FOUND),
         Found::At(slot) => {
             let a = k.slot_at(slot);
             if function == 0 {
                 return Answer::well(fields::attr_at(img, a) as u32);
             }
             if attribute::is_bad_attr(attr) {
-                return Answer::refused(5);
+                return Answer::refused(numbers::ACCESS_DENIED);
             }
             if opened::is_open(t, slot) {
-                return Answer::refused(5);
+                return Answer::refused(numbers::ACCESS_DENIED);
             }
             fields::put_attr(img, a, attr as u8);
             Answer::well(0)

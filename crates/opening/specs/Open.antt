@@ -6,18 +6,19 @@ use mathlib.Core.Path.{_≡_}
 use lib.Dec.{ltb}
 use Rattle.opened.specs.Records.{withRecord}
 use Rattle.calls.specs.Outcome.{Row, Outcome, outcome, decided}
+use Rattle.calls.specs.Numbers.{ofNoKind, unsound, invalidAccess, breaksRules, fileNotFound, accessDenied, tooManyOpen}
 use Rattle.calls.specs.Refusals.{notOfKind, notSound, badName, noFile, fileSlot, readOnly, noPlace, freePlace}
 use Rattle.calls.specs.declared.Answer.{Answer}
 
 abbrev pub openRows : List ℕ → List ℕ → List ℕ → ℕ → List Row
 openRows img t s access =
-    (notOfKind img, 40)
-    ∷ (notSound img, 41)
-    ∷ (ltb 2 access, 12)
-    ∷ (badName s, 42)
-    ∷ (noFile img s, 2)
-    ∷ (ltb 0 access && readOnly img (fileSlot img s), 5)
-    ∷ (noPlace t, 4)
+    (notOfKind img, ofNoKind)
+    ∷ (notSound img, unsound)
+    ∷ (ltb 2 access, invalidAccess)
+    ∷ (badName s, breaksRules)
+    ∷ (noFile img s, fileNotFound)
+    ∷ (ltb 0 access && readOnly img (fileSlot img s), accessDenied)
+    ∷ (noPlace t, tooManyOpen)
     ∷ []
 
 abbrev pub openEffect : List ℕ → List ℕ → List ℕ → ℕ → Outcome

@@ -3,6 +3,7 @@ use calls::Answer;
 use calls::Ready;
 use calls::files;
 use calls::make_ready;
+use calls::numbers;
 use diskette::Kind;
 use search::Found;
 ghost use Prim.Native.Nat.{_<_};
@@ -33,21 +34,21 @@ fn open_on(img: &[u8], k: Kind, t: &mut [u8], s: &[u8], access: u32) -> Answer
     ensures { λ r. ⌜ Opens (now (img .entry)) (now (t .entry)) (now (s .entry)) access r (now (t .exit)) ⌝ }
 {
     if 2 < access {
-        return Answer::refused(12);
+        return Answer::refused(numbers::INVALID_ACCESS);
     }
     let given = names::name_given(s);
     if !given.fits {
-        return Answer::refused(42);
+        return Answer::refused(numbers::BREAKS_RULES);
     }
     let name = given.name;
     match files::file_named(img, k, name) {
-        Found::Nothing => Answer::refused(2),
+        Found::Nothing => Answer::refused(numbers::FILE_NOT_FOUND),
         Found::At(slot) => {
             if is_barred(img, k, slot, access) {
-                return Answer::refused(5);
+                return Answer::refused(numbers::ACCESS_DENIED);
             }
             match opened::lowest_unused(t) {
-                Found::Nothing => Answer::refused(4),
+                Found::Nothing => Answer::refused(numbers::TOO_MANY_OPEN),
                 Found::At(place) => {
                     opened::put_record(t, place, access as u8, slot as u32, 0);
                     Answer::well(place as u32)

@@ -9,6 +9,7 @@ use Rattle.image.specs.Store.{stored, part}
 use Rattle.fields.specs.Fields.{sizeOf}
 use Rattle.opened.specs.Records.{slotOf, accessOf, pointerOf, withPointer}
 use Rattle.calls.specs.Outcome.{Row, Outcome, outcome, decided}
+use Rattle.calls.specs.Numbers.{ofNoKind, unsound, invalidHandle, accessDenied}
 use Rattle.calls.specs.Refusals.{theKind, notOfKind, notSound, notLive, addressOf}
 use Rattle.holding.specs.Holding.{fileBytes}
 use Rattle.calls.specs.declared.Answer.{Answer}
@@ -19,10 +20,10 @@ readCount room size pointer = min room (size - pointer)
 
 abbrev pub readRows : List ℕ → List ℕ → ℕ → List Row
 readRows img t h =
-    (notOfKind img, 40)
-    ∷ (notSound img, 41)
-    ∷ (notLive img t h, 6)
-    ∷ (eqb (accessOf t h) 1, 5)
+    (notOfKind img, ofNoKind)
+    ∷ (notSound img, unsound)
+    ∷ (notLive img t h, invalidHandle)
+    ∷ (eqb (accessOf t h) 1, accessDenied)
     ∷ []
 
 abbrev pub readEffect : List ℕ → List ℕ → ℕ → List ℕ → Outcome

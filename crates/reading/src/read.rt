@@ -3,6 +3,7 @@ use calls::Answer;
 use calls::Ready;
 use calls::files;
 use calls::make_ready;
+use calls::numbers;
 use diskette::Kind;
 use search::Found;
 ghost use Prim.Native.Nat.{_-_, _≤_, _<_};
@@ -61,11 +62,11 @@ fn read_on(img: &[u8], k: Kind, t: &mut [u8], handle: u32, buf: &mut [u8]) -> An
     ensures { λ r. ⌜ Reads (now (img .entry)) (now (t .entry)) handle (now (buf .entry)) r (now (t .exit)) (now (buf .exit)) ⌝ }
 {
     match files::file_open(img, k, t, handle) {
-        Found::Nothing => Answer::refused(6),
+        Found::Nothing => Answer::refused(numbers::INVALID_HANDLE),
         Found::At(slot) => {
             let place = handle as usize;
             if opened::access_at(t, place) == 1 {
-                return Answer::refused(5);
+                return Answer::refused(numbers::ACCESS_DENIED);
             }
             let pointer = opened::pointer_at(t, place);
             let n = count_of(buf.len(), fields::size_at(img, k.slot_at(slot)), pointer);

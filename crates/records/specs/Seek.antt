@@ -9,6 +9,7 @@ use Rattle.offset.specs.Offset.{movedBy}
 use Rattle.offset.specs.declared.Moved.{Moved}
 use Rattle.offset.specs.declared.Moved.the-variants.{To, Beyond}
 use Rattle.calls.specs.declared.Answer.{Answer}
+use Rattle.seeking.specs.Seek.{answerOf}
 use Rattle.records.specs.declared.OpenRecord.{OpenRecord}
 
 -- from where the offset counts
@@ -18,11 +19,6 @@ baseFrom pointer size method = cond (eqb method 0) 0 (cond (eqb method 1) pointe
 -- where it leads; a method above 2 leads nowhere
 unfoldable pub seekFrom : ℕ → ℕ → ℕ → ℤ → Moved
 seekFrom pointer size method offset = cond (ltb 2 method) Beyond (movedBy (baseFrom pointer size method) offset)
-
--- a seek that leads nowhere is refused by 1
-abbrev pub answerOf : Moved → Answer
-answerOf (To v) = record { number = 0; value = v }
-answerOf Beyond = record { number = 1; value = 0 }
 
 -- the record with its pointer at v
 abbrev pub movedTo : OpenRecord → ℕ → OpenRecord

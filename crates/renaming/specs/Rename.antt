@@ -10,20 +10,21 @@ use Rattle.directory.specs.Search.{slotNamed}
 use Rattle.names.specs.Reading.{nameOf}
 use Rattle.opened.specs.Places.{isOpen}
 use Rattle.calls.specs.Outcome.{Row, Outcome, outcome, decided}
+use Rattle.calls.specs.Numbers.{ofNoKind, unsound, breaksRules, fileNotFound, accessDenied}
 use Rattle.calls.specs.Refusals.{isNothing, notOfKind, notSound, badName, noFile, fileSlot, addressOf, readOnly}
 use Rattle.calls.specs.declared.Answer.{Answer}
 
 -- s is the file's name, n the new one
 abbrev pub renameRows : List ℕ → List ℕ → List ℕ → List ℕ → List Row
 renameRows img t s n =
-    (notOfKind img, 40)
-    ∷ (notSound img, 41)
-    ∷ (badName s, 42)
-    ∷ (badName n, 42)
-    ∷ (noFile img s, 2)
-    ∷ (isOpen t (fileSlot img s), 5)
-    ∷ (readOnly img (fileSlot img s), 5)
-    ∷ (not (noFile img n), 5)
+    (notOfKind img, ofNoKind)
+    ∷ (notSound img, unsound)
+    ∷ (badName s, breaksRules)
+    ∷ (badName n, breaksRules)
+    ∷ (noFile img s, fileNotFound)
+    ∷ (isOpen t (fileSlot img s), accessDenied)
+    ∷ (readOnly img (fileSlot img s), accessDenied)
+    ∷ (not (noFile img n), accessDenied)
     ∷ []
 
 abbrev pub renameEffect : List ℕ → List ℕ → List ℕ → List ℕ → Outcome
@@ -38,7 +39,12 @@ pub record Renames (img t s n : List ℕ) (r : Answer) (after : List ℕ) : Type
 
 -- ---- an aid to the proofs: the last three rows, of the file in a slot; name is the new one's 11 bytes
 
+abbrev pub lastRows : List ℕ → List ℕ → Kind → ℕ → List ℕ → List Row
+lastRows img t k slot name =
+    (isOpen t slot, accessDenied)
+    ∷ (readOnly img slot, accessDenied)
+    ∷ (not (isNothing (slotNamed img (rootAt k) (rootEntries k) name)), accessDenied)
+    ∷ []
+
 pub record RenamesSlot (img t : List ℕ) (k : Kind) (slot : ℕ) (name : List ℕ) (r : Answer) (after : List ℕ) : Type 0 where
-  pub is : outcome (r .number) (r .value) after t []
-      ≡ decided ((isOpen t slot, 5) ∷ (readOnly img slot, 5) ∷ (not (isNothing (slotNamed img (rootAt k) (rootEntries k) name)), 5) ∷ [])
-      (outcome 0 0 (withName img (slotAt k slot) name) t []) img t []
+  pub is : outcome (r .number) (r .value) after t [] ≡ decided (lastRows img t k slot name) (outcome 0 0 (withName img (slotAt k slot) name) t []) img t []

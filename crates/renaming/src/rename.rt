@@ -3,6 +3,7 @@ use calls::Answer;
 use calls::Ready;
 use calls::files;
 use calls::make_ready;
+use calls::numbers;
 use diskette::Kind;
 use search::Found;
 ghost use Prim.Native.Nat.{_<_};
@@ -42,13 +43,13 @@ fn rename_in(img: &mut [u8], k: Kind, t: &[u8], slot: usize, name: [u8; 11]) -> 
     ensures { λ r. ⌜ RenamesSlot (now (img .entry)) (now (t .entry)) k slot name r (now (img .exit)) ⌝ }
 {
     if opened::is_open(t, slot) {
-        return Answer::refused(5);
+        return Answer::refused(numbers::ACCESS_DENIED);
     }
     if files::is_read_only(img, k, slot) {
-        return Answer::refused(5);
+        return Answer::refused(numbers::ACCESS_DENIED);
     }
     if is_taken(img, k, name) {
-        return Answer::refused(5);
+        return Answer::refused(numbers::ACCESS_DENIED);
     }
     put_name_in(img, k, slot, name);
     Answer::well(0)
@@ -61,15 +62,15 @@ fn rename_on(img: &mut [u8], k: Kind, t: &[u8], s: &[u8], n: &[u8]) -> Answer
 {
     let given = names::name_given(s);
     if !given.fits {
-        return Answer::refused(42);
+        return Answer::refused(numbers::BREAKS_RULES);
     }
     let new = names::name_given(n);
     if !new.fits {
-        return Answer::refused(42);
+        return Answer::refused(numbers::BREAKS_RULES);
     }
     let name = given.name;
     match files::file_named(img, k, name) {
-        Found::Nothing => Answer::refused(2),
+        Found::Nothing => Answer::refused(numbers::FILE_NOT_FOUND),
         Found::At(slot) => {
             let new_name = new.name;
             rename_in(img, k, t, slot, new_name)

@@ -3,6 +3,7 @@ use calls::Answer;
 use calls::Ready;
 use calls::files;
 use calls::make_ready;
+use calls::numbers;
 use diskette::Kind;
 use offset::Moved;
 use search::Found;
@@ -36,15 +37,15 @@ fn seek_on(img: &[u8], k: Kind, t: &mut [u8], handle: u32, method: u32, offset: 
     ensures { λ r. ⌜ Seeks (now (img .entry)) (now (t .entry)) handle method offset r (now (t .exit)) ⌝ }
 {
     if 2 < method {
-        return Answer::refused(1);
+        return Answer::refused(numbers::INVALID_FUNCTION);
     }
     match files::file_open(img, k, t, handle) {
-        Found::Nothing => Answer::refused(6),
+        Found::Nothing => Answer::refused(numbers::INVALID_HANDLE),
         Found::At(slot) => {
             let place = handle as usize;
             let base = base_of(img, k, t, place, slot, method);
             match offset::moved_by(base, offset) {
-                Moved::Beyond => Answer::refused(1),
+                Moved::Beyond => Answer::refused(numbers::INVALID_FUNCTION),
                 Moved::To(pointer) => {
                     opened::put_pointer(t, place, pointer);
                     Answer::well(pointer)

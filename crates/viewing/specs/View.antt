@@ -11,6 +11,7 @@ use Rattle.diskette.specs.Places.{firstData, clusterBytes, lastCluster, slotAt}
 use Rattle.diskette.specs.declared.Kind.{Kind}
 use Rattle.fields.specs.Fields.{startOf, sizeOf}
 use Rattle.calls.specs.Outcome.{Row, Outcome, outcome, decided}
+use Rattle.calls.specs.Numbers.{ofNoKind, unsound, breaksRules, fileNotFound}
 use Rattle.calls.specs.Refusals.{theKind, notOfKind, notSound, badName, noFile, fileSlot}
 
 -- where byte offset of the file in a slot lies in the image
@@ -27,10 +28,10 @@ viewPart k img slot offset = part img (viewAt k img slot offset) (viewCount (clu
 
 abbrev pub viewRows : List ℕ → List ℕ → List Row
 viewRows img s =
-    (notOfKind img, 40)
-    ∷ (notSound img, 41)
-    ∷ (badName s, 42)
-    ∷ (noFile img s, 2)
+    (notOfKind img, ofNoKind)
+    ∷ (notSound img, unsound)
+    ∷ (badName s, breaksRules)
+    ∷ (noFile img s, fileNotFound)
     ∷ []
 
 -- the part stands for the buffer; no table comes in

@@ -2,6 +2,7 @@
 use calls::Ready;
 use calls::files;
 use calls::make_ready;
+use calls::numbers;
 use diskette::Kind;
 use search::Found;
 ghost use Prim.Native.Nat.{_<_};
@@ -63,7 +64,7 @@ fn see_on(img: &[u8], k: Kind, s: &[u8], offset: u32) -> Seen
     let given = names::name_given(s);
     if !given.fits {
         return Seen {
-            number: 42,
+            number: numbers::BREAKS_RULES,
             at: 0,
             bytes: 0,
         };
@@ -71,7 +72,7 @@ fn see_on(img: &[u8], k: Kind, s: &[u8], offset: u32) -> Seen
     let name = given.name;
     match files::file_named(img, k, name) {
         Found::Nothing => Seen {
-            number: 2,
+            number: numbers::FILE_NOT_FOUND,
             at: 0,
             bytes: 0,
         },

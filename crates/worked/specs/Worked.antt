@@ -1,22 +1,29 @@
--- Document 01, "Worked numbers": the cases P1 to P13, proved by one statement over one list of them.
-use Prim.Native.Nat.{ℕ, _-_}
+-- Document 01, "Worked numbers": the cases P1 to P13, by one statement over one list of them.
+use Prim.Native.Nat.{ℕ, _-_, _*_, _/_}
+use mathlib.Core.Bool.{cond}
 use mathlib.Core.List.{List, [], _∷_, map}
-use mathlib.Core.Path.{_≡_, refl}
-use lib.IntN.{ℤ, pos, negsuc}
-use Rattle.image.specs.Store.{part, stored}
-use Rattle.image.specs.Numbers.{number, digits}
-use Rattle.diskette.specs.Kinds.{kindFE, kindFD}
-use Rattle.diskette.specs.Places.{clusterBytes, sectorOf}
+use mathlib.Core.Path.{_≡_}
+use lib.Dec.{eqb}
+use lib.IntN.{ℤ, negsuc}
+use Rattle.image.specs.Store.{part}
+use Rattle.chains.specs.Content.{clusterAt}
 use Rattle.chains.specs.Sizes.{clustersFor}
-use Rattle.values.specs.Bits.{taken, kept}
+use Rattle.diskette.specs.Images.{OfKind}
+use Rattle.diskette.specs.Kinds.{kindFE, kindFD}
+use Rattle.diskette.specs.Places.{firstData, clusterBytes, rootAt, rootEntries}
+use Rattle.diskette.specs.declared.Kind.{Kind}
 use Rattle.table.specs.Entries.{entryAt, setAt}
-use Rattle.stamps.specs.Stamps.{packed, timeFits, dateFits}
+use Rattle.stamps.specs.Stamps.{packed}
 use Rattle.stamps.specs.declared.Stamp.{Stamp}
 use Rattle.stamps.specs.declared.Packed.{Packed}
 use Rattle.stamps.specs.declared.Packed.the-variants.{Words, OutOfRange}
-use Rattle.offset.specs.Offset.{movedBy}
-use Rattle.offset.specs.declared.Moved.{Moved}
-use Rattle.offset.specs.declared.Moved.the-variants.{To, Beyond}
+use Rattle.sound.specs.Sound.{Sound}
+use Rattle.opened.specs.Places.{LiveAt}
+use Rattle.opened.specs.Records.{pointerOf}
+use Rattle.calls.specs.Outcome.{Outcome}
+use Rattle.calls.specs.Refusals.{stampNumber}
+use Rattle.closing.specs.Close.{closeOutcome}
+use Rattle.seeking.specs.Seek.{seekOutcome}
 
 -- what a case answers: a number, bytes, or a refusal by its number
 pub data Answer : Type 0 where
@@ -30,51 +37,79 @@ pub record Case : Type 0 where
   pub paper : Answer
 
 infix 4 _gives_
-abbrev _gives_ : Answer → Answer → Case
+abbrev pub _gives_ : Answer → Answer → Case
 o gives p = record { ours = o; paper = p }
 
--- ---- the answers of stamps and of seek, with the paper's numbers for their refusals
+-- ---- P1 and P2: their bytes
 
-abbrev pub timeOf : Packed → Answer
-timeOf (Words time date) = is time
-timeOf OutOfRange = refused 43
+abbrev pub sixBytes : List ℕ
+sixBytes = 0xFD ∷ 0xFF ∷ 0xFF ∷ 0x03 ∷ 0x40 ∷ 0x00 ∷ []
 
-abbrev pub dateOf : Packed → Answer
-dateOf (Words time date) = is date
-dateOf OutOfRange = refused 43
+-- ---- P3 to P5: the sector of the byte at which cluster n begins, for every call
 
-abbrev pub pointer : Moved → Answer
-pointer (To p) = is p
-pointer Beyond = refused 1
+abbrev pub sectorAt : Kind → ℕ → ℕ
+sectorAt k n = clusterAt (512 * firstData k) (clusterBytes k) n / 512
+
+-- ---- P6 and P7: a stamp's words
+
+abbrev pub stamp : ℕ → ℕ → ℕ → ℕ → ℕ → ℕ → Stamp
+stamp year month day hour minute step = record { hour = hour; minute = minute; step = step; year = year - 1980; month = month; day = day }
+
+abbrev pub timeAnswer : Packed → Answer
+timeAnswer (Words time date) = is time
+timeAnswer OutOfRange = refused (stampNumber OutOfRange)
+
+abbrev pub dateAnswer : Packed → Answer
+dateAnswer (Words time date) = is date
+dateAnswer OutOfRange = refused (stampNumber OutOfRange)
+
+-- ---- P8 to P10: what close and seek answer on a sound volume, by a live handle whose pointer is 10
+
+pub record Scene : Type 0 where
+  pub kind : Kind
+  pub image : List ℕ
+  pub table : List ℕ
+  pub handle : ℕ
+  pub of-kind : OfKind image kind
+  pub sound : Sound kind image
+  pub live : LiveAt table handle image (rootAt kind) (rootEntries kind)
+  pub pointer : pointerOf table handle ≡ 10
+
+abbrev pub callAnswer : Outcome → Answer
+callAnswer o = cond (eqb (o .number) 0) (is (o .value)) (refused (o .number))
+
+abbrev pub closeAnswer : Scene → Stamp → Answer
+closeAnswer x s = callAnswer (closeOutcome (x .image) (x .table) (x .handle) s)
+
+abbrev pub seekAnswer : Scene → ℕ → ℤ → Answer
+seekAnswer x method offset = callAnswer (seekOutcome (x .image) (x .table) (x .handle) method offset)
 
 -- ---- the list
 
--- the bytes of P1 and P2
-abbrev table : List ℕ
-table = 0xFD ∷ 0xFF ∷ 0xFF ∷ 0x03 ∷ 0x40 ∷ 0x00 ∷ []
-
-abbrev stamp : ℕ → ℕ → ℕ → ℕ → ℕ → ℕ → Stamp
-stamp year month day hour minute step = record { hour = hour; minute = minute; step = step; year = year - 1980; month = month; day = day }
-
-abbrev pub cases : List Case
-cases =
-    (is (entryAt 0 table 2) gives is 0x003)
-    ∷ (is (entryAt 0 table 3) gives is 0x004)
-    ∷ (bytes (part (setAt 0 table 3 0xFFF) 3 3) gives bytes (0x03 ∷ 0xF0 ∷ 0xFF ∷ []))
-    ∷ (is (sectorOf kindFD 2) gives is 12)
-    ∷ (is (sectorOf kindFD 355) gives is 718)
-    ∷ (is (sectorOf kindFE 314) gives is 319)
-    ∷ (dateOf (packed (stamp 1983 9 1 18 5 29)) gives is 0x0721)
-    ∷ (timeOf (packed (stamp 1983 9 1 18 5 29)) gives is 0x90BD)
-    ∷ (timeOf (packed (stamp 1983 9 1 18 5 30)) gives refused 43)
-    ∷ (pointer (movedBy 10 (negsuc 9)) gives is 0)
-    ∷ (pointer (movedBy 10 (negsuc 10)) gives refused 1)
+abbrev pub cases : Scene → List Case
+cases x =
+    -- P1
+    (is (entryAt 0 sixBytes 2) gives is 0x003)
+    ∷ (is (entryAt 0 sixBytes 3) gives is 0x004)
+    -- P2
+    ∷ (bytes (part (setAt 0 sixBytes 3 0xFFF) 3 3) gives bytes (0x03 ∷ 0xF0 ∷ 0xFF ∷ []))
+    -- P3 to P5
+    ∷ (is (sectorAt kindFD 2) gives is 12)
+    ∷ (is (sectorAt kindFD 355) gives is 718)
+    ∷ (is (sectorAt kindFE 314) gives is 319)
+    -- P6 to P8
+    ∷ (dateAnswer (packed (stamp 1983 9 1 18 5 29)) gives is 0x0721)
+    ∷ (timeAnswer (packed (stamp 1983 9 1 18 5 29)) gives is 0x90BD)
+    ∷ (closeAnswer x (stamp 1983 9 1 18 5 30) gives refused 43)
+    -- P9 and P10
+    ∷ (seekAnswer x 1 (negsuc 9) gives is 0)
+    ∷ (seekAnswer x 1 (negsuc 10) gives refused 1)
+    -- P11 to P13
     ∷ (is (clustersFor (clusterBytes kindFE) 512) gives is 1)
     ∷ (is (clustersFor (clusterBytes kindFE) 513) gives is 2)
     ∷ (is (clustersFor (clusterBytes kindFE) 0) gives is 0)
     ∷ []
 
 -- what our definitions give is what the paper prints, case by case
-pub worked : map (λ (c : Case). c .ours) cases ≡ map (λ (c : Case). c .paper) cases
-unfolding entryAt setAt taken kept stored number digits packed timeFits dateFits movedBy clustersFor
-worked = refl
+abbrev pub WorkedNumbers : Type 0
+WorkedNumbers = (x : Scene) → map (λ (c : Case). c .ours) (cases x) ≡ map (λ (c : Case). c .paper) (cases x)

@@ -1,5 +1,15 @@
-// The worked numbers, by topic.
+// The worked numbers that need no volume, by topic.
 use crate::print;
+use calls::numbers;
+use diskette::Kind;
+use diskette::WhichKind;
+use stamps::Packed;
+use stamps::Stamp;
+ghost use Prim.Native.Nat.{_≤_};
+ghost use mathlib.Core.Path.{_≡_};
+ghost use Rattle.diskette.specs.Kinds.{Usable};
+ghost use Rattle.diskette.specs.Places.{lastCluster, sectorOf};
+
 // P1 and P2: entries of a table that starts at byte 0.
 pub fn table_entries() {
     let mut bytes = [0xFDu8, 0xFF, 0xFF, 0x03, 0x40, 0x00];
@@ -18,55 +28,55 @@ pub fn table_entries() {
     print::line_end();
 }
 
-// The sector at which a cluster starts, and 0 where the kind has no such cluster.
+// The sector at which cluster n of the kind starts: that of its first byte, where read, write and view find it.
+fn sector_of(k: Kind, n: usize) -> usize
+    requires { ⌜ Usable k ⌝ }
+    requires { ⌜ 2 ≤ n ⌝ }
+    requires { ⌜ n ≤ lastCluster k ⌝ }
+    ensures { λ r. ⌜ r ≡ sectorOf k n ⌝ }
+{
+    contents::byte_in(512 * k.first_data(), k.cluster_bytes(), n, 0) / 512
+}
+
+// The same by the kind's byte, and 0 where the kind has no such cluster.
 fn sector(byte: u8, n: usize) -> u64 {
-    match diskette::Kind::named(byte) {
-        diskette::WhichKind::Known(k) => {
+    match Kind::named(byte) {
+        WhichKind::Known(k) => {
             if n < 2 {
                 return 0;
             }
             if k.last_cluster() < n {
                 return 0;
             }
-            k.sector(n) as u64
+            sector_of(k, n) as u64
         }
-        diskette::WhichKind::Unknown => 0,
+        WhichKind::Unknown => 0,
     }
 }
 
 // P3 to P5.
 pub fn sectors() {
-    print::decimal(
-        b"P3 FD, cluster 2 is sector ",
-        sector(diskette::Kind::FD, 2),
-    );
-    print::decimal(
-        b"P4 cluster 355 is sector ",
-        sector(diskette::Kind::FD, 355),
-    );
-    print::decimal(
-        b"P5 FE, cluster 314 is sector ",
-        sector(diskette::Kind::FE, 314),
-    );
+    print::decimal(b"P3 FD, cluster 2 is sector ", sector(Kind::FD, 2));
+    print::decimal(b"P4 cluster 355 is sector ", sector(Kind::FD, 355));
+    print::decimal(b"P5 FE, cluster 314 is sector ", sector(Kind::FE, 314));
 }
 
 // A stamp of 1983-09-01 at 18:05 and a two-second step.
-fn evening(step: u32) -> stamps::Packed {
-    let s = stamps::Stamp {
+pub fn evening(step: u32) -> Stamp {
+    Stamp {
         hour: 18,
         minute: 5,
         step,
         year: 3,
         month: 9,
         day: 1,
-    };
-    s.pack()
+    }
 }
 
-// P6 to P8.
+// P6 and P7.
 pub fn stamps() {
-    match evening(29) {
-        stamps::Packed::Words(time, date) => {
+    match evening(29).pack() {
+        Packed::Words(time, date) => {
             print::label(b"P6 1983-09-01 is ");
             print::four_digits(date);
             print::line_end();
@@ -74,37 +84,15 @@ pub fn stamps() {
             print::four_digits(time);
             print::line_end();
         }
-        stamps::Packed::OutOfRange => print::decimal(b"P6 refused by ", 43),
+        Packed::OutOfRange => print::decimal(b"P6 is refused by ", numbers::OUT_OF_RANGE as u64),
     }
-    match evening(30) {
-        stamps::Packed::Words(time, _) => print::decimal(b"P8 the time word is ", time as u64),
-        stamps::Packed::OutOfRange => print::decimal(b"P8 two-second step 30 gives ", 43),
-    }
-}
-
-// The pointer, or the refusal's number, behind its label.
-fn pointer(moved: &[u8], refused: &[u8], offset: i32) {
-    match offset::moved_by(10, offset) {
-        offset::Moved::To(p) => print::decimal(moved, p as u64),
-        offset::Moved::Beyond => print::decimal(refused, 1),
-    }
-}
-
-// P9 and P10: from pointer 10.
-pub fn pointers() {
-    pointer(
-        b"P9 pointer 10, method 1, offset -10 gives ",
-        b"P9 is refused by ",
-        -10,
-    );
-    pointer(b"P10 offset -11 gives ", b"P10 -11 is refused by ", -11);
 }
 
 // How many clusters of an FE diskette a file of that size needs.
 fn clusters(size: u32) -> u64 {
-    match diskette::Kind::named(diskette::Kind::FE) {
-        diskette::WhichKind::Known(k) => k.needed_for(size) as u64,
-        diskette::WhichKind::Unknown => 0,
+    match Kind::named(Kind::FE) {
+        WhichKind::Known(k) => k.needed_for(size) as u64,
+        WhichKind::Unknown => 0,
     }
 }
 

@@ -13,6 +13,7 @@ use Rattle.chains.specs.Write.{accepted}
 use Rattle.diskette.specs.declared.Kind.{Kind}
 use Rattle.opened.specs.Records.{slotOf, accessOf, pointerOf, withPointer, withWritten}
 use Rattle.calls.specs.Outcome.{Row, Outcome, outcome, decided}
+use Rattle.calls.specs.Numbers.{ofNoKind, unsound, invalidHandle, accessDenied}
 use Rattle.calls.specs.Refusals.{theKind, notOfKind, notSound, notLive}
 use Rattle.calls.specs.declared.Answer.{Answer}
 use Rattle.putting.specs.Longer.{roomOf}
@@ -24,10 +25,10 @@ writeCount k img slot pointer n = accepted (roomOf k img slot) pointer n
 
 abbrev pub writeRows : List ℕ → List ℕ → ℕ → List Row
 writeRows img t h =
-    (notOfKind img, 40)
-    ∷ (notSound img, 41)
-    ∷ (notLive img t h, 6)
-    ∷ (eqb (accessOf t h) 0, 5)
+    (notOfKind img, ofNoKind)
+    ∷ (notSound img, unsound)
+    ∷ (notLive img t h, invalidHandle)
+    ∷ (eqb (accessOf t h) 0, accessDenied)
     ∷ []
 
 -- at the pointer of place h, into the file in the slot: "If 0, nothing changes"

@@ -3,6 +3,7 @@ use calls::Answer;
 use calls::Ready;
 use calls::files;
 use calls::make_ready;
+use calls::numbers;
 use diskette::Kind;
 use search::Found;
 ghost use Prim.Native.Nat.{_+_, _<_};
@@ -81,11 +82,11 @@ fn write_on(img: &mut [u8], k: Kind, free: usize, t: &mut [u8], handle: u32, byt
     ensures { λ r. ⌜ Writes (now (img .entry)) (now (t .entry)) handle (now (bytes .entry)) r (now (img .exit)) (now (t .exit)) ⌝ }
 {
     match files::file_open(img, k, t, handle) {
-        Found::Nothing => Answer::refused(6),
+        Found::Nothing => Answer::refused(numbers::INVALID_HANDLE),
         Found::At(slot) => {
             let place = handle as usize;
             if opened::access_at(t, place) == 0 {
-                return Answer::refused(5);
+                return Answer::refused(numbers::ACCESS_DENIED);
             }
             write_at(img, k, free, slot, t, place, bytes)
         }

@@ -2,7 +2,7 @@
 use Prim.Native.Nat.{ℕ, _+_, _*_, _≤_, _<_}
 use native.Mathlib.Omega.{arith}
 use mathlib.Core.Bool.{Bool, true, false, not}
-use mathlib.Core.List.{List}
+use mathlib.Core.List.{List, _∷_}
 use mathlib.Core.Path.{_≡_, refl, sym, _∙_}
 use lib.ListN.{length}
 use Rattle.diskette.specs.Places.{firstData, rootAt, rootEntries, slotAt}
@@ -18,9 +18,12 @@ use Rattle.names.specs.declared.Spelled.{Spelled}
 use Rattle.opened.specs.Records.{placeCount, slotOf}
 use Rattle.opened.specs.Places.{isLive, liveSlot, unusedAt, lowestUnused}
 use Rattle.opened.specs.Laws.Places.{live-slot-is, live-slot-none, live-is}
-use Rattle.calls.specs.Refusals.{fileFound, readOnly, notLive}
+use Rattle.calls.specs.Outcome.{Row}
+use Rattle.calls.specs.Numbers.{tooManyOpen, invalidHandle}
+use Rattle.calls.specs.Refusals.{fileFound, readOnly, notLive, noPlace}
 use Rattle.calls.specs.Ready.{OnVolume}
-use Rattle.calls.specs.Laws.Ready.{on-kind, on-usable, on-area}
+use Rattle.calls.specs.Laws.Ready.{on-kind, on-usable, on-area, volume-past}
+use Rattle.calls.specs.Laws.Rows.{Stops, stops-at, stops-past}
 
 -- ---- what a search finds is one of those searched
 
@@ -43,12 +46,19 @@ module _ (img : List ℕ) (k : Kind) (name : List ℕ) (f : Found) (e : f ≡ sl
       let r : k .root ≤ 4096 = on-usable img k v .few-slots in
       omega arith
 
-pub unused-below : (t : List ℕ) (f : Found) → f ≡ lowestUnused t → (place : ℕ) → f ≡ At place → place < placeCount t
-unfolding lowestUnused
-unused-below t f e place q = below-by (unusedAt t) (placeCount t) place f (rw e (lowest-is (unusedAt t) 0 (placeCount t))) q
+-- ---- the lowest unused place
 
-pub unused-fits : (t : List ℕ) (f : Found) → f ≡ lowestUnused t → (place : ℕ) → f ≡ At place → place < 4294967296
-unused-fits t f e place q = let h : place < placeCount t = unused-below t f e place q in omega arith
+module _ (t : List ℕ) (f : Found) (lowest : f ≡ lowestUnused t) where
+  pub place-stops : f ≡ Nothing → (rows : List Row) → Stops ((noPlace t, tooManyOpen) ∷ rows) tooManyOpen
+  place-stops q rows = stops-at (noPlace t) tooManyOpen rows (rw (← lowest, q)) refl
+
+  module _ (place : ℕ) (at : f ≡ At place) where
+    pub unused-below : place < placeCount t
+    unfolding lowestUnused
+    unused-below = below-by (unusedAt t) (placeCount t) place f (rw lowest (lowest-is (unusedAt t) 0 (placeCount t))) at
+
+    pub unused-fits : place < 4294967296
+    unused-fits = let h : place < placeCount t = unused-below in omega arith
 
 -- ---- a volume that is ready
 
@@ -86,10 +96,16 @@ module _ (img : List ℕ) (k : Kind) (t : List ℕ) (h : ℕ) (f : Found) (e : f
       (not-live-by (isLive t h img (rootAt k) (rootEntries k))
       (λ x. live-slot-none t h img (rootAt k) (rootEntries k) .0 (sym e ∙ q) (live-is t h img (rootAt k) (rootEntries k) .0 x)))
 
+  pub handle-stops : OnVolume img k → f ≡ Nothing → (rows : List Row) → Stops ((notLive img t h, invalidHandle) ∷ rows) invalidHandle
+  handle-stops v q rows = stops-at (notLive img t h) invalidHandle rows (not-live v q) refl
+
   module _ (slot : ℕ) (q : f ≡ At slot) where
     pub live-passed : OnVolume img k → notLive img t h ≡ false
     unfolding notLive
     live-passed v = rw (on-kind img k v, live-is t h img (rootAt k) (rootEntries k) .1 (live-slot-is t h img (rootAt k) (rootEntries k) slot (sym e ∙ q) .0))
+
+    pub handle-past : OnVolume img k → (m n : ℕ) (rows : List Row) → Stops rows n → Stops ((notLive img t h, m) ∷ rows) n
+    handle-past v m n rows x = stops-past (notLive img t h) m n rows (live-passed v) x
 
     pub live-slot : slot ≡ slotOf t h
     live-slot = sym (live-slot-is t h img (rootAt k) (rootEntries k) slot (sym e ∙ q) .1)
@@ -109,3 +125,6 @@ module _ (img : List ℕ) (k : Kind) (t : List ℕ) (h : ℕ) (f : Found) (e : f
 
     pub live-counted : h < placeCount t
     live-counted = live-slot-is t h img (rootAt k) (rootEntries k) slot (sym e ∙ q) .0 .counted
+
+-- the rows in front of every call by a handle, for `search`
+pub ruleset reached = (volume-past, handle-stops, handle-past)

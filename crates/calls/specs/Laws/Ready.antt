@@ -24,22 +24,23 @@ use Rattle.sound.specs.Judged.{checkOf, isSound, isSoundVerdict}
 use Rattle.sound.specs.Laws.OneAnswer.{checked-is}
 use Rattle.sound.specs.declared.Verdict.{Verdict}
 use Rattle.sound.specs.declared.Verdict.the-variants.{Sound, Finding}
-use Rattle.calls.specs.Outcome.{Row, Outcome, outcome, decided}
+use Rattle.calls.specs.Outcome.{Row}
+use Rattle.calls.specs.Numbers.{ofNoKind, unsound}
 use Rattle.calls.specs.Refusals.{notOfKind, notSound, isUnknown, kindFound, theKind}
 use Rattle.calls.specs.Ready.{readyBy, readyOf, OnVolume}
-use Rattle.calls.specs.Laws.Rows.{row-holds, row-passed}
+use Rattle.calls.specs.Laws.Rows.{Stops, stops-at, stops-past}
 use Rattle.calls.specs.declared.Ready.{Ready}
 use Rattle.calls.specs.declared.Ready.the-variants.{Refused, Volume}
 
 -- ---- the code: w is the kind that was found, v what check answered
 
 module _ (img : List ℕ) (w : WhichKind) (e : w ≡ kindOfImage img) where
-  pub ready-no-kind : w ≡ Unknown → Refused 40 ≡ readyOf img
+  pub ready-no-kind : w ≡ Unknown → Refused ofNoKind ≡ readyOf img
   unfolding readyOf
   ready-no-kind q = rw (sym e ∙ q)
 
   module _ (k : Kind) (q : w ≡ Known k) (v : Verdict) (c : Checked img v) where
-    pub ready-unsound : (n p : ℕ) → v ≡ Finding n p → Refused 41 ≡ readyOf img
+    pub ready-unsound : (n p : ℕ) → v ≡ Finding n p → Refused unsound ≡ readyOf img
     unfolding readyOf
     ready-unsound n p f = rw (sym e ∙ q, sym (checked-is c) ∙ f)
 
@@ -68,6 +69,10 @@ module _ (img : List ℕ) (k : Kind) (v : OnVolume img k) where
   pub sound-passed : notSound img ≡ false
   sound-passed = ap not (v .sound)
 
+  -- rows 40 and 41 are passed
+  pub volume-past : (i j n : ℕ) (rows : List Row) → Stops rows n → Stops ((notOfKind img, i) ∷ (notSound img, j) ∷ rows) n
+  volume-past i j n rows x = stops-past (notOfKind img) i n ((notSound img, j) ∷ rows) known-passed (stops-past (notSound img) j n rows sound-passed x)
+
 -- ---- from what ready answered
 
 one-ready : (k j : Kind) (x y : ℕ) → Volume k x ≡ Volume j y → (k ≡ j) × (x ≡ y)
@@ -86,8 +91,8 @@ sound-by img v e = ap isSoundVerdict e
 on-by : (img : List ℕ) (w : WhichKind) (v : Verdict) → kindOfImage img ≡ w → checkOf img ≡ v → (k : Kind) (free : ℕ) → readyBy w v ≡ Volume k free → OnVolume img k
 on-by img (Known j) (Sound files x held aside) ew ev k free q =
     record { known = ew ∙ ap Known (one-ready j k x free q .0); sound = sound-by img (Sound files x held aside) ev }
-on-by img (Known j) (Finding n p) ew ev k free q = refused-not (OnVolume img k) 41 k free q
-on-by img Unknown v ew ev k free q = refused-not (OnVolume img k) 40 k free q
+on-by img (Known j) (Finding n p) ew ev k free q = refused-not (OnVolume img k) unsound k free q
+on-by img Unknown v ew ev k free q = refused-not (OnVolume img k) ofNoKind k free q
 
 -- a finding is no count: what is left after it holds
 counted : (B : ℕ → Type 0) (n : ℕ) (Rest : Verdict → Type 0) (files free held aside : ℕ) → OrElse ltb B (Finding n) Rest (Sound files free held aside)
@@ -114,27 +119,22 @@ count-by img (Known j) (Sound files x held aside) ew ev k free q =
     let o = one-ready j k x free q in
     let c : AnswersBy (kindOfImage img) img (Sound files x held aside) = subst (AnswersBy (kindOfImage img) img) ev (check-answers img .is) in
     sym (o .1) ∙ free-by k img (kindOfImage img) files x held aside (ew ∙ ap Known (o .0)) c
-count-by img (Known j) (Finding n p) ew ev k free q = refused-not (free ≡ freeOf k img) 41 k free q
-count-by img Unknown v ew ev k free q = refused-not (free ≡ freeOf k img) 40 k free q
+count-by img (Known j) (Finding n p) ew ev k free q = refused-not (free ≡ freeOf k img) unsound k free q
+count-by img Unknown v ew ev k free q = refused-not (free ≡ freeOf k img) ofNoKind k free q
 
--- the number and the first two rows
-pub record FirstRows (img : List ℕ) (n : ℕ) : Type 0 where
-  pub answer : (rows : List Row) (effect : Outcome) (t b : List ℕ) → decided ((notOfKind img, 40) ∷ (notSound img, 41) ∷ rows) effect img t b ≡ outcome n 0 img t b
-
-first-by : (img : List ℕ) (w : WhichKind) (v : Verdict) → kindOfImage img ≡ w → checkOf img ≡ v → (n : ℕ) → readyBy w v ≡ Refused n → FirstRows img n
-first-by img (Known j) (Sound files x held aside) ew ev n q = volume-not (FirstRows img n) n j x q
-first-by img (Known j) (Finding m p) ew ev n q =
-    let e : 41 ≡ n = cc in
-    record {
-      answer = λ rows effect t b. rw (← e)
-          (row-passed effect img t b (notOfKind img) 40 ((notSound img, 41) ∷ rows) (ap isUnknown ew)
-          ∙ row-holds effect img t b (notSound img) 41 rows (ap not (sound-by img (Finding m p) ev)) (omega arith));
-    }
-first-by img Unknown v ew ev n q =
-    let e : 40 ≡ n = cc in
-    record {
-      answer = λ rows effect t b. rw (← e) (row-holds effect img t b (notOfKind img) 40 ((notSound img, 41) ∷ rows) (ap isUnknown ew) (omega arith));
-    }
+-- ready refuses by the number of the first two rows
+stops-by : (img : List ℕ) (w : WhichKind) (v : Verdict) → kindOfImage img ≡ w → checkOf img ≡ v → (n : ℕ) → readyBy w v ≡ Refused n
+    → (rows : List Row) → Stops ((notOfKind img, ofNoKind) ∷ (notSound img, unsound) ∷ rows) n
+stops-by img (Known j) (Sound files x held aside) ew ev n q rows = volume-not _ n j x q
+stops-by img (Known j) (Finding m p) ew ev n q rows =
+    let e : unsound ≡ n = cc in
+    subst (Stops ((notOfKind img, ofNoKind) ∷ (notSound img, unsound) ∷ rows)) e
+    (stops-past (notOfKind img) ofNoKind unsound ((notSound img, unsound) ∷ rows) (ap isUnknown ew)
+    (stops-at (notSound img) unsound rows (ap not (sound-by img (Finding m p) ev)) refl))
+stops-by img Unknown v ew ev n q rows =
+    let e : ofNoKind ≡ n = cc in
+    subst (Stops ((notOfKind img, ofNoKind) ∷ (notSound img, unsound) ∷ rows)) e
+    (stops-at (notOfKind img) ofNoKind ((notSound img, unsound) ∷ rows) (ap isUnknown ew) refl)
 
 module _ (img : List ℕ) (r : Ready) (e : r ≡ readyOf img) where
   pub ready-on : (k : Kind) (free : ℕ) → r ≡ Volume k free → OnVolume img k
@@ -145,6 +145,6 @@ module _ (img : List ℕ) (r : Ready) (e : r ≡ readyOf img) where
   unfolding readyOf
   ready-free k free q = count-by img (kindOfImage img) (checkOf img) refl refl k free (sym e ∙ q)
 
-  pub ready-refused : (n : ℕ) → r ≡ Refused n → FirstRows img n
+  pub not-ready : (n : ℕ) → r ≡ Refused n → (rows : List Row) → Stops ((notOfKind img, ofNoKind) ∷ (notSound img, unsound) ∷ rows) n
   unfolding readyOf
-  ready-refused n q = first-by img (kindOfImage img) (checkOf img) refl refl n (sym e ∙ q)
+  not-ready n q rows = stops-by img (kindOfImage img) (checkOf img) refl refl n (sym e ∙ q) rows

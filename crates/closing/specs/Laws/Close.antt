@@ -1,4 +1,4 @@
--- Close: each way out, by the rows passed before it. Only one outcome fits.
+-- Close: what it refuses and what it leaves, by its rows. Only one outcome fits.
 use Prim.Native.Nat.{ℕ, _+_, _/_, _%_, _<_}
 use native.Mathlib.Omega.{arith}
 use mathlib.Core.Bool.{Bool, true, false, cond, not}
@@ -8,23 +8,22 @@ use borrow.Author.Tests.{eqb-false, not-true, not-false}
 use Rattle.diskette.specs.Places.{rootAt, rootEntries, slotAt}
 use Rattle.diskette.specs.declared.Kind.{Kind}
 use Rattle.search.specs.declared.Found.{Found}
-use Rattle.search.specs.declared.Found.the-variants.{At, Nothing}
+use Rattle.search.specs.declared.Found.the-variants.{At}
 use Rattle.fields.specs.Fields.{attrOf, withAttr, withTime, withDate}
 use Rattle.directory.specs.Slots.{hasBit}
 use Rattle.stamps.specs.Stamps.{packed}
 use Rattle.stamps.specs.declared.Stamp.{Stamp}
 use Rattle.stamps.specs.declared.Packed.{Packed}
-use Rattle.stamps.specs.declared.Packed.the-variants.{Words, OutOfRange}
+use Rattle.stamps.specs.declared.Packed.the-variants.{Words}
 use Rattle.opened.specs.Records.{writtenOf, cleared}
 use Rattle.opened.specs.Places.{liveSlot}
 use Rattle.calls.specs.Outcome.{Outcome, refusal, decided, refusedBy, answering}
-use Rattle.calls.specs.Ready.{readyOf, OnVolume}
-use Rattle.closing.specs.Close.{archived, stamped, closeOutcome, Closes}
-use Rattle.calls.specs.Laws.Ready.{on-kind, known-passed, sound-passed, ready-refused}
-use Rattle.calls.specs.Laws.Files.{not-live, live-passed, live-slot}
+use Rattle.calls.specs.Ready.{OnVolume}
+use Rattle.closing.specs.Close.{archived, stamped, closeRows, closeOutcome, Closes}
+use Rattle.calls.specs.Laws.Rows.{Stops, stopped}
+use Rattle.calls.specs.Laws.Ready.{on-kind, known-passed, sound-passed}
+use Rattle.calls.specs.Laws.Files.{live-passed, live-slot}
 use Rattle.calls.specs.declared.Answer.{Answer}
-use Rattle.calls.specs.declared.Ready.{Ready}
-use Rattle.calls.specs.declared.Ready.the-variants.{Refused}
 
 pub closes-only : {img t : List ℕ} {h : ℕ} {s : Stamp} {r r′ : Answer} {l l′ m m′ : List ℕ} → Closes img t h s r l m → Closes img t h s r′ l′ m′
     → (r .number ≡ r′ .number) × (r .value ≡ r′ .value) × (l ≡ l′) × (m ≡ m′)
@@ -60,29 +59,17 @@ module _ (l m n : List ℕ) (b w : Bool) (is : b ≡ w) where
   pub was-written : not b ≡ false → n ≡ m → n ≡ cond w m l
   was-written e q = rw (sym is ∙ not-false b e, q)
 
--- ---- the ways out
+-- ---- one row stops it, or all are passed
 
-module _ (img t : List ℕ) (h : ℕ) (s : Stamp) where
-  abbrev Refuses : ℕ → Type 0
-  Refuses n = (a : Answer) → a ≡ refusedBy n → Closes img t h s a img t
-
-  pub close-not-ready : (r : Ready) → r ≡ readyOf img → (n : ℕ) → r ≡ Refused n → Refuses n
+module _ (img t : List ℕ) (h : ℕ) (s : Stamp) (a : Answer) where
+  pub close-refused : (n : ℕ) → a ≡ refusedBy n → Stops (closeRows img t h s) n → Closes img t h s a img t
   unfolding closeOutcome
-  close-not-ready r e n q a x = record { is = rw x (sym (ready-refused img r e n q .answer _ _ t [])) }
+  close-refused n x q = record { is = rw x (sym (stopped _ n q _ img t [])) }
 
-  module _ (k : Kind) (v : OnVolume img k) (p : Packed) (pack : p ≡ packed s) where
-    pub close-43 : p ≡ OutOfRange → Refuses 43
-    unfolding closeOutcome decided refusal
-    close-43 q a x = record { is = rw (x, known-passed img k v, sound-passed img k v, ← pack, q) }
-
-    module _ (time date : ℕ) (words : p ≡ Words time date) (f : Found) (found : f ≡ liveSlot t h img (rootAt k) (rootEntries k)) where
-      pub close-6 : f ≡ Nothing → Refuses 6
-      unfolding closeOutcome decided refusal
-      close-6 q a x = record { is = rw (x, known-passed img k v, sound-passed img k v, ← pack, words, not-live img k t h f found v q) }
-
-      pub close-well : (slot : ℕ) → f ≡ At slot → (e : ℕ) → e ≡ slotAt k slot → (l : List ℕ) → l ≡ cond (writtenOf t h) (stamped img e time date) img
-          → (m : List ℕ) → m ≡ cleared t h → (a : Answer) → a ≡ answering 0 → Closes img t h s a l m
-      unfolding closeOutcome decided refusal
-      close-well slot at e i l j m c a x = record {
-        is = rw (x, j, c, i, live-slot img k t h f found slot at, known-passed img k v, sound-passed img k v, ← pack, words, live-passed img k t h f found slot at v, on-kind img k v);
-      }
+  pub close-well : (k : Kind) → OnVolume img k → (p : Packed) → p ≡ packed s → (time date : ℕ) → p ≡ Words time date
+      → (f : Found) → f ≡ liveSlot t h img (rootAt k) (rootEntries k) → (slot : ℕ) → f ≡ At slot → (e : ℕ) → e ≡ slotAt k slot
+      → (l : List ℕ) → l ≡ cond (writtenOf t h) (stamped img e time date) img → (m : List ℕ) → m ≡ cleared t h → a ≡ answering 0 → Closes img t h s a l m
+  unfolding closeOutcome decided refusal
+  close-well k v p pack time date words f found slot at e i l j m c x = record {
+    is = rw (x, j, c, i, live-slot img k t h f found slot at, known-passed img k v, sound-passed img k v, ← pack, words, live-passed img k t h f found slot at v, on-kind img k v);
+  }

@@ -1,25 +1,18 @@
--- Delete: each way out, by the rows passed before it. Only one outcome fits.
+-- Delete: what it refuses and what it leaves, by its rows. Only one outcome fits.
 use Prim.Native.Nat.{ℕ}
-use mathlib.Core.Bool.{Bool, true, false, not}
+use mathlib.Core.Bool.{Bool, false}
 use mathlib.Core.List.{List, []}
 use mathlib.Core.Path.{_≡_, sym, ap, _∙_}
-use Rattle.diskette.specs.Places.{rootAt, rootEntries}
 use Rattle.diskette.specs.declared.Kind.{Kind}
-use Rattle.search.specs.declared.Found.{Found}
-use Rattle.search.specs.declared.Found.the-variants.{At, Nothing}
-use Rattle.directory.specs.Search.{slotNamed}
-use Rattle.names.specs.Reading.{nameOf}
-use Rattle.names.specs.declared.Spelled.{Spelled}
 use Rattle.opened.specs.Places.{isOpen}
 use Rattle.calls.specs.Outcome.{Outcome, refusal, decided, refusedBy, answering}
 use Rattle.calls.specs.Refusals.{readOnly}
-use Rattle.calls.specs.Ready.{readyOf, OnVolume}
-use Rattle.deleting.specs.Delete.{erasedIn, deleteOutcome, Deletes, DeletesSlot}
-use Rattle.calls.specs.Laws.Ready.{on-kind, known-passed, sound-passed, ready-refused}
-use Rattle.calls.specs.Laws.Files.{found-is}
+use Rattle.calls.specs.Ready.{OnVolume}
+use Rattle.calls.specs.Laws.Rows.{Stops, stopped}
+use Rattle.calls.specs.Laws.Ready.{on-kind}
+use Rattle.calls.specs.Laws.Named.{FileNamed}
 use Rattle.calls.specs.declared.Answer.{Answer}
-use Rattle.calls.specs.declared.Ready.{Ready}
-use Rattle.calls.specs.declared.Ready.the-variants.{Refused}
+use Rattle.deleting.specs.Delete.{deleteRows, erasedIn, deleteOutcome, Deletes, lastRows, DeletesSlot}
 
 pub deletes-only : {img t s : List ℕ} {r r′ : Answer} {m m′ : List ℕ} → Deletes img t s r m → Deletes img t s r′ m′
     → (r .number ≡ r′ .number) × (r .value ≡ r′ .value) × (m ≡ m′)
@@ -27,47 +20,24 @@ deletes-only x y =
     let e = x .is ∙ sym (y .is) in
     (ap (λ (o : Outcome). o .number) e, ap (λ (o : Outcome). o .value) e, ap (λ (o : Outcome). o .image) e)
 
--- ---- the ways out
+-- ---- one row stops it, or the last two decide
 
-module _ (img t s : List ℕ) where
-  abbrev Refuses : ℕ → Type 0
-  Refuses number = (a : Answer) → a ≡ refusedBy number → Deletes img t s a img
-
-  pub delete-not-ready : (r : Ready) → r ≡ readyOf img → (number : ℕ) → r ≡ Refused number → Refuses number
+module _ (img t s : List ℕ) (a : Answer) where
+  pub delete-refused : (n : ℕ) → a ≡ refusedBy n → Stops (deleteRows img t s) n → Deletes img t s a img
   unfolding deleteOutcome
-  delete-not-ready r e number q a x = record { is = rw x (sym (ready-refused img r e number q .answer _ _ t [])) }
+  delete-refused n x q = record { is = rw x (sym (stopped _ n q _ img t [])) }
 
-  module _ (k : Kind) (v : OnVolume img k) (g : Spelled) (given : g ≡ nameOf s) where
-    pub delete-42 : not (g .fits) ≡ true → Refuses 42
-    unfolding deleteOutcome decided refusal
-    delete-42 h a x = record { is = rw (x, known-passed img k v, sound-passed img k v, ← given, h) }
-
-    module _ (fits : not (g .fits) ≡ false) (f : Found) (found : f ≡ slotNamed img (rootAt k) (rootEntries k) (g .name)) where
-      pub delete-2 : f ≡ Nothing → Refuses 2
-      unfolding deleteOutcome decided refusal
-      delete-2 h a x = record { is = rw (x, known-passed img k v, sound-passed img k v, found-is img k v s g given f found, ← given, fits, h) }
-
-      pub delete-rest : (slot : ℕ) → f ≡ At slot → (a : Answer) (m : List ℕ) → DeletesSlot img t k slot a m → Deletes img t s a m
-      unfolding deleteOutcome decided refusal
-      delete-rest slot at a m y = record {
-        is = rw (known-passed img k v, sound-passed img k v, found-is img k v s g given f found, ← given, fits, at, on-kind img k v) (y .is);
-      }
+  pub delete-rest : (k : Kind) → OnVolume img k → (slot : ℕ) (m : List ℕ) → DeletesSlot img t k slot a m → FileNamed img s slot → Deletes img t s a m
+  unfolding deleteOutcome decided refusal
+  delete-rest k v slot m y i = record { is = rw (i .known, i .sound, i .good, i .found, on-kind img k v) (y .is) }
 
 -- ---- the last two rows
 
-module _ (img t : List ℕ) (k : Kind) (slot : ℕ) (o : Bool) (used : o ≡ isOpen t slot) where
-  abbrev RefusesSlot : Type 0
-  RefusesSlot = (a : Answer) → a ≡ refusedBy 5 → DeletesSlot img t k slot a img
+module _ (img t : List ℕ) (k : Kind) (slot : ℕ) (a : Answer) where
+  pub last-refused : (n : ℕ) → a ≡ refusedBy n → Stops (lastRows img t slot) n → DeletesSlot img t k slot a img
+  last-refused n x q = record { is = rw x (sym (stopped _ n q _ img t [])) }
 
-  pub delete-open : o ≡ true → RefusesSlot
+  pub delete-well : (o : Bool) → o ≡ isOpen t slot → o ≡ false → (b : Bool) → b ≡ readOnly img slot → b ≡ false
+      → (m : List ℕ) → m ≡ erasedIn k img slot → a ≡ answering 0 → DeletesSlot img t k slot a m
   unfolding decided refusal
-  delete-open h a x = record { is = rw (x, ← used, h) }
-
-  module _ (shut : o ≡ false) (b : Bool) (kept : b ≡ readOnly img slot) where
-    pub delete-read-only : b ≡ true → RefusesSlot
-    unfolding decided refusal
-    delete-read-only h a x = record { is = rw (x, ← used, shut, ← kept, h) }
-
-    pub delete-well : b ≡ false → (m : List ℕ) → m ≡ erasedIn k img slot → (a : Answer) → a ≡ answering 0 → DeletesSlot img t k slot a m
-    unfolding decided refusal
-    delete-well h m j a x = record { is = rw (x, j, ← used, shut, ← kept, h) }
+  delete-well o used shut b kept free m j x = record { is = rw (x, j, ← used, shut, ← kept, free) }

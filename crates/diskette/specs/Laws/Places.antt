@@ -2,21 +2,22 @@
 use Prim.Native.Nat.{ℕ, _+_, _-_, _*_, _/_, _≤_, _<_}
 use native.Mathlib.Omega.{arith}
 use native.Mathlib.Nat.{mul-le-mul-right}
-use Rattle.diskette.specs.Places.{firstData, clusterBytes, clusters, lastCluster, rootEntries, slotAt, sectorOf, clusterAt}
+use mathlib.Core.Path.{_≡_}
+use Rattle.chains.specs.Content.{clusterAt}
+use Rattle.diskette.specs.Places.{firstData, clusterBytes, clusters, lastCluster, rootEntries, slotAt, sectorOf}
 use Rattle.diskette.specs.Kinds.{Usable}
 use Rattle.diskette.specs.declared.Kind.{Kind}
+
+-- where the bytes of cluster n begin, as read, write and view have it, is the beginning of the sector that document 01 says
+pub cluster-starts : (k : Kind) (n : ℕ) → clusterAt (512 * firstData k) (clusterBytes k) n ≡ 512 * sectorOf k n
+unfolding clusterAt
+cluster-starts k n = omega arith
 
 module _ (k : Kind) (u : Usable k) where
   -- (The one product of two variables: `omega` takes it as an unknown.)
   pub cluster-within : (n : ℕ) → 2 ≤ n → n ≤ lastCluster k → sectorOf k n + k .per ≤ k .sectors
   cluster-within n h l =
       let m : (n - 2 + 1) * k .per ≤ clusters k * k .per = mul-le-mul-right (k .per) (omega arith) in
-      omega arith
-
-  -- clusters follow one another and don't overlap
-  pub cluster-after : (c d : ℕ) → 2 ≤ c → c < d → clusterAt k c + clusterBytes k ≤ clusterAt k d
-  cluster-after c d h l =
-      let m : (c - 2 + 1) * k .per ≤ (d - 2) * k .per = mul-le-mul-right (k .per) (omega arith) in
       omega arith
 
   -- a slot lies before the data, after the tables

@@ -18,6 +18,7 @@ use Rattle.directory.specs.Slots.{standingOf, isOpen, OpenAt, LiveAt}
 use Rattle.directory.specs.Laws.Slots.{open-is, live-is}
 use Rattle.directory.specs.declared.Standing.{Standing}
 use Rattle.directory.specs.declared.Standing.the-variants.{NeverUsed, Erased, Label, Plain}
+use Rattle.calls.specs.Numbers.{ofNoKind}
 use Rattle.entries.specs.Entry.{nothing, asStored, isTold, toldAt, onKind, entryTold, Told}
 use Rattle.entries.specs.declared.EntryAnswer.{EntryAnswer}
 
@@ -42,7 +43,7 @@ module _ (l : List ℕ) (s : ℕ) (r : WhichKind) (p : r ≡ kindOfImage l) wher
   unfolding entryTold
   told-on x h = record { is = h ∙ ap (λ w. onKind w l s) p }
 
-  pub not-of-a-kind : (x : EntryAnswer) → r ≡ Unknown → x ≡ nothing 40 → Told l s x
+  pub not-of-a-kind : (x : EntryAnswer) → r ≡ Unknown → x ≡ nothing ofNoKind → Told l s x
   not-of-a-kind x q h = told-on x (h ∙ rw q)
 
   module _ (k : Kind) (q : r ≡ Known k) where
@@ -64,7 +65,7 @@ module _ (l : List ℕ) (s : ℕ) (r : WhichKind) (p : r ≡ kindOfImage l) wher
 -- ---- what the answer means
 
 module _ (l : List ℕ) (s : ℕ) where
-  pub told-refused : kindOfImage l ≡ Unknown → entryTold l s ≡ nothing 40
+  pub told-refused : kindOfImage l ≡ Unknown → entryTold l s ≡ nothing ofNoKind
   unfolding entryTold
   told-refused q = rw q
 

@@ -15,6 +15,7 @@ use Rattle.diskette.specs.Laws.Kinds.{OfKnown, NamedBy, named-is}
 use Rattle.diskette.specs.declared.Kind.{Kind}
 use Rattle.diskette.specs.declared.WhichKind.{WhichKind}
 use Rattle.diskette.specs.declared.WhichKind.the-variants.{Known, Unknown}
+use Rattle.calls.specs.Numbers.{ofNoKind}
 use Rattle.formatting.specs.Format.{tableHead, blank, AfterFormat, afterFormat, formattedAs, formatted, Formatted}
 
 -- ---- the kind
@@ -59,12 +60,12 @@ module _ (kind : ℕ) (l : List ℕ) (r : WhichKind) (p : r ≡ named kind) wher
   unfolding formatted
   formatted-by n m h = record { is = h ∙ ap (λ w. formattedAs w l) p }
 
-  pub no-such-kind : r ≡ Unknown → Formatted l kind 40 l
-  no-such-kind q = formatted-by 40 l (rw q)
+  pub no-such-kind : r ≡ Unknown → Formatted l kind ofNoKind l
+  no-such-kind q = formatted-by ofNoKind l (rw q)
 
   module _ (k : Kind) (q : r ≡ Known k) where
-    pub wrong-length : length l ≢ 512 * k .sectors → Formatted l kind 40 l
-    wrong-length d = formatted-by 40 l (rw (q, ne-eqb (length l) (512 * k .sectors) d))
+    pub wrong-length : length l ≢ 512 * k .sectors → Formatted l kind ofNoKind l
+    wrong-length d = formatted-by ofNoKind l (rw (q, ne-eqb (length l) (512 * k .sectors) d))
 
     pub made-blank : (m : List ℕ) → length l ≡ 512 * k .sectors → m ≡ blank k → Formatted l kind 0 m
     made-blank m e h = formatted-by 0 m (rw (q, eq-eqb (length l) (512 * k .sectors) e, h))
@@ -77,11 +78,11 @@ module _ (kind : ℕ) (img : List ℕ) where
     unfolding formatted
     format-makes e = rw (q, eq-eqb (length img) (512 * k .sectors) e)
 
-    pub format-wrong-length : length img ≢ 512 * k .sectors → formatted kind img ≡ afterFormat 40 img
+    pub format-wrong-length : length img ≢ 512 * k .sectors → formatted kind img ≡ afterFormat ofNoKind img
     unfolding formatted
     format-wrong-length d = rw (q, ne-eqb (length img) (512 * k .sectors) d)
 
-  pub format-unknown : named kind ≡ Unknown → formatted kind img ≡ afterFormat 40 img
+  pub format-unknown : named kind ≡ Unknown → formatted kind img ≡ afterFormat ofNoKind img
   unfolding formatted
   format-unknown q = rw q
 
@@ -98,9 +99,9 @@ format-made img kind after s = by (named kind) (named-is kind) (s .is)
     by : (w : WhichKind) → OfKnown (NamedBy kind) w → afterFormat 0 after ≡ formattedAs w img → (k : Kind) × Made kind img after k
     by (Known k) n e = elim (ℕ-discrete (length img) (512 * k .sectors)) [
       | yes l ↦ (k, record { listed = n; long = l; whole = ap (λ (o : AfterFormat). o .image) (rw (eq-eqb (length img) (512 * k .sectors) l) at e) })
-      | no d ↦ absurd (let z : 0 ≡ 40 = ap (λ (o : AfterFormat). o .number) (rw (ne-eqb (length img) (512 * k .sectors) d) at e) in omega arith)
+      | no d ↦ absurd (let z : 0 ≡ ofNoKind = ap (λ (o : AfterFormat). o .number) (rw (ne-eqb (length img) (512 * k .sectors) d) at e) in omega arith)
     ]
-    by Unknown n e = absurd (let z : 0 ≡ 40 = ap (λ (o : AfterFormat). o .number) e in omega arith)
+    by Unknown n e = absurd (let z : 0 ≡ ofNoKind = ap (λ (o : AfterFormat). o .number) e in omega arith)
 
 -- ---- no second outcome satisfies the contract
 

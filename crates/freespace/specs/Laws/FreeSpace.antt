@@ -22,6 +22,7 @@ use Rattle.sound.specs.Laws.IsSound.{known-says}
 use Rattle.sound.specs.Laws.OneAnswer.{checked-is}
 use Rattle.sound.specs.declared.Verdict.{Verdict}
 use Rattle.sound.specs.declared.Verdict.the-variants.{Sound as Fine, Finding}
+use Rattle.calls.specs.Numbers.{ofNoKind, unsound}
 use Rattle.freespace.specs.FreeSpace.{spaceWith, noSpace, spaceOn, freeSpace, Spaced}
 use Rattle.freespace.specs.declared.FreeAnswer.{FreeAnswer}
 
@@ -54,7 +55,7 @@ module _ (l : List ℕ) (r : WhichKind) (p : r ≡ kindOfImage l) where
   unfolding freeSpace
   spaced-on x h = record { is = h ∙ ap (λ w. spaceOn w l) p }
 
-  pub not-of-a-kind : (x : FreeAnswer) → r ≡ Unknown → x ≡ noSpace 40 → Spaced l x
+  pub not-of-a-kind : (x : FreeAnswer) → r ≡ Unknown → x ≡ noSpace ofNoKind → Spaced l x
   not-of-a-kind x q h = spaced-on x (h ∙ rw q)
 
   module _ (k : Kind) (q : r ≡ Known k) where
@@ -66,7 +67,7 @@ module _ (l : List ℕ) (r : WhichKind) (p : r ≡ kindOfImage l) where
       unfolding isSound
       sound-as = ap isSoundVerdict (sym (checked-is a))
 
-      pub with-finding : (x : FreeAnswer) (number place : ℕ) → v ≡ Finding number place → x ≡ noSpace 41 → Spaced l x
+      pub with-finding : (x : FreeAnswer) (number place : ℕ) → v ≡ Finding number place → x ≡ noSpace unsound → Spaced l x
       with-finding x number place e h = spaced-on x (h ∙ rw (q, sound-as, e))
 
       pub with-counts : (x : FreeAnswer) (files free held aside : ℕ) → v ≡ Fine files free held aside → x ≡ spaceWith k free → Spaced l x
@@ -77,13 +78,13 @@ module _ (l : List ℕ) (r : WhichKind) (p : r ≡ kindOfImage l) where
 -- ---- what the answer means
 
 module _ (l : List ℕ) where
-  pub space-unknown : kindOfImage l ≡ Unknown → freeSpace l ≡ noSpace 40
+  pub space-unknown : kindOfImage l ≡ Unknown → freeSpace l ≡ noSpace ofNoKind
   unfolding freeSpace
   space-unknown q = rw q
 
   module _ (k : Kind) (q : kindOfImage l ≡ Known k) where
     -- 41 stands for a volume that is not sound, and for nothing else
-    pub space-unsound : ¬ Sound k l → freeSpace l ≡ noSpace 41
+    pub space-unsound : ¬ Sound k l → freeSpace l ≡ noSpace unsound
     unfolding freeSpace
     space-unsound n = rw (q, false-says (known-says l k q) n)
 

@@ -1,67 +1,36 @@
 -- The formatted volume: sound, without files, all its clusters are free and none is set aside.
 use Prim.Native.Nat.{ℕ, _+_, _-_, _*_}
 use native.Mathlib.Omega.{arith}
-use mathlib.Core.List.{List, []}
-use mathlib.Core.Logic.{inl, inr}
+use mathlib.Core.List.{List}
 use mathlib.Core.Option.{none}
 use mathlib.Core.Path.{_≡_}
 use lib.ListN.{length}
 use borrow.Author.Tests.{eq-eqb}
 use Rattle.chains.specs.Tests.{bit}
 use Rattle.chains.specs.Sums.{sum}
-use Rattle.chains.specs.Values.{free, freeb, asideb}
+use Rattle.chains.specs.Values.{freeb, asideb}
 use Rattle.chains.specs.Laws.Sums.{sum-cong, sum-one, sum-zero}
-use Rattle.chains.specs.Laws.Values.{free-no-use, free-one, free-no-aside, free-sum, aside-sum}
+use Rattle.chains.specs.Laws.Values.{free-one, free-no-aside, free-sum, aside-sum}
 use Rattle.diskette.specs.Kinds.{named, Usable}
 use Rattle.diskette.specs.Places.{clusters, lastCluster}
-use Rattle.diskette.specs.Laws.Images.{image-of-kind}
 use Rattle.diskette.specs.declared.Kind.{Kind}
 use Rattle.diskette.specs.declared.WhichKind.the-variants.{Known}
 use Rattle.sound.specs.Counts.{freeOf, asideOf}
-use Rattle.sound.specs.Files.{valueOf, IsFile}
-use Rattle.sound.specs.Sound.{Sound}
-use Rattle.sound.specs.Laws.Copies.{no-difference-from}
+use Rattle.sound.specs.Files.{valueOf}
 use Rattle.formatting.specs.Format.{blank, formatted}
-use Rattle.formatting.specs.Laws.Blank.{blank-head, blank-agrees, blank-table, blank-slot, blank-bytes, kind-of-blank}
+use Rattle.formatting.specs.Laws.Blank.{blank-table, blank-bytes}
+use Rattle.formatting.specs.Laws.Sound.{blank-no-file, blank-on}
 use Rattle.changes.specs.Files.{Shows}
 use Rattle.history.specs.Promises.{Begins}
 use Rattle.history.specs.World.{world}
+use Rattle.history.specs.Laws.Begins.{on-begins}
 
 module _ (k : Kind) (u : Usable k) (named-so : named (k .byte) ≡ Known k) where
-  no-file : (s : ℕ) → ¬ IsFile k (blank k) s
-  no-file s i = i .1 .0 .0 (blank-slot k u s (i .0))
-
-  blank-sound : Sound k (blank k)
-  blank-sound = (
-    λ s. [],
-    record {
-      tables = no-difference-from k (blank k) (blank-agrees k u) (blank-head k u 1 (omega arith)) (blank-head k u 2 (omega arith));
-      values = λ c x. x .1 (free (blank-table k u c));
-      slots = λ s x. elim (x .1) [
-        | inl y ↦ y .0 (blank-slot k u s (x .0))
-        | inr y ↦ elim y [
-          | inl z ↦ z .0 .0 (blank-slot k u s (x .0))
-          | inr z ↦ elim z [
-            | inl v ↦ v .0 .0 .0 (blank-slot k u s (x .0))
-            | inr v ↦ v .0 .0 .0 (blank-slot k u s (x .0))
-          ]
-        ]
-      ];
-      chains = λ s i. absurd (no-file s i);
-      apart = λ s t c i j x y. absurd (no-file s i);
-      covered = λ c h x. absurd (free-no-use (lastCluster k) (valueOf k (blank k) c) (blank-table k u c) x);
-    },
-  )
-
   pub blank-begins : (t : List ℕ) → Begins k (world (blank k) t)
-  blank-begins t = record {
-    of-kind = image-of-kind (blank k) k .0 (kind-of-blank k u named-so);
-    sound = blank-sound;
-    bytes = blank-bytes k u named-so;
-  }
+  blank-begins t = on-begins k (world (blank k) t) (blank-on k u named-so) (blank-bytes k u named-so)
 
   pub blank-shows : Shows k (blank k) (λ s. none)
-  blank-shows s = no-file s
+  blank-shows s = blank-no-file k u s
 
   pub blank-free : freeOf k (blank k) ≡ clusters k
   blank-free =

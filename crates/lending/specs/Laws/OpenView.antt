@@ -13,6 +13,7 @@ use Rattle.opened.specs.Records.{placeCount, recordBytes, withRecord}
 use Rattle.opened.specs.Places.{lowestUnused}
 use Rattle.opened.specs.Laws.Stores.{length-record, whole-place, record-only}
 use Rattle.calls.specs.Outcome.{Row, Outcome, outcome, refusal, decided}
+use Rattle.calls.specs.Numbers.{ofNoKind, unsound, invalidAccess, breaksRules, fileNotFound, accessDenied, tooManyOpen}
 use Rattle.calls.specs.Refusals.{isNothing, placeFound, notOfKind, notSound, badName, noFile, fileSlot, readOnly}
 use Rattle.calls.specs.Laws.Files.{unused-below, unused-fits}
 use Rattle.opening.specs.Open.{openOutcome}
@@ -55,13 +56,21 @@ unfolding refusal
 still-refused true n rs h j = h
 still-refused false n rs h j = j
 
-no-place : 0 < refusal ((true, 4) ∷ [])
+no-place : 0 < refusal ((true, tooManyOpen) ∷ [])
 unfolding refusal
 no-place = omega arith
 
 module _ (img s : List ℕ) (access : ℕ) where
   abbrev rowsBy : Bool → List Row
-  rowsBy z = (notOfKind img, 40) ∷ (notSound img, 41) ∷ (ltb 2 access, 12) ∷ (badName s, 42) ∷ (noFile img s, 2) ∷ (ltb 0 access && readOnly img (fileSlot img s), 5) ∷ (z, 4) ∷ []
+  rowsBy z =
+      (notOfKind img, ofNoKind)
+      ∷ (notSound img, unsound)
+      ∷ (ltb 2 access, invalidAccess)
+      ∷ (badName s, breaksRules)
+      ∷ (noFile img s, fileNotFound)
+      ∷ (ltb 0 access && readOnly img (fileSlot img s), accessDenied)
+      ∷ (z, tooManyOpen)
+      ∷ []
 
   -- the number that it answers
   abbrev pub numberBy : Found → ℕ
@@ -69,8 +78,12 @@ module _ (img s : List ℕ) (access : ℕ) where
 
   none-refused : 0 < numberBy Nothing
   none-refused =
-      still-refused _ 40 _ (omega arith)
-      (still-refused _ 41 _ (omega arith) (still-refused _ 12 _ (omega arith) (still-refused _ 42 _ (omega arith) (still-refused _ 2 _ (omega arith) (still-refused _ 5 _ (omega arith) no-place)))))
+      still-refused _ ofNoKind _ (omega arith)
+      (still-refused _ unsound _ (omega arith)
+      (still-refused _ invalidAccess _ (omega arith)
+      (still-refused _ breaksRules _ (omega arith)
+      (still-refused _ fileNotFound _ (omega arith)
+      (still-refused _ accessDenied _ (omega arith) no-place)))))
 
   -- the record that it makes
   abbrev pub opened : OpenRecord

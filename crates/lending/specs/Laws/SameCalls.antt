@@ -14,8 +14,9 @@ use Rattle.opened.specs.Changes.{Holds}
 use Rattle.opened.specs.Laws.Stores.{pointer-only}
 use Rattle.opened.specs.Laws.Uses.{only-count}
 use Rattle.calls.specs.Outcome.{Row, Outcome, outcome, decided}
+use Rattle.calls.specs.Numbers.{ofNoKind, unsound, invalidFunction, outOfRange, invalidHandle, accessDenied}
 use Rattle.calls.specs.Refusals.{theKind, notOfKind, notSound, badStamp, notLive, addressOf}
-use Rattle.seeking.specs.Seek.{seekBase, seekMoved, isBeyond, pointerMoved, seekEffect, seekOutcome}
+use Rattle.seeking.specs.Seek.{answerOf, seekBase, seekMoved, isBeyond, seekEffect, seekOutcome}
 use Rattle.closing.specs.Close.{closeEffect, closeOutcome}
 use Rattle.reading.specs.Read.{readCount, readEffect, readOutcome}
 use Rattle.putting.specs.Written.{writtenIn}
@@ -71,13 +72,13 @@ module _ (t : List ℕ) (h : ℕ) (t′ : List ℕ) (h′ : ℕ) (e : recordAt (
     plain-row : (a : Bool) (n : ℕ) → 0 < n → Decided rs rs′ → Decided ((a, n) ∷ rs) ((a, n) ∷ rs′)
     plain-row a n p s = row-same t h t′ h′ e x x′ img buf a a refl n p rs rs′ (λ _. s)
 
-    volume-rows : Decided rs rs′ → Decided ((notOfKind img, 40) ∷ (notSound img, 41) ∷ rs) ((notOfKind img, 40) ∷ (notSound img, 41) ∷ rs′)
+    volume-rows : Decided rs rs′ → Decided ((notOfKind img, ofNoKind) ∷ (notSound img, unsound) ∷ rs) ((notOfKind img, ofNoKind) ∷ (notSound img, unsound) ∷ rs′)
     volume-rows s =
-        row-same t h t′ h′ e x x′ img buf (notOfKind img) (notOfKind img) refl 40 (omega arith) _ _
-        (λ _. row-same t h t′ h′ e x x′ img buf (notSound img) (notSound img) refl 41 (omega arith) rs rs′ (λ _. s))
+        row-same t h t′ h′ e x x′ img buf (notOfKind img) (notOfKind img) refl ofNoKind (omega arith) _ _
+        (λ _. row-same t h t′ h′ e x x′ img buf (notSound img) (notSound img) refl unsound (omega arith) rs rs′ (λ _. s))
 
-    live-row : (Lives → Decided rs rs′) → Decided ((notLive img t h, 6) ∷ rs) ((notLive img t′ h′, 6) ∷ rs′)
-    live-row s = row-same t h t′ h′ e x x′ img buf (notLive img t h) (notLive img t′ h′) (live-same t h t′ h′ e img) 6 (omega arith) rs rs′ (λ live. s (lives live))
+    live-row : (Lives → Decided rs rs′) → Decided ((notLive img t h, invalidHandle) ∷ rs) ((notLive img t′ h′, invalidHandle) ∷ rs′)
+    live-row s = row-same t h t′ h′ e x x′ img buf (notLive img t h) (notLive img t′ h′) (live-same t h t′ h′ e img) invalidHandle (omega arith) rs rs′ (λ live. s (lives live))
 
   -- the last row, and the effect
   last-row : (x x′ : Outcome) (buf : List ℕ) (a a′ : Bool) → a ≡ a′ → (n : ℕ) → 0 < n → Same t h t′ h′ x x′
@@ -109,8 +110,12 @@ module _ (t : List ℕ) (h : ℕ) (t′ : List ℕ) (h′ : ℕ) (e : recordAt (
         let x = seekEffect img t h method offset in
         let x′ = seekEffect img t′ h′ method offset in
         volume-rows x x′ [] _ _
-        (plain-row x x′ [] _ _ (ltb 2 method) 1 (omega arith)
-        (live-row x x′ [] _ _ (λ w. let m = leads-same w in last-row x x′ [] _ _ (ap isBeyond m) 1 (omega arith) (moved-same w _ _ (ap pointerMoved m) _ _ (ap pointerMoved m) [] [] refl))))
+        (plain-row x x′ [] _ _ (ltb 2 method) invalidFunction (omega arith)
+        (live-row x x′ [] _ _
+        (λ w.
+        let m = leads-same w in
+        let v = ap (λ y. answerOf y .value) m in
+        last-row x x′ [] _ _ (ap isBeyond m) invalidFunction (omega arith) (moved-same w _ _ v _ _ v [] [] refl))))
 
   module _ (buf : List ℕ) where
     count-same : Lives → readCount (length buf) (sizeOf img (addressOf img (slotOf t h))) (pointerOf t h) ≡ readCount (length buf) (sizeOf img (addressOf img (slotOf t′ h′))) (pointerOf t′ h′)
@@ -123,7 +128,7 @@ module _ (t : List ℕ) (h : ℕ) (t′ : List ℕ) (h′ : ℕ) (e : recordAt (
         let x′ = readEffect img t′ h′ buf in
         volume-rows x x′ buf _ _
         (live-row x x′ buf _ _
-        (λ w. last-row x x′ buf _ _ (ap (λ (a : ℕ). eqb a 1) (w .fields .access)) 5 (omega arith)
+        (λ w. last-row x x′ buf _ _ (ap (λ (a : ℕ). eqb a 1) (w .fields .access)) accessDenied (omega arith)
         (moved-same w _ _ (rw (w .fields .pointer, w .fields .slot)) _ _ (count-same w) _ _ (rw (w .fields .pointer, w .fields .slot)))))
 
   -- ---- close: the place freed
@@ -134,7 +139,7 @@ module _ (t : List ℕ) (h : ℕ) (t′ : List ℕ) (h′ : ℕ) (e : recordAt (
       let x = closeEffect img t h s in
       let x′ = closeEffect img t′ h′ s in
       volume-rows x x′ [] _ _
-      (plain-row x x′ [] _ _ (badStamp s) 43 (omega arith)
+      (plain-row x x′ [] _ _ (badStamp s) outOfRange (omega arith)
       (live-row x x′ [] [] []
       (λ w. rows-over t h t′ h′ e x x′ img []
       record {
@@ -177,4 +182,4 @@ module _ (t : List ℕ) (h : ℕ) (t′ : List ℕ) (h′ : ℕ) (e : recordAt (
     write-same =
         let x = writeEffect img t h bs in
         let x′ = writeEffect img t′ h′ bs in
-        volume-rows x x′ [] _ _ (live-row x x′ [] _ _ (λ w. last-row x x′ [] _ _ (ap (λ (a : ℕ). eqb a 0) (w .fields .access)) 5 (omega arith) (effect-same w)))
+        volume-rows x x′ [] _ _ (live-row x x′ [] _ _ (λ w. last-row x x′ [] _ _ (ap (λ (a : ℕ). eqb a 0) (w .fields .access)) accessDenied (omega arith) (effect-same w)))

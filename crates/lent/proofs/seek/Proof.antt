@@ -39,7 +39,8 @@ use denote.Triple.Walked.{says, Stays, stay-ref, stay-none, walkOf, goes-none, g
 use denote.Exit.{yes}
 use denote.Triple.Clauses.{ensured, lasts}
 use Rattle.records.specs.declared.OpenRecord.{OpenRecord}
-use Rattle.records.specs.Seek.{seekFrom, answerOf, movedTo, SeeksIn}
+use Rattle.seeking.specs.Seek.{answerOf}
+use Rattle.records.specs.Seek.{seekFrom, movedTo, SeeksIn}
 use Rattle.records.specs.Laws.Seek.{seeks-well, seeks-refused}
 use Rattle.records.proofs.OpenRecord as Rec
 use Rattle.records.proofs.OpenRecord.Laws as RecLaws

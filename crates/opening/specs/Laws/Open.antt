@@ -1,28 +1,21 @@
--- Open: each way out, by the rows passed before it. Only one outcome fits.
+-- Open: what it refuses and what it leaves, by its rows. Only one outcome fits.
 use Prim.Native.Nat.{ℕ, _≤_, _<_}
-use mathlib.Core.Bool.{Bool, true, false, _&&_, not}
-use mathlib.Core.List.{List, []}
-use mathlib.Core.Path.{_≡_, sym, ap, _∙_}
+use mathlib.Core.Bool.{Bool, true, false, _&&_}
+use mathlib.Core.List.{List, [], _∷_}
+use mathlib.Core.Path.{_≡_, refl, sym, ap, _∙_}
 use lib.Dec.{ltb}
 use borrow.Author.Tests.{lt-ltb, le-ltb}
-use Rattle.diskette.specs.Places.{rootAt, rootEntries}
-use Rattle.diskette.specs.declared.Kind.{Kind}
 use Rattle.search.specs.declared.Found.{Found}
-use Rattle.search.specs.declared.Found.the-variants.{At, Nothing}
-use Rattle.directory.specs.Search.{slotNamed}
-use Rattle.names.specs.Reading.{nameOf}
-use Rattle.names.specs.declared.Spelled.{Spelled}
+use Rattle.search.specs.declared.Found.the-variants.{At}
 use Rattle.opened.specs.Records.{withRecord}
 use Rattle.opened.specs.Places.{lowestUnused}
-use Rattle.calls.specs.Outcome.{Outcome, refusal, decided, refusedBy, answering}
-use Rattle.calls.specs.Refusals.{readOnly}
-use Rattle.calls.specs.Ready.{readyOf, OnVolume}
-use Rattle.opening.specs.Open.{openOutcome, Opens}
-use Rattle.calls.specs.Laws.Ready.{known-passed, sound-passed, ready-refused}
-use Rattle.calls.specs.Laws.Files.{found-is}
+use Rattle.calls.specs.Numbers.{accessDenied}
+use Rattle.calls.specs.Outcome.{Row, Outcome, refusal, decided, refusedBy, answering}
+use Rattle.calls.specs.Refusals.{readOnly, fileSlot}
+use Rattle.calls.specs.Laws.Rows.{Stops, stops-at, stops-past, stopped}
+use Rattle.calls.specs.Laws.Named.{FileNamed}
 use Rattle.calls.specs.declared.Answer.{Answer}
-use Rattle.calls.specs.declared.Ready.{Ready}
-use Rattle.calls.specs.declared.Ready.the-variants.{Refused}
+use Rattle.opening.specs.Open.{openRows, openOutcome, Opens}
 
 pub opens-only : {img t s : List ℕ} {access : ℕ} {r r′ : Answer} {m m′ : List ℕ} → Opens img t s access r m → Opens img t s access r′ m′
     → (r .number ≡ r′ .number) × (r .value ≡ r′ .value) × (m ≡ m′)
@@ -30,45 +23,29 @@ opens-only x y =
     let e = x .is ∙ sym (y .is) in
     (ap (λ (o : Outcome). o .number) e, ap (λ (o : Outcome). o .value) e, ap (λ (o : Outcome). o .table) e)
 
-module _ (img t s : List ℕ) (access : ℕ) where
-  abbrev Refuses : ℕ → Type 0
-  Refuses n = (a : Answer) → a ≡ refusedBy n → Opens img t s access a t
+-- ---- its rows: one stops it, or all are passed
 
-  pub open-not-ready : (r : Ready) → r ≡ readyOf img → (n : ℕ) → r ≡ Refused n → Refuses n
+module _ (img t s : List ℕ) (access : ℕ) (a : Answer) where
+  pub open-refused : (n : ℕ) → a ≡ refusedBy n → Stops (openRows img t s access) n → Opens img t s access a t
   unfolding openOutcome
-  open-not-ready r e n q a x = record { is = rw x (sym (ready-refused img r e n q .answer _ _ t [])) }
+  open-refused n x q = record { is = rw x (sym (stopped _ n q _ img t [])) }
 
-  module _ (k : Kind) (v : OnVolume img k) where
-    pub open-12 : 2 < access → Refuses 12
-    unfolding openOutcome decided refusal
-    open-12 h a x = record { is = rw (x, known-passed img k v, sound-passed img k v, lt-ltb 2 access h) }
+  pub open-well : access ≤ 2 → (slot : ℕ) (b : Bool) → b ≡ (ltb 0 access && readOnly img slot) → b ≡ false
+      → (p : Found) → p ≡ lowestUnused t → (place : ℕ) → p ≡ At place → (m : List ℕ) → m ≡ withRecord t place access slot 0 false → a ≡ answering place
+      → FileNamed img s slot → Opens img t s access a m
+  unfolding openOutcome decided refusal
+  open-well small slot b barred free p lowest place at m e x i = record {
+    is = rw (x, e, i .known, i .sound, le-ltb 2 access small, i .good, i .found, ← barred, free, ← lowest, at);
+  }
 
-    module _ (small : access ≤ 2) (g : Spelled) (given : g ≡ nameOf s) where
-      pub open-42 : not (g .fits) ≡ true → Refuses 42
-      unfolding openOutcome decided refusal
-      open-42 h a x = record { is = rw (x, known-passed img k v, sound-passed img k v, le-ltb 2 access small, ← given, h) }
+-- ---- a read-only file opens with access 0 alone; b is whether it is barred
 
-      module _ (fits : not (g .fits) ≡ false) (f : Found) (found : f ≡ slotNamed img (rootAt k) (rootEntries k) (g .name)) where
-        pub open-2 : f ≡ Nothing → Refuses 2
-        unfolding openOutcome decided refusal
-        open-2 h a x = record { is = rw (x, known-passed img k v, sound-passed img k v, le-ltb 2 access small, found-is img k v s g given f found, ← given, fits, h) }
+module _ (img s : List ℕ) (access slot : ℕ) (b : Bool) (is : b ≡ (ltb 0 access && readOnly img slot)) (rows : List Row) where
+  pub barred-stops : b ≡ true → fileSlot img s ≡ slot → Stops ((ltb 0 access && readOnly img (fileSlot img s), accessDenied) ∷ rows) accessDenied
+  barred-stops q there = stops-at _ accessDenied rows (rw (there, ← is, q)) refl
 
-        module _ (slot : ℕ) (at : f ≡ At slot) (b : Bool) (barred : b ≡ (ltb 0 access && readOnly img slot)) where
-          pub open-5 : b ≡ true → Refuses 5
-          unfolding openOutcome decided refusal
-          open-5 h a x = record { is = rw (x, known-passed img k v, sound-passed img k v, le-ltb 2 access small, found-is img k v s g given f found, ← given, fits, at, ← barred, h) }
-
-          module _ (free : b ≡ false) (p : Found) (lowest : p ≡ lowestUnused t) where
-            pub open-4 : p ≡ Nothing → Refuses 4
-            unfolding openOutcome decided refusal
-            open-4 h a x = record { is = rw (x, known-passed img k v, sound-passed img k v, le-ltb 2 access small, found-is img k v s g given f found, ← given, fits, at, ← barred, free, ← lowest, h) }
-
-            pub open-well : (place : ℕ) → p ≡ At place → (m : List ℕ) → m ≡ withRecord t place access slot 0 false
-                → (a : Answer) → a ≡ answering place → Opens img t s access a m
-            unfolding openOutcome decided refusal
-            open-well place h m e a x = record { is = rw (x, known-passed img k v, sound-passed img k v, le-ltb 2 access small, found-is img k v s g given f found, ← given, fits, at, ← barred, free, ← lowest, h, e) }
-
--- ---- a read-only file opens with access 0 alone
+  pub barred-past : b ≡ false → (m n : ℕ) → Stops rows n → fileSlot img s ≡ slot → Stops ((ltb 0 access && readOnly img (fileSlot img s), m) ∷ rows) n
+  barred-past q m n x there = stops-past _ m n rows (rw (there, ← is, q)) x
 
 module _ (access : ℕ) (ro : Bool) where
   pub barred-by : 0 < access → (r : Bool) → r ≡ ro → r ≡ (ltb 0 access && ro)

@@ -1,10 +1,11 @@
--- Read: the bytes of a file of a sound volume, and each way out, by the rows passed before it. Only one outcome fits.
-use Prim.Native.Nat.{ℕ, _+_, _-_, _*_, _≤_, _<_}
+-- Read: the bytes of a file of a sound volume, and what it refuses, by its rows. Only one outcome fits.
+use Prim.Native.Nat.{ℕ, _+_, _-_, _*_, _≤_}
 use native.Mathlib.Omega.{arith}
 use native.Mathlib.Decide.{decLt}
-use mathlib.Core.List.{List}
+use mathlib.Core.List.{List, _∷_}
 use mathlib.Core.Logic.{_≢_, inr}
-use mathlib.Core.Path.{_≡_, sym, ap, _∙_}
+use mathlib.Core.Path.{_≡_, refl, sym, ap, _∙_}
+use lib.Dec.{eqb}
 use lib.ListN.{length, getD}
 use borrow.Author.Tests.{eq-eqb, ne-eqb}
 use Rattle.image.specs.Store.{stored, part}
@@ -17,21 +18,21 @@ use Rattle.contents.specs.Laws.Read.{fetched-content}
 use Rattle.diskette.specs.Places.{firstData, clusterBytes, lastCluster, rootAt, rootEntries, slotAt}
 use Rattle.diskette.specs.declared.Kind.{Kind}
 use Rattle.search.specs.declared.Found.{Found}
-use Rattle.search.specs.declared.Found.the-variants.{At, Nothing}
+use Rattle.search.specs.declared.Found.the-variants.{At}
 use Rattle.fields.specs.Fields.{startOf, sizeOf}
 use Rattle.opened.specs.Records.{accessOf, pointerOf, withPointer}
 use Rattle.opened.specs.Places.{liveSlot}
-use Rattle.calls.specs.Outcome.{Outcome, refusal, decided, refusedBy, answering}
-use Rattle.calls.specs.Ready.{readyOf, OnVolume}
+use Rattle.calls.specs.Outcome.{Row, Outcome, refusal, decided, refusedBy, answering}
+use Rattle.calls.specs.Numbers.{accessDenied}
+use Rattle.calls.specs.Ready.{OnVolume}
 use Rattle.holding.specs.Holding.{fileChain, fileBytes, FileIn}
 use Rattle.holding.specs.Laws.Clusters.{on-clusters}
 use Rattle.holding.specs.Laws.Chain.{file-holds}
-use Rattle.reading.specs.Read.{readCount, readOutcome, Reads}
-use Rattle.calls.specs.Laws.Ready.{on-kind, known-passed, sound-passed, ready-refused}
-use Rattle.calls.specs.Laws.Files.{not-live, live-passed, live-slot}
+use Rattle.reading.specs.Read.{readCount, readRows, readOutcome, Reads}
+use Rattle.calls.specs.Laws.Rows.{Stops, stops-at, stopped}
+use Rattle.calls.specs.Laws.Ready.{on-kind, known-passed, sound-passed}
+use Rattle.calls.specs.Laws.Files.{live-passed, live-slot}
 use Rattle.calls.specs.declared.Answer.{Answer}
-use Rattle.calls.specs.declared.Ready.{Ready}
-use Rattle.calls.specs.declared.Ready.the-variants.{Refused}
 
 pub reads-only : {img t : List ℕ} {h : ℕ} {buf : List ℕ} {r r′ : Answer} {m m′ b b′ : List ℕ} → Reads img t h buf r m b → Reads img t h buf r′ m′ b′
     → (r .number ≡ r′ .number) × (r .value ≡ r′ .value) × (m ≡ m′) × (b ≡ b′)
@@ -69,33 +70,24 @@ pub copied-none : (k : Kind) (img : List ℕ) (slot pointer n : ℕ) (buf : List
 unfolding stored
 copied-none k img slot pointer n buf e = rw e
 
--- ---- the ways out
+-- ---- one row stops it, or all are passed
 
-module _ (img t : List ℕ) (h : ℕ) (buf : List ℕ) where
-  abbrev Refuses : ℕ → Type 0
-  Refuses n = (a : Answer) → a ≡ refusedBy n → Reads img t h buf a t buf
-
-  pub read-not-ready : (r : Ready) → r ≡ readyOf img → (n : ℕ) → r ≡ Refused n → Refuses n
+module _ (img t : List ℕ) (h : ℕ) (buf : List ℕ) (a : Answer) where
+  pub read-refused : (n : ℕ) → a ≡ refusedBy n → Stops (readRows img t h) n → Reads img t h buf a t buf
   unfolding readOutcome
-  read-not-ready r e n q a x = record { is = rw x (sym (ready-refused img r e n q .answer _ _ t buf)) }
+  read-refused n x q = record { is = rw x (sym (stopped _ n q _ img t buf)) }
 
-  module _ (k : Kind) (v : OnVolume img k) (f : Found) (found : f ≡ liveSlot t h img (rootAt k) (rootEntries k)) where
-    pub read-6 : f ≡ Nothing → Refuses 6
-    unfolding readOutcome decided refusal
-    read-6 q a x = record { is = rw (x, known-passed img k v, sound-passed img k v, not-live img k t h f found v q) }
+  pub read-well : (k : Kind) → OnVolume img k → (f : Found) → f ≡ liveSlot t h img (rootAt k) (rootEntries k) → (slot : ℕ) → f ≡ At slot
+      → (access : ℕ) → access ≡ accessOf t h → access ≢ 1 → (pointer : ℕ) → pointer ≡ pointerOf t h
+      → (e size : ℕ) → e ≡ slotAt k slot → size ≡ sizeOf img e → (n : ℕ) → n ≡ readCount (length buf) size pointer
+      → (b m : List ℕ) → b ≡ stored buf 0 (part (fileBytes k img slot) pointer n) → m ≡ withPointer t h (pointer + n) → a ≡ answering n → Reads img t h buf a m b
+  unfolding readOutcome decided refusal
+  read-well k v f found slot at access has may pointer from e size ee sized n count b m be me x = record {
+    is = rw (x, be, me, known-passed img k v, sound-passed img k v, live-passed img k t h f found slot at v, ← has, ne-eqb access 1 may, on-kind img k v, ← live-slot img k t h f found slot at, ← from, ← ee, ← sized, ← count);
+  }
 
-    module _ (slot : ℕ) (at : f ≡ At slot) where
-      module _ (access : ℕ) (has : access ≡ accessOf t h) where
-        pub read-5 : access ≡ 1 → Refuses 5
-        unfolding readOutcome decided refusal
-        read-5 q a x = record { is = rw (x, known-passed img k v, sound-passed img k v, live-passed img k t h f found slot at v, ← has, eq-eqb access 1 q) }
-
-        module _ (may : access ≢ 1) (pointer : ℕ) (from : pointer ≡ pointerOf t h) (e size : ℕ) (ee : e ≡ slotAt k slot) (sized : size ≡ sizeOf img e) (n : ℕ) (count : n ≡ readCount (length buf) size pointer) where
-          pub read-well : (b m : List ℕ) → b ≡ stored buf 0 (part (fileBytes k img slot) pointer n) → m ≡ withPointer t h (pointer + n) → (a : Answer) → a ≡ answering n → Reads img t h buf a m b
-          unfolding readOutcome decided refusal
-          read-well b m be me a x = record {
-            is = rw (x, be, me, known-passed img k v, sound-passed img k v, live-passed img k t h f found slot at v, ← has, ne-eqb access 1 may, on-kind img k v, ← live-slot img k t h f found slot at, ← from, ← ee, ← sized, ← count);
-          }
+pub read-stops : (t : List ℕ) (h access : ℕ) → access ≡ accessOf t h → access ≡ 1 → (rows : List Row) → Stops ((eqb (accessOf t h) 1, accessDenied) ∷ rows) accessDenied
+read-stops t h access has q rows = stops-at _ accessDenied rows (rw (← has) (eq-eqb access 1 q)) refl
 
 -- ---- what it means
 

@@ -13,9 +13,11 @@ use Rattle.offset.specs.Offset.{movedBy}
 use Rattle.offset.specs.declared.Moved.{Moved}
 use Rattle.offset.specs.declared.Moved.the-variants.{To, Beyond}
 use Rattle.calls.specs.Outcome.{refusedBy, answering}
+use Rattle.calls.specs.Numbers.{invalidFunction}
 use Rattle.calls.specs.declared.Answer.{Answer}
 use Rattle.records.specs.declared.OpenRecord.{OpenRecord}
-use Rattle.records.specs.Seek.{baseFrom, seekFrom, answerOf, movedTo, soughtRecord, SeeksIn}
+use Rattle.seeking.specs.Seek.{answerOf}
+use Rattle.records.specs.Seek.{baseFrom, seekFrom, movedTo, soughtRecord, SeeksIn}
 
 pub seeks-in-only : {r after after′ : OpenRecord} {size method : ℕ} {offset : ℤ} {a a′ : Answer} → SeeksIn r size method offset a after → SeeksIn r size method offset a′ after′ → (a ≡ a′) × (after ≡ after′)
 seeks-in-only x y = (x .answers ∙ sym (y .answers), x .leaves ∙ sym (y .leaves))
@@ -42,7 +44,7 @@ module _ (pointer size method : ℕ) (offset : ℤ) where
   abbrev Answered : Answer → Type 0
   Answered a = a ≡ answerOf (seekFrom pointer size method offset)
 
-  pub sought-method : 2 < method → (a : Answer) → a ≡ refusedBy 1 → Answered a
+  pub sought-method : 2 < method → (a : Answer) → a ≡ refusedBy invalidFunction → Answered a
   unfolding seekFrom
   sought-method l a x = rw (x, lt-ltb 2 method l)
 
@@ -50,7 +52,7 @@ module _ (pointer size method : ℕ) (offset : ℤ) where
     by-offset : w ≡ movedBy base offset
     by-offset = moved ∙ ap (movedBy base) (toZ-ofZ {w = w32} fits)
 
-    pub sought-beyond : w ≡ Beyond → (a : Answer) → a ≡ refusedBy 1 → Answered a
+    pub sought-beyond : w ≡ Beyond → (a : Answer) → a ≡ refusedBy invalidFunction → Answered a
     unfolding seekFrom
     sought-beyond q a x = rw (x, le-ltb 2 method small, ← from, ← by-offset, q)
 

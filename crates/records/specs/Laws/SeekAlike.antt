@@ -11,10 +11,11 @@ use Rattle.offset.specs.declared.Moved.{Moved}
 use Rattle.offset.specs.declared.Moved.the-variants.{To, Beyond}
 use Rattle.opened.specs.Records.{slotOf, withPointer}
 use Rattle.calls.specs.Outcome.{outcome, refusal, decided}
+use Rattle.calls.specs.Numbers.{ofNoKind, unsound, invalidFunction, invalidHandle}
 use Rattle.calls.specs.Refusals.{notOfKind, notSound, notLive, addressOf}
-use Rattle.seeking.specs.Seek.{seekBase, isBeyond, pointerMoved, seekOutcome}
+use Rattle.seeking.specs.Seek.{answerOf, seekBase, isBeyond, seekOutcome}
 use Rattle.records.specs.Row.{recordOf}
-use Rattle.records.specs.Seek.{baseFrom, seekFrom, answerOf}
+use Rattle.records.specs.Seek.{baseFrom, seekFrom}
 
 module _ (img t : List ℕ) (h : ℕ) where
   -- the table after a seek that leads there
@@ -23,7 +24,9 @@ module _ (img t : List ℕ) (h : ℕ) where
   soughtTable Beyond = t
 
   -- by the two rows that are left: the method, and where it leads
-  by-rows : (z : Bool) (m : Moved) → decided ((false, 40) ∷ (false, 41) ∷ (z, 1) ∷ (false, 6) ∷ (isBeyond m, 1) ∷ []) (outcome 0 (pointerMoved m) img (withPointer t h (pointerMoved m)) []) img t []
+  by-rows : (z : Bool) (m : Moved)
+      → decided ((false, ofNoKind) ∷ (false, unsound) ∷ (z, invalidFunction) ∷ (false, invalidHandle) ∷ (isBeyond m, invalidFunction) ∷ [])
+      (outcome 0 (answerOf m .value) img (withPointer t h (answerOf m .value)) []) img t []
       ≡ outcome (answerOf (cond z Beyond m) .number) (answerOf (cond z Beyond m) .value) img (soughtTable (cond z Beyond m)) []
   unfolding decided refusal
   by-rows true m = refl

@@ -32,6 +32,7 @@ use Rattle.sound.specs.Laws.Sound.{sound-exactly}
 use Rattle.sound.specs.Laws.Total.{total}
 use Rattle.sound.specs.declared.Verdict.{Verdict}
 use Rattle.sound.specs.declared.Verdict.the-variants.{Finding}
+use Rattle.calls.specs.Numbers.{ofNoKind, unsound}
 use Rattle.freespace.specs.FreeSpace.{noSpace, freeSpace, Spaced}
 use Rattle.freespace.specs.declared.FreeAnswer.{FreeAnswer}
 use Rattle.freespace.specs.Laws.FreeSpace.{space-unknown, space-unsound, space-sound}
@@ -131,6 +132,6 @@ space-fits img a t = subst SpaceFits (sym (t .is)) (go (kindOfImage img) refl)
     go (Known k) e = elim (says-dec (known-says img k e)) [
       | yes s ↦ let u = image-usable img k e in let t = total k u img s in
           subst SpaceFits (sym (space-sound img k e s)) (record { number-fits = omega arith; free-fits = omega (arith, u .below-aside); clusters-fit = omega (arith, u .below-aside); sector-fits = omega arith; per-fits = omega (arith, u .per-high) })
-      | no n ↦ subst SpaceFits (sym (space-unsound img k e n)) (refused-fits 41 (omega arith))
+      | no n ↦ subst SpaceFits (sym (space-unsound img k e n)) (refused-fits unsound (omega arith))
     ]
-    go Unknown e = subst SpaceFits (sym (space-unknown img e)) (refused-fits 40 (omega arith))
+    go Unknown e = subst SpaceFits (sym (space-unknown img e)) (refused-fits ofNoKind (omega arith))

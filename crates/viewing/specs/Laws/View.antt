@@ -1,25 +1,21 @@
--- View: the part of the image, and each way out, by the rows passed before it. Only one part and one number fit.
+-- View: the part of the image, and what it refuses, by its rows. Only one part and one number fit.
 use Prim.Native.Nat.{ℕ, _+_, _-_, _*_, _≤_, _<_, _/_, _%_}
 use native.Mathlib.Omega.{arith}
 use native.Mathlib.Decide.{decLt}
-use mathlib.Core.Bool.{true, false, not}
 use mathlib.Core.List.{List, []}
 use mathlib.Core.Path.{_≡_, refl, sym, ap, _∙_}
 use lib.ListN.{length, getD}
 use Rattle.image.specs.Store.{part}
 use Rattle.contents.specs.Contents.{chainFrom, placeOf}
 use Rattle.contents.specs.Laws.Chain.{chain-room}
-use Rattle.diskette.specs.Places.{firstData, clusterBytes, lastCluster, rootAt, rootEntries, slotAt}
+use Rattle.diskette.specs.Places.{firstData, clusterBytes, lastCluster, slotAt}
 use Rattle.diskette.specs.declared.Kind.{Kind}
-use Rattle.search.specs.declared.Found.{Found}
-use Rattle.search.specs.declared.Found.the-variants.{At, Nothing}
 use Rattle.fields.specs.Fields.{startOf, sizeOf}
 use Rattle.calls.specs.Outcome.{Outcome, refusal, decided}
-use Rattle.calls.specs.Ready.{readyOf, OnVolume}
-use Rattle.calls.specs.Laws.Ready.{on-kind, known-passed, sound-passed, ready-refused}
-use Rattle.calls.specs.Laws.Files.{found-is}
-use Rattle.calls.specs.declared.Ready.{Ready}
-use Rattle.calls.specs.declared.Ready.the-variants.{Refused}
+use Rattle.calls.specs.Ready.{OnVolume}
+use Rattle.calls.specs.Laws.Rows.{Stops, stopped}
+use Rattle.calls.specs.Laws.Ready.{on-kind}
+use Rattle.calls.specs.Laws.Named.{FileNamed}
 use native.Mathlib.Nat.{div-lt-iff-lt-mul, mod-lt}
 use Rattle.chains.specs.Content.{byteAt}
 use Rattle.chains.specs.Laws.Lists.{index-mem}
@@ -27,10 +23,7 @@ use Rattle.chains.specs.Laws.Runs.{content-run}
 use Rattle.holding.specs.Holding.{fileBytes, FileIn}
 use Rattle.holding.specs.Laws.Clusters.{on-clusters}
 use Rattle.holding.specs.Laws.Chain.{file-holds}
-use Rattle.directory.specs.Search.{slotNamed}
-use Rattle.names.specs.declared.Spelled.{Spelled}
-use Rattle.viewing.specs.View.{viewCount, viewAt, viewPart, viewOutcome, Views, ViewNumbers, Sees, SeesFile}
-use Rattle.names.specs.Reading as reading
+use Rattle.viewing.specs.View.{viewCount, viewAt, viewPart, viewRows, viewOutcome, Views, ViewNumbers, Sees, SeesFile}
 
 pub views-only : {img s : List ℕ} {offset : ℕ} {p q : List ℕ} → Views img s offset p → Views img s offset q → p ≡ q
 views-only x y = x .is ∙ sym (y .is)
@@ -86,29 +79,19 @@ module _ (img : List ℕ) (k : Kind) (v : OnVolume img k) (slot : ℕ) (i : File
           inside = rw (p, n) room;
         }
 
--- ---- the ways out
+-- ---- one row stops it, or all are passed
 
 module _ (img s : List ℕ) (offset : ℕ) where
-  pub see-not-ready : (r : Ready) → r ≡ readyOf img → (n : ℕ) → r ≡ Refused n → Sees img s offset n 0 0
+  pub see-refused : (n : ℕ) → Stops (viewRows img s) n → Sees img s offset n 0 0
   unfolding viewOutcome
-  see-not-ready r e n q = record { is = sym (ready-refused img r e n q .answer _ _ [] []); within = omega arith }
+  see-refused n q = record { is = sym (stopped _ n q _ img [] []); within = omega arith }
 
-  module _ (k : Kind) (v : OnVolume img k) (g : Spelled) (given : g ≡ reading.nameOf s) where
-    pub see-42 : not (g .fits) ≡ true → Sees img s offset 42 0 0
-    unfolding viewOutcome decided refusal
-    see-42 h = record { is = rw (known-passed img k v, sound-passed img k v, ← given, h); within = omega arith }
-
-    module _ (fits : not (g .fits) ≡ false) (f : Found) (found : f ≡ slotNamed img (rootAt k) (rootEntries k) (g .name)) where
-      pub see-2 : f ≡ Nothing → Sees img s offset 2 0 0
-      unfolding viewOutcome decided refusal
-      see-2 h = record { is = rw (known-passed img k v, sound-passed img k v, found-is img k v s g given f found, ← given, fits, h); within = omega arith }
-
-      pub see-well : (slot : ℕ) → f ≡ At slot → (number at bytes : ℕ) → SeesFile img k slot offset number at bytes → Sees img s offset number at bytes
-      unfolding viewOutcome decided refusal
-      see-well slot h number at bytes x = record {
-        is = rw (known-passed img k v, sound-passed img k v, found-is img k v s g given f found, ← given, fits, h, on-kind img k v, x .number-is, x .part-is);
-        within = x .inside;
-      }
+  pub see-well : (k : Kind) → OnVolume img k → (slot number at bytes : ℕ) → SeesFile img k slot offset number at bytes → FileNamed img s slot → Sees img s offset number at bytes
+  unfolding viewOutcome decided refusal
+  see-well k v slot number at bytes x i = record {
+    is = rw (i .known, i .sound, i .good, i .found, on-kind img k v, x .number-is, x .part-is);
+    within = x .inside;
+  }
 
   module _ (number at bytes : ℕ) (x : Sees img s offset number at bytes) where
     pub seen-views : Views img s offset (part img at (at + bytes - at))

@@ -1,30 +1,31 @@
--- Write: how much is written, and each way out, by the rows passed before it. Only one outcome fits.
+-- Write: how much is written, and what it refuses, by its rows. Only one outcome fits.
 use Prim.Native.Nat.{ℕ, _+_, _-_, _*_, _≤_, _<_}
 use native.Mathlib.Omega.{arith}
-use mathlib.Core.List.{List, []}
+use mathlib.Core.List.{List, [], _∷_}
 use mathlib.Core.Logic.{_≢_}
 use mathlib.Core.Path.{_≡_, refl, sym, ap, _∙_}
+use lib.Dec.{eqb}
 use lib.ListN.{length, take}
 use borrow.Author.Tests.{eq-eqb, ne-eqb}
 use Rattle.chains.specs.Write.{accepted}
 use Rattle.diskette.specs.Places.{clusterBytes, rootAt, rootEntries}
 use Rattle.diskette.specs.declared.Kind.{Kind}
 use Rattle.search.specs.declared.Found.{Found}
-use Rattle.search.specs.declared.Found.the-variants.{At, Nothing}
+use Rattle.search.specs.declared.Found.the-variants.{At}
 use Rattle.opened.specs.Records.{accessOf, pointerOf, withPointer, withWritten}
 use Rattle.opened.specs.Places.{liveSlot}
 use Rattle.sound.specs.Counts.{freeOf}
-use Rattle.calls.specs.Outcome.{Outcome, refusal, decided, refusedBy, answering}
-use Rattle.calls.specs.Ready.{readyOf, OnVolume}
-use Rattle.calls.specs.Laws.Ready.{on-kind, on-usable, known-passed, sound-passed, ready-refused}
-use Rattle.calls.specs.Laws.Files.{not-live, live-passed, live-slot}
+use Rattle.calls.specs.Outcome.{Row, Outcome, refusal, decided, refusedBy, answering}
+use Rattle.calls.specs.Numbers.{accessDenied}
+use Rattle.calls.specs.Ready.{OnVolume}
+use Rattle.calls.specs.Laws.Rows.{Stops, stops-at, stopped}
+use Rattle.calls.specs.Laws.Ready.{on-kind, on-usable, known-passed, sound-passed}
+use Rattle.calls.specs.Laws.Files.{live-passed, live-slot}
 use Rattle.calls.specs.declared.Answer.{Answer}
-use Rattle.calls.specs.declared.Ready.{Ready}
-use Rattle.calls.specs.declared.Ready.the-variants.{Refused}
 use Rattle.holding.specs.Holding.{fileChain, FileIn}
 use Rattle.putting.specs.Longer.{roomOf}
 use Rattle.putting.specs.Written.{writtenIn}
-use Rattle.writing.specs.Write.{writeAt, writeOutcome, Writes, WritesAt}
+use Rattle.writing.specs.Write.{writeRows, writeAt, writeOutcome, Writes, WritesAt}
 use Rattle.putting.specs.Laws.Room.{room-clusters, room-fits}
 
 pub writes-only : {img t : List ℕ} {h : ℕ} {bs : List ℕ} {r r′ : Answer} {l l′ m m′ : List ℕ} → Writes img t h bs r l m → Writes img t h bs r′ l′ m′
@@ -90,28 +91,19 @@ module _ (k : Kind) (img t : List ℕ) (slot h : ℕ) (bs : List ℕ) (room poin
   unfolding writeAt
   write-some z l m el em a x = record { is = rw (x, el, em, ← ep, ← er, ← en, ne-eqb n 0 z) }
 
--- ---- the ways out
+-- ---- one row stops it, or all are passed
 
-module _ (img t : List ℕ) (h : ℕ) (bs : List ℕ) where
-  abbrev Refuses : ℕ → Type 0
-  Refuses n = (a : Answer) → a ≡ refusedBy n → Writes img t h bs a img t
-
-  pub write-not-ready : (r : Ready) → r ≡ readyOf img → (n : ℕ) → r ≡ Refused n → Refuses n
+module _ (img t : List ℕ) (h : ℕ) (bs : List ℕ) (a : Answer) where
+  pub write-refused : (n : ℕ) → a ≡ refusedBy n → Stops (writeRows img t h) n → Writes img t h bs a img t
   unfolding writeOutcome
-  write-not-ready r e n q a x = record { is = rw x (sym (ready-refused img r e n q .answer _ _ t [])) }
+  write-refused n x q = record { is = rw x (sym (stopped _ n q _ img t [])) }
 
-  module _ (k : Kind) (v : OnVolume img k) (f : Found) (found : f ≡ liveSlot t h img (rootAt k) (rootEntries k)) where
-    pub write-6 : f ≡ Nothing → Refuses 6
-    unfolding writeOutcome decided refusal
-    write-6 q a x = record { is = rw (x, known-passed img k v, sound-passed img k v, not-live img k t h f found v q) }
+  pub write-well : (k : Kind) → OnVolume img k → (f : Found) → f ≡ liveSlot t h img (rootAt k) (rootEntries k) → (slot : ℕ) → f ≡ At slot
+      → (access : ℕ) → access ≡ accessOf t h → access ≢ 0 → (l m : List ℕ) → WritesAt k img t slot h bs a l m → Writes img t h bs a l m
+  unfolding writeOutcome decided refusal
+  write-well k v f found slot at access has may l m y = record {
+    is = rw (known-passed img k v, sound-passed img k v, live-passed img k t h f found slot at v, ← has, ne-eqb access 0 may, on-kind img k v, ← live-slot img k t h f found slot at) (y .is);
+  }
 
-    module _ (slot : ℕ) (at : f ≡ At slot) (access : ℕ) (has : access ≡ accessOf t h) where
-      pub write-5 : access ≡ 0 → Refuses 5
-      unfolding writeOutcome decided refusal
-      write-5 q a x = record { is = rw (x, known-passed img k v, sound-passed img k v, live-passed img k t h f found slot at v, ← has, eq-eqb access 0 q) }
-
-      pub write-well : access ≢ 0 → (a : Answer) (l m : List ℕ) → WritesAt k img t slot h bs a l m → Writes img t h bs a l m
-      unfolding writeOutcome decided refusal
-      write-well may a l m y = record {
-        is = rw (known-passed img k v, sound-passed img k v, live-passed img k t h f found slot at v, ← has, ne-eqb access 0 may, on-kind img k v, ← live-slot img k t h f found slot at) (y .is);
-      }
+pub write-stops : (t : List ℕ) (h access : ℕ) → access ≡ accessOf t h → access ≡ 0 → (rows : List Row) → Stops ((eqb (accessOf t h) 0, accessDenied) ∷ rows) accessDenied
+write-stops t h access has q rows = stops-at _ accessDenied rows (rw (← has) (eq-eqb access 0 q)) refl

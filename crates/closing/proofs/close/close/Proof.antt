@@ -1,6 +1,6 @@
 -- A volume that is not ready is refused by the first two rows; else the rest is left to the call on the volume.
-use Rattle.calls.specs.Laws.Ready.{ready-on}
-use Rattle.closing.specs.Laws.Close.{close-not-ready}
+use Rattle.calls.specs.Laws.Ready.{ready-on, not-ready}
+use Rattle.closing.specs.Laws.Close.{close-refused}
 use borrow.Author.Needs.{needs}
 use Rattle.closing.proofs.close.close.Statement.{statement}
 use Rattle.closing.proofs.close.close.Tie as tie
@@ -24,7 +24,7 @@ same-length : tie.Need-same-length
 same-length c = search needs
 
 returns : tie.Need-returns
-returns c = search close-not-ready
+returns c = search (close-refused, not-ready)
 
 same-length-2 : tie.Need-same-length-2
 same-length-2 c = search needs

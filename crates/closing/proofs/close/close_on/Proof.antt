@@ -1,7 +1,8 @@
 -- Each way out is one row that holds after those that don't.
 use Rattle.calls.specs.Laws.Ready.{on-usable}
-use Rattle.calls.specs.Laws.Files.{live-counted, live-at-most, live-within}
-use Rattle.closing.specs.Laws.Close.{close-43, close-6, close-well}
+use Rattle.calls.specs.Laws.Stamps.{stamped}
+use Rattle.calls.specs.Laws.Files.{reached, live-counted, live-at-most, live-within}
+use Rattle.closing.specs.Laws.Close.{close-refused, close-well}
 use borrow.Author.Needs.{needs}
 use Rattle.closing.proofs.close.close_on.Statement.{statement}
 use Rattle.closing.proofs.close.close_on.Tie as tie
@@ -43,7 +44,7 @@ well-requires : tie.Need-well-requires
 well-requires c κs = search needs
 
 returns : tie.Need-returns
-returns c = search close-43
+returns c = search (close-refused, stamped, reached)
 
 same-length : tie.Need-same-length
 same-length c = search needs
@@ -52,7 +53,7 @@ same-length-2 : tie.Need-same-length-2
 same-length-2 c = search needs
 
 returns-2 : tie.Need-returns-2
-returns-2 c = search close-6
+returns-2 c = search (close-refused, stamped, reached)
 
 same-length-3 : tie.Need-same-length-3
 same-length-3 c = search needs

@@ -1,6 +1,6 @@
 -- A volume that is not ready is refused by the first two rows; else the rest is left to the call on the volume.
-use Rattle.calls.specs.Laws.Ready.{ready-on}
-use Rattle.creating.specs.Laws.Create.{create-not-ready}
+use Rattle.calls.specs.Laws.Ready.{ready-on, not-ready}
+use Rattle.creating.specs.Laws.Create.{create-refused}
 use borrow.Author.Needs.{needs}
 use Rattle.creating.proofs.create.create.Statement.{statement}
 use Rattle.creating.proofs.create.create.Tie as tie
@@ -24,7 +24,7 @@ same-length : tie.Need-same-length
 same-length c = search needs
 
 returns : tie.Need-returns
-returns c = search create-not-ready
+returns c = search (create-refused, not-ready)
 
 same-length-2 : tie.Need-same-length-2
 same-length-2 c = search needs

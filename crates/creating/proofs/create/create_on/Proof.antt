@@ -1,7 +1,10 @@
 -- Each way out is one row that holds after those that don't, or the last rows of a new file or of an existing one.
 use Rattle.calls.specs.Laws.Attribute.{attr-fits}
 use Rattle.holding.specs.Laws.Found.{named-file}
-use Rattle.creating.specs.Laws.Create.{create-42, create-43, create-attr, create-new, create-old}
+use Rattle.calls.specs.Laws.Rows.{tests}
+use Rattle.calls.specs.Laws.Stamps.{stamped}
+use Rattle.calls.specs.Laws.Named.{named, file-named}
+use Rattle.creating.specs.Laws.Create.{create-refused, create-new, create-old}
 use borrow.Author.Needs.{needs}
 use Rattle.creating.proofs.create.create_on.Statement.{statement}
 use Rattle.creating.proofs.create.create_on.Tie as tie
@@ -13,7 +16,7 @@ refused-requires : tie.Need-refused-requires
 refused-requires c κs = search needs
 
 returns : tie.Need-returns
-returns c = search create-42
+returns c = search (create-refused, named, stamped, tests)
 
 pack-requires : tie.Need-pack-requires
 pack-requires c κs = search needs
@@ -34,7 +37,7 @@ refused-requires-3 : tie.Need-refused-requires-3
 refused-requires-3 c κs = search needs
 
 returns-2 : tie.Need-returns-2
-returns-2 c = search create-attr
+returns-2 c = search (create-refused, named, stamped, tests)
 
 file-named-requires : tie.Need-file-named-requires
 file-named-requires c κs = search needs
@@ -58,7 +61,7 @@ empty-old-requires : tie.Need-empty-old-requires
 empty-old-requires c κs = (search needs, search named-file)
 
 returns-3 : tie.Need-returns-3
-returns-3 c = search create-43
+returns-3 c = search (create-refused, named, stamped, tests)
 
 same-length : tie.Need-same-length
 same-length c = search needs
@@ -76,7 +79,7 @@ same-length-4 : tie.Need-same-length-4
 same-length-4 c = search needs
 
 returns-5 : tie.Need-returns-5
-returns-5 c = search create-old
+returns-5 c = search (create-old, file-named)
 
 pub create-on-spec : {M : Type 1} → statement M
 create-on-spec =

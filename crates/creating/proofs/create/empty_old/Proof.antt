@@ -1,12 +1,15 @@
 -- Each way out is one row that holds after those that don't.
 use Rattle.calls.specs.Laws.Ready.{on-usable}
-use Rattle.calls.specs.Laws.Files.{unused-below, unused-fits}
+use Rattle.calls.specs.Laws.Files.{unused-below, unused-fits, place-stops}
+use Rattle.calls.specs.Laws.Rows.{tests}
 use Rattle.holding.specs.Laws.Chain.{file-below, slot-fits}
 use Rattle.freeing.specs.Laws.Freed.{freed-within}
-use Rattle.creating.specs.Laws.Create.{empty-open, empty-read-only, empty-4, empty-well}
+use Rattle.creating.specs.Laws.Create.{old-refused, empty-well}
 use borrow.Author.Needs.{needs}
 use Rattle.creating.proofs.create.empty_old.Statement.{statement}
 use Rattle.creating.proofs.create.empty_old.Tie as tie
+
+ruleset rows = (tests, place-stops)
 
 is-open-requires : tie.Need-is-open-requires
 is-open-requires c κs = search needs
@@ -18,7 +21,7 @@ same-length : tie.Need-same-length
 same-length c = search needs
 
 returns : tie.Need-returns
-returns c = search empty-open
+returns c = search (old-refused, rows)
 
 is-read-only-requires : tie.Need-is-read-only-requires
 is-read-only-requires c κs = search needs
@@ -33,7 +36,7 @@ same-length-3 : tie.Need-same-length-3
 same-length-3 c = search needs
 
 returns-2 : tie.Need-returns-2
-returns-2 c = search empty-read-only
+returns-2 c = search (old-refused, rows)
 
 lowest-unused-requires : tie.Need-lowest-unused-requires
 lowest-unused-requires c κs = search needs
@@ -75,7 +78,7 @@ same-length-5 : tie.Need-same-length-5
 same-length-5 c = search needs
 
 returns-3 : tie.Need-returns-3
-returns-3 c = search empty-4
+returns-3 c = search (old-refused, rows)
 
 same-length-6 : tie.Need-same-length-6
 same-length-6 c = search needs

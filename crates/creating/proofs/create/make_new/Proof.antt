@@ -1,10 +1,12 @@
 -- Each way out is one row that holds after those that don't.
 use Rattle.calls.specs.Laws.Ready.{on-usable}
-use Rattle.calls.specs.Laws.Files.{unused-below, unused-fits}
-use Rattle.creating.specs.Laws.Create.{open-at-most, open-fits, open-within, new-5, new-4, new-well}
+use Rattle.calls.specs.Laws.Files.{unused-below, unused-fits, place-stops}
+use Rattle.creating.specs.Laws.Create.{open-at-most, open-fits, open-within, slot-stops, slot-past, new-refused, new-well}
 use borrow.Author.Needs.{needs}
 use Rattle.creating.proofs.create.make_new.Statement.{statement}
 use Rattle.creating.proofs.create.make_new.Tie as tie
+
+ruleset rows = (slot-stops, slot-past, place-stops)
 
 slot-for-new-requires : tie.Need-slot-for-new-requires
 slot-for-new-requires c κs = search needs
@@ -52,7 +54,7 @@ same-length : tie.Need-same-length
 same-length c = search needs
 
 returns : tie.Need-returns
-returns c = search new-5
+returns c = search (new-refused, rows)
 
 same-length-2 : tie.Need-same-length-2
 same-length-2 c = search needs
@@ -61,7 +63,7 @@ same-length-3 : tie.Need-same-length-3
 same-length-3 c = search needs
 
 returns-2 : tie.Need-returns-2
-returns-2 c = search new-4
+returns-2 c = search (new-refused, rows)
 
 same-length-4 : tie.Need-same-length-4
 same-length-4 c = search needs

@@ -1,5 +1,6 @@
 -- Each way out is one row that holds after those that don't.
-use Rattle.deleting.specs.Laws.Delete.{delete-open, delete-read-only, delete-well}
+use Rattle.calls.specs.Laws.Rows.{tests}
+use Rattle.deleting.specs.Laws.Delete.{last-refused, delete-well}
 use borrow.Author.Needs.{needs}
 use Rattle.deleting.proofs.delete.delete_in.Statement.{statement}
 use Rattle.deleting.proofs.delete.delete_in.Tie as tie
@@ -11,7 +12,7 @@ refused-requires : tie.Need-refused-requires
 refused-requires c κs = search needs
 
 returns : tie.Need-returns
-returns c = search delete-open
+returns c = search (last-refused, tests)
 
 is-read-only-requires : tie.Need-is-read-only-requires
 is-read-only-requires c κs = search needs
@@ -23,7 +24,7 @@ same-length : tie.Need-same-length
 same-length c = search needs
 
 returns-2 : tie.Need-returns-2
-returns-2 c = search delete-read-only
+returns-2 c = search (last-refused, tests)
 
 erase-in-requires : tie.Need-erase-in-requires
 erase-in-requires c κs = search needs

@@ -1,6 +1,7 @@
 -- Each way out is one row that holds after those that don't, or the last two rows.
 use Rattle.holding.specs.Laws.Found.{named-file}
-use Rattle.deleting.specs.Laws.Delete.{delete-42, delete-2, delete-rest}
+use Rattle.calls.specs.Laws.Named.{named, file-named}
+use Rattle.deleting.specs.Laws.Delete.{delete-refused, delete-rest}
 use borrow.Author.Needs.{needs}
 use Rattle.deleting.proofs.delete.delete_on.Statement.{statement}
 use Rattle.deleting.proofs.delete.delete_on.Tie as tie
@@ -12,7 +13,7 @@ refused-requires : tie.Need-refused-requires
 refused-requires c κs = search needs
 
 returns : tie.Need-returns
-returns c = search delete-42
+returns c = search (delete-refused, named)
 
 file-named-requires : tie.Need-file-named-requires
 file-named-requires c κs = search needs
@@ -33,13 +34,13 @@ same-length : tie.Need-same-length
 same-length c = search needs
 
 returns-2 : tie.Need-returns-2
-returns-2 c = search delete-2
+returns-2 c = search (delete-refused, named)
 
 same-length-2 : tie.Need-same-length-2
 same-length-2 c = search needs
 
 returns-3 : tie.Need-returns-3
-returns-3 c = search delete-rest
+returns-3 c = search (delete-rest, file-named)
 
 pub delete-on-spec : {M : Type 1} → statement M
 delete-on-spec =

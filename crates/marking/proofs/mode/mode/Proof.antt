@@ -1,6 +1,6 @@
 -- A volume that is not ready is refused by the first two rows; else the rest is left to the call on the volume.
-use Rattle.calls.specs.Laws.Ready.{ready-on}
-use Rattle.marking.specs.Laws.Mode.{mode-not-ready}
+use Rattle.calls.specs.Laws.Ready.{ready-on, not-ready}
+use Rattle.marking.specs.Laws.Mode.{mode-refused}
 use borrow.Author.Needs.{needs}
 use Rattle.marking.proofs.mode.mode.Statement.{statement}
 use Rattle.marking.proofs.mode.mode.Tie as tie
@@ -24,7 +24,7 @@ same-length : tie.Need-same-length
 same-length c = search needs
 
 returns : tie.Need-returns
-returns c = search mode-not-ready
+returns c = search (mode-refused, not-ready)
 
 same-length-2 : tie.Need-same-length-2
 same-length-2 c = search needs

@@ -1,6 +1,6 @@
 -- A volume that is not ready is refused by the first two rows; else the rest is left to the call on the volume.
-use Rattle.calls.specs.Laws.Ready.{ready-on}
-use Rattle.opening.specs.Laws.Open.{open-not-ready}
+use Rattle.calls.specs.Laws.Ready.{ready-on, not-ready}
+use Rattle.opening.specs.Laws.Open.{open-refused}
 use borrow.Author.Needs.{needs}
 use Rattle.opening.proofs.open.open.Statement.{statement}
 use Rattle.opening.proofs.open.open.Tie as tie
@@ -21,7 +21,7 @@ open-on-requires : tie.Need-open-on-requires
 open-on-requires c κs = search ready-on
 
 returns : tie.Need-returns
-returns c = search open-not-ready
+returns c = search (open-refused, not-ready)
 
 same-length : tie.Need-same-length
 same-length c = search needs

@@ -1,15 +1,19 @@
 -- Each way out is one row that holds after those that don't.
-use Rattle.opening.specs.Laws.Open.{open-12, open-42, open-2, open-5, open-4, open-well}
-use Rattle.calls.specs.Laws.Files.{named-below, named-fits, unused-below, unused-fits}
+use Rattle.opening.specs.Laws.Open.{open-refused, open-well, barred-stops, barred-past}
+use Rattle.calls.specs.Laws.Named.{named, file-named, file-slot}
+use Rattle.calls.specs.Laws.Files.{named-below, named-fits, unused-below, unused-fits, place-stops}
+use Rattle.calls.specs.Laws.Rows.{bounds}
 use borrow.Author.Needs.{needs}
 use Rattle.opening.proofs.open.open_on.Statement.{statement}
 use Rattle.opening.proofs.open.open_on.Tie as tie
+
+ruleset rows = (named, bounds, barred-stops, barred-past, file-slot, place-stops)
 
 refused-requires : tie.Need-refused-requires
 refused-requires c κs = search needs
 
 returns : tie.Need-returns
-returns c = search open-12
+returns c = search (open-refused, rows)
 
 name-given-requires : tie.Need-name-given-requires
 name-given-requires c κs = search needs
@@ -18,7 +22,7 @@ refused-requires-2 : tie.Need-refused-requires-2
 refused-requires-2 c κs = search needs
 
 returns-2 : tie.Need-returns-2
-returns-2 c = search open-42
+returns-2 c = search (open-refused, rows)
 
 file-named-requires : tie.Need-file-named-requires
 file-named-requires c κs = search needs
@@ -39,7 +43,7 @@ refused-requires-4 : tie.Need-refused-requires-4
 refused-requires-4 c κs = search needs
 
 returns-3 : tie.Need-returns-3
-returns-3 c = search open-5
+returns-3 c = search (open-refused, rows) depth 8
 
 lowest-unused-requires : tie.Need-lowest-unused-requires
 lowest-unused-requires c κs = search needs
@@ -69,19 +73,19 @@ well-requires : tie.Need-well-requires
 well-requires c κs = search needs
 
 returns-4 : tie.Need-returns-4
-returns-4 c = search open-2
+returns-4 c = search (open-refused, rows)
 
 same-length : tie.Need-same-length
 same-length c = search needs
 
 returns-5 : tie.Need-returns-5
-returns-5 c = search open-4
+returns-5 c = search (open-refused, rows) depth 8
 
 same-length-2 : tie.Need-same-length-2
 same-length-2 c = search needs
 
 returns-6 : tie.Need-returns-6
-returns-6 c = search open-well
+returns-6 c = search (open-well, file-named)
 
 pub open-on-spec : {M : Type 1} → statement M
 open-on-spec =

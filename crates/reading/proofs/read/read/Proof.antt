@@ -1,6 +1,6 @@
 -- A volume that is not ready is refused by the first two rows; else the rest is left to the call on the volume.
-use Rattle.calls.specs.Laws.Ready.{ready-on}
-use Rattle.reading.specs.Laws.Read.{read-not-ready}
+use Rattle.calls.specs.Laws.Ready.{ready-on, not-ready}
+use Rattle.reading.specs.Laws.Read.{read-refused}
 use borrow.Author.Needs.{needs}
 use Rattle.reading.proofs.read.read.Statement.{statement}
 use Rattle.reading.proofs.read.read.Tie as tie
@@ -21,7 +21,7 @@ read-on-requires : tie.Need-read-on-requires
 read-on-requires c κs = search ready-on
 
 returns : tie.Need-returns
-returns c = search read-not-ready
+returns c = search (read-refused, not-ready)
 
 same-length : tie.Need-same-length
 same-length c = search needs

@@ -1,11 +1,13 @@
 -- Each way out is one row that holds after those that don't.
 use Rattle.calls.specs.Laws.Ready.{on-usable}
-use Rattle.calls.specs.Laws.Files.{live-counted, live-at-most, live-within}
+use Rattle.calls.specs.Laws.Files.{reached, live-counted, live-at-most, live-within}
 use Rattle.holding.specs.Laws.Found.{live-file}
-use Rattle.reading.specs.Laws.Read.{count-roomy, count-short, read-6, read-5, read-well}
+use Rattle.reading.specs.Laws.Read.{count-roomy, count-short, read-stops, read-refused, read-well}
 use borrow.Author.Needs.{needs}
 use Rattle.reading.proofs.read.read_on.Statement.{statement}
 use Rattle.reading.proofs.read.read_on.Tie as tie
+
+ruleset rows = (reached, read-stops)
 
 file-open-requires : tie.Need-file-open-requires
 file-open-requires c κs = search needs
@@ -29,7 +31,7 @@ same-length : tie.Need-same-length
 same-length c = search needs
 
 returns : tie.Need-returns
-returns c = search read-5
+returns c = search (read-refused, rows)
 
 pointer-at-requires : tie.Need-pointer-at-requires
 pointer-at-requires c κs = search live-counted
@@ -59,7 +61,7 @@ same-length-2 : tie.Need-same-length-2
 same-length-2 c = search needs
 
 returns-2 : tie.Need-returns-2
-returns-2 c = search read-6
+returns-2 c = search (read-refused, rows)
 
 same-length-3 : tie.Need-same-length-3
 same-length-3 c = search needs

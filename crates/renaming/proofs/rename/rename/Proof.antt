@@ -1,6 +1,6 @@
 -- A volume that is not ready is refused by the first two rows; else the rest is left to the call on the volume.
-use Rattle.calls.specs.Laws.Ready.{ready-on}
-use Rattle.renaming.specs.Laws.Rename.{rename-not-ready}
+use Rattle.calls.specs.Laws.Ready.{ready-on, not-ready}
+use Rattle.renaming.specs.Laws.Rename.{rename-refused}
 use borrow.Author.Needs.{needs}
 use Rattle.renaming.proofs.rename.rename.Statement.{statement}
 use Rattle.renaming.proofs.rename.rename.Tie as tie
@@ -24,7 +24,7 @@ same-length : tie.Need-same-length
 same-length c = search needs
 
 returns : tie.Need-returns
-returns c = search rename-not-ready
+returns c = search (rename-refused, not-ready)
 
 same-length-2 : tie.Need-same-length-2
 same-length-2 c = search needs

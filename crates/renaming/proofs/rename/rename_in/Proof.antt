@@ -1,5 +1,6 @@
 -- Each way out is one row that holds after those that don't.
-use Rattle.renaming.specs.Laws.Rename.{rename-open, rename-read-only, rename-taken, rename-well}
+use Rattle.calls.specs.Laws.Rows.{tests}
+use Rattle.renaming.specs.Laws.Rename.{last-refused, rename-well}
 use borrow.Author.Needs.{needs}
 use Rattle.renaming.proofs.rename.rename_in.Statement.{statement}
 use Rattle.renaming.proofs.rename.rename_in.Tie as tie
@@ -11,7 +12,7 @@ refused-requires : tie.Need-refused-requires
 refused-requires c κs = search needs
 
 returns : tie.Need-returns
-returns c = search rename-open
+returns c = search (last-refused, tests)
 
 is-read-only-requires : tie.Need-is-read-only-requires
 is-read-only-requires c κs = search needs
@@ -23,7 +24,7 @@ same-length : tie.Need-same-length
 same-length c = search needs
 
 returns-2 : tie.Need-returns-2
-returns-2 c = search rename-read-only
+returns-2 c = search (last-refused, tests)
 
 is-taken-requires : tie.Need-is-taken-requires
 is-taken-requires c κs = search needs
@@ -35,7 +36,7 @@ same-length-2 : tie.Need-same-length-2
 same-length-2 c = search needs
 
 returns-3 : tie.Need-returns-3
-returns-3 c = search rename-taken
+returns-3 c = search (last-refused, tests)
 
 put-name-in-requires : tie.Need-put-name-in-requires
 put-name-in-requires c κs = search needs

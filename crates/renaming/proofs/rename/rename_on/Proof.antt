@@ -1,6 +1,7 @@
 -- Each way out is one row that holds after those that don't, or the last three rows.
 use Rattle.calls.specs.Laws.Files.{named-below}
-use Rattle.renaming.specs.Laws.Rename.{rename-old, rename-new, rename-2, rename-rest}
+use Rattle.calls.specs.Laws.Named.{named, file-named}
+use Rattle.renaming.specs.Laws.Rename.{rename-refused, rename-rest}
 use borrow.Author.Needs.{needs}
 use Rattle.renaming.proofs.rename.rename_on.Statement.{statement}
 use Rattle.renaming.proofs.rename.rename_on.Tie as tie
@@ -12,7 +13,7 @@ refused-requires : tie.Need-refused-requires
 refused-requires c κs = search needs
 
 returns : tie.Need-returns
-returns c = search rename-old
+returns c = search (rename-refused, named)
 
 name-given-requires-2 : tie.Need-name-given-requires-2
 name-given-requires-2 c κs = search needs
@@ -21,7 +22,7 @@ refused-requires-2 : tie.Need-refused-requires-2
 refused-requires-2 c κs = search needs
 
 returns-2 : tie.Need-returns-2
-returns-2 c = search rename-new
+returns-2 c = search (rename-refused, named)
 
 file-named-requires : tie.Need-file-named-requires
 file-named-requires c κs = search needs
@@ -42,13 +43,13 @@ same-length : tie.Need-same-length
 same-length c = search needs
 
 returns-3 : tie.Need-returns-3
-returns-3 c = search rename-2
+returns-3 c = search (rename-refused, named)
 
 same-length-2 : tie.Need-same-length-2
 same-length-2 c = search needs
 
 returns-4 : tie.Need-returns-4
-returns-4 c = search rename-rest
+returns-4 c = search (rename-rest, file-named)
 
 pub rename-on-spec : {M : Type 1} → statement M
 rename-on-spec =

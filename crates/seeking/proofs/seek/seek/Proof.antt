@@ -1,6 +1,6 @@
 -- A volume that is not ready is refused by the first two rows; else the rest is left to the call on the volume.
-use Rattle.calls.specs.Laws.Ready.{ready-on}
-use Rattle.seeking.specs.Laws.Seek.{seek-handed, seek-not-ready}
+use Rattle.calls.specs.Laws.Ready.{ready-on, not-ready}
+use Rattle.seeking.specs.Laws.Seek.{seek-handed, seek-refused}
 use borrow.Author.Needs.{needs}
 use Rattle.seeking.proofs.seek.seek.Statement.{statement}
 use Rattle.seeking.proofs.seek.seek.Tie as tie
@@ -21,7 +21,7 @@ seek-on-requires : tie.Need-seek-on-requires
 seek-on-requires c κs = search ready-on
 
 returns : tie.Need-returns
-returns c = search seek-not-ready
+returns c = search (seek-refused, not-ready)
 
 same-length : tie.Need-same-length
 same-length c = search needs

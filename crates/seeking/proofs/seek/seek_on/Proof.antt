@@ -1,15 +1,18 @@
 -- Each way out is one row that holds after those that don't.
-use Rattle.calls.specs.Laws.Files.{live-slot, live-below, live-counted}
-use Rattle.seeking.specs.Laws.Seek.{seek-method, seek-6, seek-beyond, seek-well}
+use Rattle.calls.specs.Laws.Rows.{bounds}
+use Rattle.calls.specs.Laws.Files.{reached, live-slot, live-below, live-counted}
+use Rattle.seeking.specs.Laws.Seek.{beyond-stops, seek-refused, seek-well}
 use borrow.Author.Needs.{needs}
 use Rattle.seeking.proofs.seek.seek_on.Statement.{statement}
 use Rattle.seeking.proofs.seek.seek_on.Tie as tie
+
+ruleset rows = (reached, bounds, beyond-stops)
 
 refused-requires : tie.Need-refused-requires
 refused-requires c κs = search needs
 
 returns : tie.Need-returns
-returns c = search seek-method
+returns c = search (seek-refused, rows)
 
 file-open-requires : tie.Need-file-open-requires
 file-open-requires c κs = search needs
@@ -48,13 +51,13 @@ same-length : tie.Need-same-length
 same-length c = search needs
 
 returns-2 : tie.Need-returns-2
-returns-2 c = search seek-6
+returns-2 c = search (seek-refused, rows)
 
 same-length-2 : tie.Need-same-length-2
 same-length-2 c = search needs
 
 returns-3 : tie.Need-returns-3
-returns-3 c = search seek-beyond
+returns-3 c = search (seek-refused, rows)
 
 same-length-3 : tie.Need-same-length-3
 same-length-3 c = search needs

@@ -1,6 +1,6 @@
 -- A volume that is not ready is refused by the first two rows; else the rest is left to the look on the volume.
-use Rattle.calls.specs.Laws.Ready.{ready-on}
-use Rattle.viewing.specs.Laws.View.{see-not-ready}
+use Rattle.calls.specs.Laws.Ready.{ready-on, not-ready}
+use Rattle.viewing.specs.Laws.View.{see-refused}
 use borrow.Author.Needs.{needs}
 use Rattle.viewing.proofs.view.see.Statement.{statement}
 use Rattle.viewing.proofs.view.see.Tie as tie
@@ -18,7 +18,7 @@ see-on-requires : tie.Need-see-on-requires
 see-on-requires c κs = search ready-on
 
 returns : tie.Need-returns
-returns c = search see-not-ready
+returns c = search (see-refused, not-ready)
 
 returns-2 : tie.Need-returns-2
 returns-2 c = search needs

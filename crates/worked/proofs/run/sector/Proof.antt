@@ -20,8 +20,8 @@ last-cluster-requires c κs = search named-usable
 returns-2 : tie.Need-returns-2
 returns-2 c = search needs
 
-sector-requires : tie.Need-sector-requires
-sector-requires c κs = (search named-usable, omega arith)
+sector-of-requires : tie.Need-sector-of-requires
+sector-of-requires c κs = (search named-usable, (omega arith, omega arith))
 
 enum-told : tie.Need-enum-told
 enum-told c = search needs
@@ -41,7 +41,7 @@ sector-spec =
     returns
     last-cluster-requires
     returns-2
-    sector-requires
+    sector-of-requires
     enum-told
     returns-3
     returns-4)

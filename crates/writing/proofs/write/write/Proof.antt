@@ -1,6 +1,6 @@
 -- A volume that is not ready is refused by the first two rows; else the rest is left to the call on the volume.
-use Rattle.calls.specs.Laws.Ready.{ready-on, ready-free}
-use Rattle.writing.specs.Laws.Write.{write-not-ready}
+use Rattle.calls.specs.Laws.Ready.{ready-on, ready-free, not-ready}
+use Rattle.writing.specs.Laws.Write.{write-refused}
 use borrow.Author.Needs.{needs}
 use Rattle.writing.proofs.write.write.Statement.{statement}
 use Rattle.writing.proofs.write.write.Tie as tie
@@ -24,7 +24,7 @@ same-length : tie.Need-same-length
 same-length c = search needs
 
 returns : tie.Need-returns
-returns c = search write-not-ready
+returns c = search (write-refused, not-ready)
 
 same-length-2 : tie.Need-same-length-2
 same-length-2 c = search needs

@@ -1,10 +1,12 @@
 -- Each way out is one row that holds after those that don't.
-use Rattle.calls.specs.Laws.Files.{live-counted}
+use Rattle.calls.specs.Laws.Files.{reached, live-counted}
 use Rattle.holding.specs.Laws.Found.{live-file}
-use Rattle.writing.specs.Laws.Write.{write-6, write-5, write-well}
+use Rattle.writing.specs.Laws.Write.{write-stops, write-refused, write-well}
 use borrow.Author.Needs.{needs}
 use Rattle.writing.proofs.write.write_on.Statement.{statement}
 use Rattle.writing.proofs.write.write_on.Tie as tie
+
+ruleset rows = (reached, write-stops)
 
 file-open-requires : tie.Need-file-open-requires
 file-open-requires c κs = search needs
@@ -31,7 +33,7 @@ same-length-2 : tie.Need-same-length-2
 same-length-2 c = search needs
 
 returns : tie.Need-returns
-returns c = search write-5
+returns c = search (write-refused, rows)
 
 write-at-requires : tie.Need-write-at-requires
 write-at-requires c κs = (search needs, (search live-file, (search needs, search live-counted)))
@@ -43,7 +45,7 @@ same-length-4 : tie.Need-same-length-4
 same-length-4 c = search needs
 
 returns-2 : tie.Need-returns-2
-returns-2 c = search write-6
+returns-2 c = search (write-refused, rows)
 
 same-length-5 : tie.Need-same-length-5
 same-length-5 c = search needs

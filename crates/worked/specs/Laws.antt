@@ -1,0 +1,4 @@
+-- The laws of the definitions beside this folder.
+pub mod Sectors
+pub mod Worked
+pub mod Scene
