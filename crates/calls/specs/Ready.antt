@@ -1,30 +1,14 @@
--- What every call does first: rows 40 and 41, else the kind and how many clusters are free.
+-- What a call builds on once rows 40 and 41 do not hold.
 use Prim.Native.Nat.{ℕ}
 use mathlib.Core.Bool.{true}
 use mathlib.Core.List.{List}
 use mathlib.Core.Path.{_≡_}
 use Rattle.diskette.specs.Images.{kindOfImage}
 use Rattle.diskette.specs.declared.Kind.{Kind}
-use Rattle.diskette.specs.declared.WhichKind.{WhichKind}
-use Rattle.diskette.specs.declared.WhichKind.the-variants.{Known, Unknown}
-use Rattle.sound.specs.Judged.{checkOf, isSound}
-use Rattle.sound.specs.declared.Verdict.{Verdict}
-use Rattle.sound.specs.declared.Verdict.the-variants.{Sound, Finding}
-use Rattle.calls.specs.declared.Ready.{Ready}
-use Rattle.calls.specs.declared.Ready.the-variants.{Refused, Volume}
+use Rattle.diskette.specs.declared.WhichKind.the-variants.{Known}
+use Rattle.sound.specs.Judged.{isSound}
 
-abbrev pub readyWith : Kind → Verdict → Ready
-readyWith k (Sound files free held aside) = Volume k free
-readyWith k (Finding number place) = Refused 41
-
-abbrev pub readyBy : WhichKind → Verdict → Ready
-readyBy (Known k) v = readyWith k v
-readyBy Unknown v = Refused 40
-
-unfoldable pub readyOf : List ℕ → Ready
-readyOf img = readyBy (kindOfImage img) (checkOf img)
-
--- the image is a sound volume of the kind k: what the rest of a call builds on
+-- the image is a sound volume of the kind k
 pub record OnVolume (img : List ℕ) (k : Kind) : Type 0 where
   pub known : kindOfImage img ≡ Known k
   pub sound : isSound img ≡ true

@@ -5,7 +5,7 @@ use mathlib.Core.List.{List}
 use Rattle.chains.specs.Sizes.{clustersFor}
 use Rattle.fields.specs.Fields.{sizeOf}
 use Rattle.directory.specs.Slots.{standingOf, isPlain}
-use Rattle.directory.specs.Search.{slotFrom}
+use Rattle.diskette.specs.Places.{slotFrom}
 
 -- slot s of the directory that stands at byte root holds a plain file
 unfoldable pub plainSlot : List ℕ → ℕ → ℕ → Bool

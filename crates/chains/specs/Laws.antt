@@ -9,7 +9,6 @@ pub mod Values
 pub mod Chain
 pub mod Walk
 pub mod Holders
-pub mod Clusters
 pub mod Counts
 pub mod Replace
 pub mod ReplaceCounts

@@ -5,11 +5,10 @@ use Prim.Native.Nat.{ℕ}
 use mathlib.Core.Bool.{false, cond, _&&_, not}
 use mathlib.Core.List.{List, [], _∷_}
 use mathlib.Core.Path.{_≡_}
-use Rattle.diskette.specs.Places.{rootAt, rootEntries, slotAt}
+use Rattle.diskette.specs.Places.{slotAt}
 use Rattle.diskette.specs.declared.Kind.{Kind}
 use Rattle.fields.specs.Fields.{withEntry}
-use Rattle.directory.specs.Search.{lowestOpenSlot}
-use Rattle.names.specs.Reading.{nameOf}
+use Rattle.names.specs.Reading.{nameGiven}
 use Rattle.stamps.specs.Stamps.{packed}
 use Rattle.stamps.specs.declared.Stamp.{Stamp}
 use Rattle.stamps.specs.declared.Packed.{Packed}
@@ -48,8 +47,8 @@ madeBy l t k slot name attr OutOfRange = made l t k slot name attr 0 0
 abbrev pub createEffect : List ℕ → List ℕ → List ℕ → ℕ → Stamp → Outcome
 createEffect img t s attr stamp =
     let k = theKind img in
-    cond (noFile img s) (madeBy img t k (placeFound (slotForNew img)) (nameOf s .name) attr (packed stamp))
-    (madeBy (chainFreed k img (fileSlot img s)) t k (fileSlot img s) (nameOf s .name) attr (packed stamp))
+    cond (noFile img s) (madeBy img t k (placeFound (slotForNew img)) (nameGiven s .name) attr (packed stamp))
+    (madeBy (chainFreed k img (fileSlot img s)) t k (fileSlot img s) (nameGiven s .name) attr (packed stamp))
 
 unfoldable pub createOutcome : List ℕ → List ℕ → List ℕ → ℕ → Stamp → Outcome
 createOutcome img t s attr stamp = decided (createRows img t s attr stamp) (createEffect img t s attr stamp) img t []
@@ -57,16 +56,3 @@ createOutcome img t s attr stamp = decided (createRows img t s attr stamp) (crea
 -- what the call promises: its answer r, the image and the table after
 pub record Creates (img t s : List ℕ) (attr : ℕ) (stamp : Stamp) (r : Answer) (after table : List ℕ) : Type 0 where
   pub is : outcome (r .number) (r .value) after table [] ≡ createOutcome img t s attr stamp
-
--- ---- an aid to the proofs: the last rows, of an existing file and of a new one
-
-pub record Empties (img t : List ℕ) (k : Kind) (slot : ℕ) (name : List ℕ) (attr time date : ℕ) (r : Answer) (after table : List ℕ) : Type 0 where
-  pub is : outcome (r .number) (r .value) after table []
-      ≡ decided ((isOpen t slot, 5) ∷ (readOnly img slot, 5) ∷ (noPlace t, 4) ∷ []) (made (chainFreed k img slot) t k slot name attr time date) img t []
-
-abbrev pub newSlot : Kind → List ℕ → ℕ
-newSlot k img = placeFound (lowestOpenSlot img (rootAt k) (rootEntries k))
-
-pub record MakesNew (img t : List ℕ) (k : Kind) (name : List ℕ) (attr time date : ℕ) (r : Answer) (after table : List ℕ) : Type 0 where
-  pub is : outcome (r .number) (r .value) after table []
-      ≡ decided ((isNothing (lowestOpenSlot img (rootAt k) (rootEntries k)), 5) ∷ (noPlace t, 4) ∷ []) (made img t k (newSlot k img) name attr time date) img t []

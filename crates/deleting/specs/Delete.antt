@@ -35,9 +35,3 @@ deleteOutcome img t s = decided (deleteRows img t s) (deleteEffect img t s) img 
 -- what the call promises: its answer r, and the image after
 pub record Deletes (img t s : List ℕ) (r : Answer) (after : List ℕ) : Type 0 where
   pub is : outcome (r .number) (r .value) after t [] ≡ deleteOutcome img t s
-
--- ---- an aid to the proofs: the last two rows, of the file in a slot
-
-pub record DeletesSlot (img t : List ℕ) (k : Kind) (slot : ℕ) (r : Answer) (after : List ℕ) : Type 0 where
-  pub is : outcome (r .number) (r .value) after t []
-      ≡ decided ((isOpen t slot, 5) ∷ (readOnly img slot, 5) ∷ []) (outcome 0 0 (erasedIn k img slot) t []) img t []

@@ -9,7 +9,8 @@ use search::Found;
 ghost use mathlib.Core.Path.{_≡_};
 ghost use Rattle.calls.specs.Ready.{OnVolume};
 ghost use Rattle.holding.specs.Holding.{FileIn};
-ghost use Rattle.deleting.specs.Delete.{erasedIn, Deletes, DeletesSlot};
+ghost use Rattle.deleting.specs.Delete.{erasedIn, Deletes};
+ghost use Rattle.deleting.specs.Aids.Delete.{DeletesSlot};
 
 // Frees the chain of the file in the slot and erases its entry.
 fn erase_in(img: &mut [u8], k: Kind, slot: usize)

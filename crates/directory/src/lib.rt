@@ -4,8 +4,8 @@ ghost use mathlib.Core.Path.{_≡_};
 ghost use Prim.Native.Nat.{_+_, _*_, _≤_, _<_};
 ghost use lib.ListN.{length};
 ghost use Rattle.fields.specs.Fields.{nameOf};
-ghost use Rattle.directory.specs.Slots.{hasBit, standingBy, standingOf, isOpen, isPlain};
-ghost use Rattle.directory.specs.Search.{sameName, isNamed, lowestOpenSlot, slotNamed};
+ghost use Rattle.directory.specs.Slots.{hasBit, standingBy, standingOf, isVacant, isPlain};
+ghost use Rattle.directory.specs.Search.{sameName, isNamed, lowestVacant, slotNamed};
 
 pub enum Standing {
     NeverUsed,
@@ -16,7 +16,7 @@ pub enum Standing {
 
 impl Standing {
     fn is_open(self) -> bool
-        ensures { λ r. ⌜ r ≡ isOpen self ⌝ }
+        ensures { λ r. ⌜ r ≡ isVacant self ⌝ }
     {
         match self {
             Standing::NeverUsed => true,
@@ -73,7 +73,7 @@ pub fn standing_at(img: &[u8], a: usize) -> Standing
 // Whether a new file may take the slot.
 pub fn open_at(img: &[u8], a: usize) -> bool
     requires { ⌜ a + 32 ≤ length (now img) ⌝ }
-    ensures { λ r. ⌜ r ≡ isOpen (standingOf (now (img .entry)) a) ⌝ }
+    ensures { λ r. ⌜ r ≡ isVacant (standingOf (now (img .entry)) a) ⌝ }
 {
     standing_at(img, a).is_open()
 }
@@ -116,7 +116,7 @@ pub fn named_at(img: &[u8], a: usize, name: [u8; 11]) -> bool
 // The lowest slot that is erased or never used.
 pub fn lowest_open_slot(img: &[u8], root: usize, count: usize) -> Found
     requires { ⌜ root + 32 * count ≤ length (now img) ⌝ }
-    ensures { λ r. ⌜ r ≡ lowestOpenSlot (now (img .entry)) root count ⌝ }
+    ensures { λ r. ⌜ r ≡ lowestVacant (now (img .entry)) root count ⌝ }
 {
     let mut slot: usize = 0;
     while slot < count {

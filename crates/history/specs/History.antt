@@ -10,7 +10,7 @@ use lib.Dec.{eqb}
 use lib.ListN.{take}
 use Rattle.chains.specs.Put.{put}
 use Rattle.chains.specs.Write.{written}
-use Rattle.names.specs.Reading.{nameOf}
+use Rattle.names.specs.Reading.{nameGiven}
 use Rattle.opened.specs.Records.{slotOf, pointerOf, writtenOf}
 use Rattle.calls.specs.Outcome.{Outcome}
 use Rattle.calls.specs.Refusals.{fileSlot}
@@ -45,11 +45,11 @@ at s f fs = put fs s (f (fs s))
 -- ---- what a call that ends well does to the files: w is the world before it, o its outcome
 
 abbrev pub changes : Call → World → Outcome → Files → Files
-changes (create s attr stamp) w o fs = put fs (slotOf (o .table) (o .value)) (some (file (nameOf s .name) attr []))
+changes (create s attr stamp) w o fs = put fs (slotOf (o .table) (o .value)) (some (file (nameGiven s .name) attr []))
 changes (write h bs) w o fs = cond (eqb (o .value) 0) fs (at (slotOf (w .table) h) (each (withBytes (pointerOf (w .table) h) (take (o .value) bs))) fs)
 changes (close h stamp) w o fs = cond (writtenOf (w .table) h) (at (slotOf (w .table) h) (each withArchiveBit) fs) fs
 changes (delete s) w o fs = put fs (fileSlot (w .image) s) none
-changes (rename s n) w o fs = at (fileSlot (w .image) s) (each (renamedTo (nameOf n .name))) fs
+changes (rename s n) w o fs = at (fileSlot (w .image) s) (each (renamedTo (nameGiven n .name))) fs
 changes (mode s function attr) w o fs = cond (eqb function 1) (at (fileSlot (w .image) s) (each (markedWith attr)) fs) fs
 changes check w o fs = fs
 changes countFree w o fs = fs

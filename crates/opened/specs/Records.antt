@@ -1,12 +1,13 @@
 -- The open table is a row of records that the caller lends, here of 16 bytes each, one after the other; numbers low byte first.
 -- Where a field stands is said in this file alone: used 0, access 1, written 2, slot 4-7, pointer 8-11; 3 and 12-15 are zero.
-use Prim.Native.Nat.{ℕ, _+_, _*_, _/_, _≤_, min}
-use mathlib.Core.Bool.{Bool, true, false, not}
+use Prim.Native.Nat.{ℕ, _+_, _*_, _/_, min}
+use mathlib.Core.Bool.{Bool, true, not}
 use mathlib.Core.List.{List, [], _∷_, _++_}
 use lib.Dec.{eqb}
 use lib.ListN.{length, getD, replicate}
 use Rattle.image.specs.Store.{stored}
 use Rattle.image.specs.Numbers.{number, digits}
+use Rattle.chains.specs.Sums.{bit}
 
 -- only the first 16 are used; a last piece of less than 16 bytes is no record
 abbrev pub placeCount : List ℕ → ℕ
@@ -15,10 +16,6 @@ placeCount t = min 16 (length t / 16)
 -- the byte at which place p begins
 abbrev pub placeAt : ℕ → ℕ
 placeAt p = 16 * p
-
--- byte j of the table stands after the records that are used
-abbrev pub PastPlaces : List ℕ → ℕ → Type 0
-PastPlaces t j = placeAt (placeCount t) ≤ j
 
 -- ---- A record holds:
 
@@ -44,14 +41,9 @@ writtenOf t p = not (eqb (getD t (placeAt p + 2) 0) 0)
 
 -- ---- a record stored
 
--- a mark is stored as 1 or 0
-abbrev pub mark : Bool → ℕ
-mark true = 1
-mark false = 0
-
 -- bytes 0-3 of a used place
 unfoldable pub markBytes : ℕ → Bool → List ℕ
-markBytes access written = mark true ∷ access ∷ mark written ∷ 0 ∷ []
+markBytes access written = bit true ∷ access ∷ bit written ∷ 0 ∷ []
 
 -- bytes 4-15
 unfoldable pub numberBytes : ℕ → ℕ → List ℕ
@@ -71,7 +63,7 @@ withPointer t p v = stored t (placeAt p + 8) (digits v 4)
 
 -- t with place p marked as written
 unfoldable pub withWritten : List ℕ → ℕ → List ℕ
-withWritten t p = stored t (placeAt p + 2) (mark true ∷ [])
+withWritten t p = stored t (placeAt p + 2) (bit true ∷ [])
 
 -- frees the place (all fields zero)
 unfoldable pub cleared : List ℕ → ℕ → List ℕ

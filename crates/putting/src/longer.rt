@@ -10,7 +10,7 @@ ghost use Rattle.fields.specs.Fields.{withStart, withSize};
 ghost use Rattle.links.specs.Linked.{endOf};
 ghost use Rattle.calls.specs.Ready.{OnVolume};
 ghost use Rattle.holding.specs.Holding.{fileChain, FileIn};
-ghost use Rattle.putting.specs.Longer.{CanGrow, AddedBehind, Grows, Lengthens};
+ghost use Rattle.putting.specs.Aids.Longer.{CanGrow, AddedBehind, Grows, Lengthens};
 
 // How many clusters the file in the slot has: a sound volume's file has exactly as many as its size needs.
 pub fn own_clusters(img: &[u8], k: Kind, slot: usize) -> usize

@@ -1,11 +1,9 @@
 -- Entries of the table: 12 bits each, two of them in three bytes. A copy of the table starts at byte base: copy 1 at byte
 -- 512, copy 2 at byte second.
-use Prim.Native.Nat.{ℕ, _+_, _*_, _/_, _≤_, _<_}
+use Prim.Native.Nat.{ℕ, _+_, _*_, _/_}
 use mathlib.Core.Bool.{cond, _&&_}
 use mathlib.Core.List.{List}
-use mathlib.Core.Path.{_≡_}
 use lib.Dec.{leb}
-use lib.ListN.{length, getD}
 use Rattle.image.specs.Store.{stored}
 use Rattle.image.specs.Numbers.{number, digits}
 use Rattle.values.specs.Bits.{even, taken, kept}
@@ -29,15 +27,6 @@ entryOf l n = entryAt 512 l n
 -- l with v stored as entry n "in both copies"
 unfoldable pub setBoth : ℕ → List ℕ → ℕ → ℕ → List ℕ
 setBoth second l n v = setAt second (setAt 512 l n v) n v
-
--- each copy holds the whole word of entry n: copy 1 before copy 2, copy 2 before the end
-pub record Reaches (second : ℕ) (l : List ℕ) (n : ℕ) : Type 0 where
-  pub low : wordAt 512 n + 2 ≤ second
-  pub high : wordAt second n + 2 ≤ length l
-
--- the copies, of size bytes each, are the same
-abbrev pub Agree : ℕ → ℕ → List ℕ → Type 0
-Agree second size l = (j : ℕ) → j < size → getD l (512 + j) 0 ≡ getD l (second + j) 0
 
 -- the table as a function: the entry of each cluster, and 0 where there is no cluster
 unfoldable pub tableOf : ℕ → List ℕ → ℕ → ℕ

@@ -9,7 +9,8 @@ ghost use Prim.Native.Nat.{_+_, _-_, _≤_, _<_};
 ghost use lib.ListN.{length};
 ghost use Rattle.chains.specs.Values.{freeCount, asideCount};
 ghost use Rattle.chains.specs.Sums.{tally};
-ghost use Rattle.table.specs.Entries.{wordAt, entryAt, entryOf, setAt, setBoth, Reaches, tableOf};
+ghost use Rattle.table.specs.Entries.{wordAt, entryAt, entryOf, setAt, setBoth, tableOf};
+ghost use Rattle.table.specs.Aids.Copies.{Reaches};
 ghost use Rattle.table.specs.Counts.{among, amongAt, lowestFree};
 
 // Entry n of the copy that starts at byte base.

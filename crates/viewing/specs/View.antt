@@ -1,10 +1,9 @@
 -- "View takes a name and an offset and gives back the part of the image from that byte to the end of its cluster or file,
 -- whichever is first; an empty part at or past the end or on any refusal. A second call on the same inputs answers its
 -- refusal number, or 0."
-use Prim.Native.Nat.{ℕ, _+_, _-_, _*_, _%_, _≤_, min}
+use Prim.Native.Nat.{ℕ, _-_, _*_, _%_, min}
 use mathlib.Core.List.{List, [], _∷_}
 use mathlib.Core.Path.{_≡_}
-use lib.ListN.{length}
 use Rattle.image.specs.Store.{part}
 use Rattle.contents.specs.Contents.{placeOf}
 use Rattle.diskette.specs.Places.{firstData, clusterBytes, lastCluster, slotAt}
@@ -44,15 +43,3 @@ pub record Views (img s : List ℕ) (offset : ℕ) (seen : List ℕ) : Type 0 wh
 -- what the second call promises: the number it answers
 pub record ViewNumbers (img s : List ℕ) (offset number : ℕ) : Type 0 where
   pub is : number ≡ viewOutcome img s offset .number
-
--- ---- an aid to the proofs: the number, and bytes of the image from at on
-
-pub record Sees (img s : List ℕ) (offset number at bytes : ℕ) : Type 0 where
-  pub is : outcome number 0 img [] (part img at bytes) ≡ viewOutcome img s offset
-  pub within : at + bytes ≤ length img
-
--- the same of the file in a slot
-pub record SeesFile (img : List ℕ) (k : Kind) (slot offset number at bytes : ℕ) : Type 0 where
-  pub number-is : number ≡ 0
-  pub part-is : part img at bytes ≡ viewPart k img slot offset
-  pub inside : at + bytes ≤ length img

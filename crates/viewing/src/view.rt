@@ -8,7 +8,8 @@ ghost use Prim.Native.Nat.{_<_};
 ghost use mathlib.Core.Path.{_≡_};
 ghost use Rattle.calls.specs.Ready.{OnVolume};
 ghost use Rattle.holding.specs.Holding.{FileIn};
-ghost use Rattle.viewing.specs.View.{viewCount, Views, ViewNumbers, Sees, SeesFile};
+ghost use Rattle.viewing.specs.View.{viewCount, Views, ViewNumbers};
+ghost use Rattle.viewing.specs.Aids.View.{Sees, SeesFile};
 
 // A refusal's number, or 0 and the bytes of the image from at on.
 pub struct Seen {

@@ -7,13 +7,13 @@ use diskette::Kind;
 use search::Found;
 ghost use Prim.Native.Nat.{_+_, _<_};
 ghost use mathlib.Core.Path.{_≡_};
-ghost use Rattle.chains.specs.Write.{accepted};
 ghost use Rattle.opened.specs.Records.{placeCount, withPointer, withWritten};
 ghost use Rattle.sound.specs.Counts.{freeOf};
 ghost use Rattle.calls.specs.Ready.{OnVolume};
 ghost use Rattle.holding.specs.Holding.{FileIn};
 ghost use Rattle.putting.specs.Longer.{roomOf};
-ghost use Rattle.writing.specs.Write.{Writes, WritesAt};
+ghost use Rattle.writing.specs.Write.{Writes, accepted};
+ghost use Rattle.writing.specs.Aids.Write.{WritesAt};
 
 // The bytes for which the file in the slot has room, where so many clusters are free.
 fn room_for(img: &[u8], k: Kind, slot: usize, free: usize) -> usize

@@ -7,12 +7,13 @@ use mathlib.Core.Path.{_≡_, refl, sym, ap, subst, _∙_}
 use lib.ListN.{length}
 use mir.Syntax.{w64}
 use mir.Val.{Fits}
-use Rattle.chains.specs.Check.{ownsb}
-use Rattle.chains.specs.Holders.{nobody}
-use Rattle.chains.specs.Marks.{marks}
-use Rattle.chains.specs.Sizes.{Geometry, clustersFor}
+use Rattle.chains.specs.Aids.Check.{ownsb}
+use Rattle.chains.specs.Aids.Holders.{nobody}
+use Rattle.chains.specs.Aids.Marks.{marks}
+use Rattle.chains.specs.Sizes.{clustersFor}
+use Rattle.chains.specs.Aids.Sizes.{Geometry}
 use Rattle.chains.specs.Sums.{sum, tally}
-use Rattle.chains.specs.Verdict.{first}
+use Rattle.chains.specs.Aids.Verdict.{first}
 use Rattle.chains.specs.Laws.Check.{says-owned}
 use Rattle.chains.specs.Laws.Chain.{chain-length}
 use Rattle.chains.specs.Laws.Holders.{file-allows, nobody-owns}
@@ -24,12 +25,12 @@ use Rattle.chains.specs.Laws.TallyTurns.{tally-hit, tally-miss, tally-end}
 use Rattle.chains.specs.Laws.Tests.{says-true, true-says}
 use Rattle.table.specs.Entries.{tableOf}
 use Rattle.fields.specs.Fields.{startOf, sizeOf}
-use Rattle.directory.specs.Search.{slotFrom}
+use Rattle.diskette.specs.Places.{slotFrom}
 use Rattle.directory.specs.Slots.{standingOf, isPlain}
-use Rattle.walks.specs.Walks.{Tails}
+use Rattle.walks.specs.Aids.Walks.{Tails}
 use Rattle.chaincheck.specs.Held.{plainSlot, heldBy}
-use Rattle.chaincheck.specs.Entries.{holderAt, badChainSlot, chainsOf}
-use Rattle.chaincheck.specs.Visits.{chainsFound, slotBy, slotFound, chainAt, SlotMarked, markedUnlessBad, SlotVisited, Underway, FilesVisited}
+use Rattle.chaincheck.specs.Aids.Entries.{holderAt, badChainSlot, chainsOf}
+use Rattle.chaincheck.specs.Aids.Visits.{chainsFound, slotBy, slotFound, chainAt, SlotMarked, markedUnlessBad, SlotVisited, Underway, FilesVisited}
 use Rattle.chaincheck.specs.Laws.SlotTurns.{holder-none, holder-file}
 use Rattle.chaincheck.specs.declared.Slot.{Slot}
 use Rattle.chaincheck.specs.declared.Slot.the-variants.{NoFile, Bad, Clusters}

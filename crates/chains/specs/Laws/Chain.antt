@@ -6,10 +6,11 @@ use mathlib.Core.Path.{_≡_, refl, sym, ap, _∙_, subst}
 use mathlib.Core.Logic.{inl, inr}
 use mathlib.Core.List.{List, [], _∷_}
 use lib.ListN.{length}
-use Rattle.chains.specs.Lists.{Once, _∈_, occ}
-use Rattle.chains.specs.Sizes.{Geometry}
+use Rattle.chains.specs.Lists.{_∈_}
+use Rattle.chains.specs.Aids.Lists.{occ, Once}
+use Rattle.chains.specs.Aids.Sizes.{Geometry}
 use Rattle.chains.specs.Values.{Link, Used}
-use Rattle.chains.specs.Chain.{After, Chain, Leads}
+use Rattle.chains.specs.Aids.Chain.{Leads, After, Chain}
 use Rattle.chains.specs.Laws.Lists.{hit-cases, occ-mem}
 use Rattle.chains.specs.Laws.Sums.{pigeon}
 

@@ -4,11 +4,12 @@ use native.Mathlib.Omega.{arith}
 use mathlib.Core.Path.{_≡_, refl, ap, _∙_}
 use mathlib.Core.List.{List, [], _∷_}
 use lib.ListN.{length, getD}
-use Rattle.chains.specs.Lists.{joined, lastOf}
-use Rattle.chains.specs.Sizes.{Geometry}
-use Rattle.chains.specs.Chain.{After, Chain}
-use Rattle.chains.specs.Marks.{marks}
-use Rattle.chains.specs.Steps.{followed}
+use Rattle.chains.specs.Lists.{lastOf}
+use Rattle.chains.specs.Aids.Lists.{joined}
+use Rattle.chains.specs.Aids.Sizes.{Geometry}
+use Rattle.chains.specs.Aids.Chain.{After, Chain}
+use Rattle.chains.specs.Aids.Marks.{marks}
+use Rattle.chains.specs.Aids.Steps.{followed}
 use Rattle.chains.specs.Laws.Marks.{marks-append}
 
 after-followed : (G : Geometry) (f : ℕ → ℕ) (c : ℕ) (cs : List ℕ) → After (G .last) f c cs → (k : ℕ) → k ≤ length cs → followed f k c ≡ getD (c ∷ cs) k 0

@@ -15,22 +15,23 @@ use Rattle.image.specs.Numbers.{digits}
 use Rattle.image.specs.Store.{stored}
 use Rattle.image.specs.Laws.Numbers.{length-digits, bytes-digits}
 use Rattle.image.specs.Laws.Store.{bytes-one, bytes-stored, stored-inside}
-use Rattle.chains.specs.Content.{Touches, Room, content}
-use Rattle.chains.specs.Holders.{Holder, Owns, fileHolder}
+use Rattle.chains.specs.Content.{content}
+use Rattle.chains.specs.Aids.Content.{Room, Touches}
+use Rattle.chains.specs.Aids.Holders.{Holder, Owns, fileHolder}
 use Rattle.chains.specs.Lists.{_∈_}
-use Rattle.chains.specs.Replace.{Replaced}
+use Rattle.chains.specs.Aids.Replace.{Replaced}
 use Rattle.chains.specs.Values.{Link}
 use Rattle.chains.specs.Laws.Chain.{chain-mem}
 use Rattle.chains.specs.Laws.Changes.{keeps}
-use Rattle.chains.specs.Laws.Clusters.{file-owns}
+use Rattle.sound.specs.Laws.Clusters.{file-owns}
 use Rattle.chains.specs.Laws.Content.{cluster-high}
 use Rattle.chains.specs.Laws.Holders.{file-fits}
 use Rattle.chains.specs.Laws.Tests.{clash}
 use Rattle.chains.specs.Laws.Touched.{content-same, touched-twice}
-use Rattle.diskette.specs.Kinds.{Usable}
+use Rattle.diskette.specs.Aids.Usable.{Usable}
 use Rattle.diskette.specs.Places.{firstData, clusterBytes, lastCluster, rootAt, rootEntries, slotAt}
 use Rattle.diskette.specs.declared.Kind.{Kind}
-use Rattle.directory.specs.Entries.{Untouched}
+use Rattle.directory.specs.Aids.Entries.{Untouched}
 use Rattle.fields.specs.Fields.{nameOf, attrOf, startOf, sizeOf, withName, withAttr}
 use Rattle.directory.specs.Search.{slotNamed}
 use Rattle.directory.specs.Slots.{hasBit, NeverUsedAt, PlainAt}
@@ -41,10 +42,10 @@ use Rattle.names.specs.Spelling.{Proper}
 use Rattle.names.specs.Laws.Proper.{proper}
 use Rattle.search.specs.Search.{Answers}
 use Rattle.search.specs.declared.Found.the-variants.{Nothing}
-use Rattle.chaincheck.specs.Entries.{holderAt}
+use Rattle.chaincheck.specs.Aids.Entries.{holderAt}
 use Rattle.sound.specs.Files.{valueOf, ChainOf}
 use Rattle.sound.specs.Findings.{StrangeEntry}
-use Rattle.sound.specs.Holders.{rootHolders, rootChains}
+use Rattle.sound.specs.Aids.Holders.{rootHolders, rootChains}
 use Rattle.sound.specs.Laws.Geometry.{geometry}
 use Rattle.sound.specs.Laws.Holders.{root-holder, plain-holder}
 use Rattle.calls.specs.Ready.{OnVolume}
@@ -58,7 +59,7 @@ use Rattle.holding.specs.Holding.{FileIn}
 use Rattle.holding.specs.Laws.Chain.{file-within}
 use Rattle.holding.specs.Laws.Clusters.{on-clusters}
 use Rattle.changes.specs.Files.{File, file, Holds}
-use Rattle.changes.specs.Changed.{Framed, SlotChanged}
+use Rattle.changes.specs.Aids.Changed.{Framed, SlotChanged}
 use Rattle.changes.specs.Laws.Changed.{on-sound, on-theory}
 use Rattle.changes.specs.Laws.Frames.{frame-then, entry-frame, entry-table, entry-touches}
 
@@ -255,9 +256,9 @@ module _ (k : Kind) (l : List ℕ) (v : OnVolume l k) (s : ℕ) (i : FileIn l k 
 
   -- ---- rename
 
-  module _ (given : List ℕ) (fits : Given.nameOf given .fits ≡ true) where
+  module _ (given : List ℕ) (fits : Given.nameGiven given .fits ≡ true) where
     abbrev name : List ℕ
-    name = Given.nameOf given .name
+    name = Given.nameGiven given .name
 
     abbrev renamed : List ℕ
     renamed = withName l a name

@@ -2,14 +2,14 @@
 use Prim.Native.Nat.{ℕ, _<_}
 use mathlib.Core.List.{List, []}
 use mathlib.Core.Path.{_≡_, sym, _∙_, subst}
-use Rattle.chains.specs.Holders.{Holder, Owns, fileHolder}
+use Rattle.chains.specs.Aids.Holders.{Holder, Owns, fileHolder}
 use Rattle.chains.specs.Laws.Holders.{owns-same, owns-nobody}
 use Rattle.diskette.specs.Places.{clusterBytes, lastCluster, rootEntries, slotAt}
 use Rattle.diskette.specs.declared.Kind.{Kind}
 use Rattle.fields.specs.Fields.{startOf, sizeOf}
 use Rattle.directory.specs.Slots.{PlainAt}
 use Rattle.sound.specs.Files.{valueOf}
-use Rattle.sound.specs.Holders.{rootHolders, rootChains}
+use Rattle.sound.specs.Aids.Holders.{rootHolders, rootChains}
 use Rattle.sound.specs.Laws.Geometry.{geometry}
 use Rattle.sound.specs.Laws.Holders.{root-holder, plain-holder, no-holder}
 use Rattle.calls.specs.Ready.{OnVolume}

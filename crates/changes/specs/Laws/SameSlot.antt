@@ -14,7 +14,7 @@ use Rattle.directory.specs.Slots.{PlainAt}
 use Rattle.sound.specs.Findings.{BadSlot}
 use Rattle.calls.specs.Ready.{OnVolume}
 use Rattle.holding.specs.Holding.{FileIn}
-use Rattle.changes.specs.Changed.{GoodSlot}
+use Rattle.changes.specs.Aids.Changed.{GoodSlot}
 use Rattle.changes.specs.Laws.Changed.{on-sound}
 
 module _ (k : Kind) (l m : List ℕ) (s : ℕ) (v : OnVolume l k) (i : FileIn l k s) (first : getD m (slotAt k s) 0 ≡ getD l (slotAt k s) 0)

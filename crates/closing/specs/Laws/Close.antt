@@ -16,9 +16,11 @@ use Rattle.stamps.specs.declared.Stamp.{Stamp}
 use Rattle.stamps.specs.declared.Packed.{Packed}
 use Rattle.stamps.specs.declared.Packed.the-variants.{Words, OutOfRange}
 use Rattle.opened.specs.Records.{writtenOf, cleared}
-use Rattle.opened.specs.Places.{liveSlot}
-use Rattle.calls.specs.Outcome.{Outcome, refusal, decided, refusedBy, answering}
-use Rattle.calls.specs.Ready.{readyOf, OnVolume}
+use Rattle.opened.specs.Aids.Places.{liveSlot}
+use Rattle.calls.specs.Outcome.{Outcome, refusal, decided}
+use Rattle.calls.specs.Aids.Answers.{refusedBy, answering}
+use Rattle.calls.specs.Ready.{OnVolume}
+use Rattle.calls.specs.Aids.Ready.{readyOf}
 use Rattle.closing.specs.Close.{archived, stamped, closeOutcome, Closes}
 use Rattle.calls.specs.Laws.Ready.{on-kind, known-passed, sound-passed, ready-refused}
 use Rattle.calls.specs.Laws.Files.{not-live, live-passed, live-slot}

@@ -8,20 +8,21 @@ use mathlib.Core.Path.{_≡_, refl, ap}
 use mathlib.Core.List.{List, [], _∷_}
 use lib.ListN.{length, getD}
 use Rattle.chains.specs.Lists.{_∈_}
-use Rattle.chains.specs.Sizes.{Geometry}
+use Rattle.chains.specs.Aids.Sizes.{Geometry}
 use Rattle.chains.specs.Values.{Link}
-use Rattle.chains.specs.Chain.{Chain}
+use Rattle.chains.specs.Aids.Chain.{Chain}
 use Rattle.chains.specs.Walk.{walk}
-use Rattle.chains.specs.Steps.{followed}
-use Rattle.chains.specs.Content.{Room}
+use Rattle.chains.specs.Aids.Steps.{followed}
+use Rattle.chains.specs.Aids.Content.{Room}
 use Rattle.chains.specs.Laws.Lists.{index-mem}
 use Rattle.chains.specs.Laws.Chain.{chain-mem, chain-length}
 use Rattle.chains.specs.Laws.Walk.{walk-chain, chain-walk}
-use Rattle.chains.specs.Laws.Clusters.{chain-clusters}
+use Rattle.sound.specs.Laws.Clusters.{chain-clusters}
 use Rattle.chains.specs.Laws.Follow.{chain-followed}
 use Rattle.chains.specs.Laws.Content.{cluster-high}
 use Rattle.table.specs.Entries.{tableOf}
-use Rattle.contents.specs.Contents.{Area, orNone, chainFrom}
+use Rattle.contents.specs.Contents.{orNone, chainFrom}
+use Rattle.contents.specs.Aids.Contents.{Area}
 
 -- what theorems on chains use of it
 abbrev pub geometry : {base cb last bytes : ℕ} → Area base cb last bytes → Geometry

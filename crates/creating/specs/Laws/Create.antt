@@ -11,8 +11,8 @@ use Rattle.search.specs.Laws.Meaning.{lowest-is}
 use Rattle.search.specs.declared.Found.{Found}
 use Rattle.search.specs.declared.Found.the-variants.{At, Nothing}
 use Rattle.fields.specs.Fields.{withEntry}
-use Rattle.directory.specs.Search.{openSlot, lowestOpenSlot, slotNamed}
-use Rattle.names.specs.Reading.{nameOf}
+use Rattle.directory.specs.Search.{vacantSlot, lowestVacant, slotNamed}
+use Rattle.names.specs.Reading.{nameGiven}
 use Rattle.names.specs.declared.Spelled.{Spelled}
 use Rattle.stamps.specs.Stamps.{packed}
 use Rattle.stamps.specs.declared.Stamp.{Stamp}
@@ -20,11 +20,14 @@ use Rattle.stamps.specs.declared.Packed.{Packed}
 use Rattle.stamps.specs.declared.Packed.the-variants.{Words, OutOfRange}
 use Rattle.opened.specs.Places.{isOpen, lowestUnused}
 use Rattle.opened.specs.Records.{withRecord}
-use Rattle.calls.specs.Outcome.{Outcome, refusal, decided, refusedBy, answering}
+use Rattle.calls.specs.Outcome.{Outcome, refusal, decided}
+use Rattle.calls.specs.Aids.Answers.{refusedBy, answering}
 use Rattle.calls.specs.Refusals.{readOnly, badAttr, slotForNew}
-use Rattle.calls.specs.Ready.{readyOf, OnVolume}
+use Rattle.calls.specs.Ready.{OnVolume}
+use Rattle.calls.specs.Aids.Ready.{readyOf}
 use Rattle.freeing.specs.Freed.{chainFreed}
-use Rattle.creating.specs.Create.{createOutcome, Creates, Empties, MakesNew}
+use Rattle.creating.specs.Create.{createOutcome, Creates}
+use Rattle.creating.specs.Aids.Create.{Empties, MakesNew}
 use Rattle.calls.specs.Laws.Ready.{on-kind, on-usable, known-passed, sound-passed, ready-refused}
 use Rattle.calls.specs.Laws.Files.{found-is, below-by, slot-within}
 use Rattle.calls.specs.declared.Answer.{Answer}
@@ -39,7 +42,7 @@ creates-only x y =
 
 -- ---- the ways out
 
-new-is : (img : List ℕ) (k : Kind) → OnVolume img k → slotForNew img ≡ lowestOpenSlot img (rootAt k) (rootEntries k)
+new-is : (img : List ℕ) (k : Kind) → OnVolume img k → slotForNew img ≡ lowestVacant img (rootAt k) (rootEntries k)
 unfolding slotForNew
 new-is img k v = rw (on-kind img k v)
 
@@ -51,7 +54,7 @@ module _ (img t s : List ℕ) (attr : ℕ) (stamp : Stamp) where
   unfolding createOutcome
   create-not-ready r e number q a x = record { is = rw x (sym (ready-refused img r e number q .answer _ _ t [])) }
 
-  module _ (k : Kind) (v : OnVolume img k) (g : Spelled) (given : g ≡ nameOf s) where
+  module _ (k : Kind) (v : OnVolume img k) (g : Spelled) (given : g ≡ nameGiven s) where
     pub create-42 : not (g .fits) ≡ true → Refuses 42
     unfolding createOutcome decided refusal
     create-42 h a x = record { is = rw (x, known-passed img k v, sound-passed img k v, ← given, h) }
@@ -106,10 +109,10 @@ module _ (img t : List ℕ) (k : Kind) (slot : ℕ) (name : List ℕ) (attr time
 
 -- ---- a new file
 
-module _ (img : List ℕ) (k : Kind) (f : Found) (found : f ≡ lowestOpenSlot img (rootAt k) (rootEntries k)) where
+module _ (img : List ℕ) (k : Kind) (f : Found) (found : f ≡ lowestVacant img (rootAt k) (rootEntries k)) where
   pub open-below : (slot : ℕ) → f ≡ At slot → slot < rootEntries k
-  unfolding lowestOpenSlot
-  open-below slot q = below-by (openSlot img (rootAt k)) (rootEntries k) slot f (rw found (lowest-is (openSlot img (rootAt k)) 0 (rootEntries k))) q
+  unfolding lowestVacant
+  open-below slot q = below-by (vacantSlot img (rootAt k)) (rootEntries k) slot f (rw found (lowest-is (vacantSlot img (rootAt k)) 0 (rootEntries k))) q
 
   pub open-at-most : (slot : ℕ) → f ≡ At slot → slot ≤ rootEntries k
   open-at-most slot q = let h : slot < rootEntries k = open-below slot q in omega arith
@@ -123,7 +126,7 @@ module _ (img : List ℕ) (k : Kind) (f : Found) (found : f ≡ lowestOpenSlot i
   pub open-within : OnVolume img k → (slot : ℕ) → f ≡ At slot → (a : ℕ) → a ≡ slotAt k slot → a + 32 ≤ length img
   open-within v slot q a i = slot-within img k v slot a (open-below slot q) i
 
-module _ (img t : List ℕ) (k : Kind) (name : List ℕ) (attr time date : ℕ) (f : Found) (found : f ≡ lowestOpenSlot img (rootAt k) (rootEntries k)) where
+module _ (img t : List ℕ) (k : Kind) (name : List ℕ) (attr time date : ℕ) (f : Found) (found : f ≡ lowestVacant img (rootAt k) (rootEntries k)) where
   abbrev RefusesNew : ℕ → Type 0
   RefusesNew number = (a : Answer) → a ≡ refusedBy number → MakesNew img t k name attr time date a img t
 

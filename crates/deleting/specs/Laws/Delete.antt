@@ -8,13 +8,16 @@ use Rattle.diskette.specs.declared.Kind.{Kind}
 use Rattle.search.specs.declared.Found.{Found}
 use Rattle.search.specs.declared.Found.the-variants.{At, Nothing}
 use Rattle.directory.specs.Search.{slotNamed}
-use Rattle.names.specs.Reading.{nameOf}
+use Rattle.names.specs.Reading.{nameGiven}
 use Rattle.names.specs.declared.Spelled.{Spelled}
 use Rattle.opened.specs.Places.{isOpen}
-use Rattle.calls.specs.Outcome.{Outcome, refusal, decided, refusedBy, answering}
+use Rattle.calls.specs.Outcome.{Outcome, refusal, decided}
+use Rattle.calls.specs.Aids.Answers.{refusedBy, answering}
 use Rattle.calls.specs.Refusals.{readOnly}
-use Rattle.calls.specs.Ready.{readyOf, OnVolume}
-use Rattle.deleting.specs.Delete.{erasedIn, deleteOutcome, Deletes, DeletesSlot}
+use Rattle.calls.specs.Ready.{OnVolume}
+use Rattle.calls.specs.Aids.Ready.{readyOf}
+use Rattle.deleting.specs.Delete.{erasedIn, deleteOutcome, Deletes}
+use Rattle.deleting.specs.Aids.Delete.{DeletesSlot}
 use Rattle.calls.specs.Laws.Ready.{on-kind, known-passed, sound-passed, ready-refused}
 use Rattle.calls.specs.Laws.Files.{found-is}
 use Rattle.calls.specs.declared.Answer.{Answer}
@@ -37,7 +40,7 @@ module _ (img t s : List ℕ) where
   unfolding deleteOutcome
   delete-not-ready r e number q a x = record { is = rw x (sym (ready-refused img r e number q .answer _ _ t [])) }
 
-  module _ (k : Kind) (v : OnVolume img k) (g : Spelled) (given : g ≡ nameOf s) where
+  module _ (k : Kind) (v : OnVolume img k) (g : Spelled) (given : g ≡ nameGiven s) where
     pub delete-42 : not (g .fits) ≡ true → Refuses 42
     unfolding deleteOutcome decided refusal
     delete-42 h a x = record { is = rw (x, known-passed img k v, sound-passed img k v, ← given, h) }

@@ -3,19 +3,19 @@ use borrow.Author.Needs.{needs}
 use mathlib.Core.Path.{_≡_}
 use Prim.Native.Nat.{_-_, _≤_}
 use Rattle.search.specs.Search.{lowest}
-use Rattle.directory.specs.Search.{openSlot, lowestOpenSlot}
+use Rattle.directory.specs.Search.{vacantSlot, lowestVacant}
 use Rattle.directory.specs.Laws.Search.{lowest-all, lowest-hit, lowest-miss, lowest-end}
 use Rattle.directory.proofs.lowest_open_slot.Statement.{statement}
 use Rattle.directory.proofs.lowest_open_slot.Tie as tie
 
 abbrev Inv-loop : tie.InvT-loop
-Inv-loop img root count slot₀ slot = (slot ≤ count) × (lowest (openSlot img root) slot (count - slot) ≡ lowestOpenSlot img root count)
+Inv-loop img root count slot₀ slot = (slot ≤ count) × (lowest (vacantSlot img root) slot (count - slot) ≡ lowestVacant img root count)
 
 abbrev μ-loop : tie.MeasureT-loop
 μ-loop img root count slot₀ slot = count - slot
 
 loop-holds : tie.Need-loop-holds Inv-loop μ-loop
-unfolding lowestOpenSlot
+unfolding lowestVacant
 loop-holds c = search (needs, lowest-all)
 
 mul-open-at : tie.Need-mul-open-at Inv-loop μ-loop

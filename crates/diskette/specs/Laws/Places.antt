@@ -3,7 +3,7 @@ use Prim.Native.Nat.{ℕ, _+_, _-_, _*_, _/_, _≤_, _<_}
 use native.Mathlib.Omega.{arith}
 use native.Mathlib.Nat.{mul-le-mul-right}
 use Rattle.diskette.specs.Places.{firstData, clusterBytes, clusters, lastCluster, rootEntries, slotAt, sectorOf, clusterAt}
-use Rattle.diskette.specs.Kinds.{Usable}
+use Rattle.diskette.specs.Aids.Usable.{Usable}
 use Rattle.diskette.specs.declared.Kind.{Kind}
 
 module _ (k : Kind) (u : Usable k) where

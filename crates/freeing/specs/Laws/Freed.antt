@@ -9,7 +9,7 @@ use Rattle.chains.specs.Sizes.{clustersFor}
 use Rattle.diskette.specs.Places.{clusterBytes, copyTwo, lastCluster, slotAt}
 use Rattle.diskette.specs.declared.Kind.{Kind}
 use Rattle.fields.specs.Fields.{startOf, sizeOf}
-use Rattle.links.specs.Freed.{freedFrom}
+use Rattle.links.specs.Aids.Freed.{freedFrom}
 use Rattle.links.specs.Laws.Freed.{chain-freed}
 use Rattle.calls.specs.Ready.{OnVolume}
 use Rattle.calls.specs.Laws.Ready.{on-usable}

@@ -11,7 +11,7 @@ use Rattle.diskette.specs.Places.{rootEntries, slotAt}
 use Rattle.diskette.specs.declared.Kind.{Kind}
 use Rattle.directory.specs.Entries.{SameBytes}
 use Rattle.calls.specs.Ready.{OnVolume}
-use Rattle.history.specs.Came.{Came, Changes, stays, changes}
+use Rattle.history.specs.Aids.Came.{Came, Changes, stays, changes}
 use Rattle.changes.specs.Files.{File, Files, Shows, ShowsAt}
 use Rattle.history.specs.History.{after}
 use Rattle.history.specs.World.{World, Call, Names, step}

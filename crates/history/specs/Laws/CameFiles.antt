@@ -18,8 +18,8 @@ use Rattle.search.specs.Search.{Answers}
 use Rattle.search.specs.declared.Found.{Found}
 use Rattle.search.specs.declared.Found.the-variants.{At, Nothing}
 use Rattle.fields.specs.Fields.{withEntry}
-use Rattle.directory.specs.Search.{lowestOpenSlot}
-use Rattle.names.specs.Reading.{nameOf}
+use Rattle.directory.specs.Search.{lowestVacant}
+use Rattle.names.specs.Reading.{nameGiven}
 use Rattle.stamps.specs.Stamps.{packed}
 use Rattle.stamps.specs.declared.Stamp.{Stamp}
 use Rattle.stamps.specs.declared.Packed.{Packed}
@@ -39,8 +39,8 @@ use Rattle.freeing.specs.Freed.{chainFreed}
 use Rattle.creating.specs.Laws.Create.{open-below}
 use Rattle.putting.specs.Written.{writtenIn}
 use Rattle.writing.specs.Write.{writeCount, writeRows, writeEffect, writeOutcome, writeAt}
-use Rattle.history.specs.Came.{Came, stays}
-use Rattle.changes.specs.Changed.{SlotChanged}
+use Rattle.history.specs.Aids.Came.{Came, stays}
+use Rattle.changes.specs.Aids.Changed.{SlotChanged}
 use Rattle.changes.specs.Files.{file, Holds}
 use Rattle.history.specs.History as history
 use Rattle.history.specs.Promises.{Begins}
@@ -128,7 +128,7 @@ module _ (k : Kind) (w : World) (b : Begins k w) where
 
   module _ (s : List ℕ) (attr : ℕ) (stamp : Stamp) where
     abbrev name : List ℕ
-    name = nameOf s .name
+    name = nameGiven s .name
 
     -- a file was made in the slot of n, which is the image, with the clusters of the old file freed if there was one
     made-in : (n : List ℕ) (slot time date : ℕ) → slot < rootEntries k → noPlace t ≡ false → outcomeOf (create s attr stamp) w ≡ made n t k slot name attr time date
@@ -150,11 +150,11 @@ module _ (k : Kind) (w : World) (b : Begins k w) where
         let row = passed-row (createRows l t s attr stamp) refl rows in
         let fits = good-name s (row 2) in
         let kind = on-kind l k (b .on) in
-        let slot = placeFound (lowestOpenSlot l (rootAt k) (rootEntries k)) in
-        let lowest : lowestOpenSlot l (rootAt k) (rootEntries k) ≡ At slot = found-at (lowestOpenSlot l (rootAt k) (rootEntries k)) (rw (q, kind) at (row 7)) in
+        let slot = placeFound (lowestVacant l (rootAt k) (rootEntries k)) in
+        let lowest : lowestVacant l (rootAt k) (rootEntries k) ≡ At slot = found-at (lowestVacant l (rootAt k) (rootEntries k)) (rw (q, kind) at (row 7)) in
         let none-named = no-file-found k l (b .on) s q in
         let made-there : outcomeOf (create s attr stamp) w ≡ made l t k slot name attr time date = e ∙ rw (q, pe, kind) in
-        made-in l slot time date (open-below l k (lowestOpenSlot l (rootAt k) (rootEntries k)) refl slot lowest) (row 8) made-there
+        made-in l slot time date (open-below l k (lowestVacant l (rootAt k) (rootEntries k)) refl slot lowest) (row 8) made-there
         (new-changed k l (b .on) (b .bytes) s fits attr (row 4) time date slot none-named lowest)
         (new-bytes k l (b .on) (b .bytes) s fits attr (row 4) time date slot none-named lowest)
         (new-holds k l (b .on) (b .bytes) s fits attr (row 4) time date slot none-named lowest)

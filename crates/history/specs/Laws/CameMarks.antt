@@ -10,7 +10,7 @@ use borrow.Author.Tests.{not-false}
 use Rattle.diskette.specs.Places.{slotAt}
 use Rattle.diskette.specs.declared.Kind.{Kind}
 use Rattle.fields.specs.Fields.{withName, withAttr}
-use Rattle.names.specs.Reading.{nameOf}
+use Rattle.names.specs.Reading.{nameGiven}
 use Rattle.stamps.specs.Stamps.{packed}
 use Rattle.stamps.specs.declared.Stamp.{Stamp}
 use Rattle.stamps.specs.declared.Packed.{Packed}
@@ -22,7 +22,7 @@ use Rattle.calls.specs.Laws.Ready.{on-kind}
 use Rattle.closing.specs.Close.{stamped, stampedBy, closeRows, closeEffect, closeOutcome}
 use Rattle.marking.specs.Mode.{modeRows, modeEffect, modeOutcome}
 use Rattle.renaming.specs.Rename.{renameRows, renameEffect, renameOutcome}
-use Rattle.history.specs.Came.{Came, stays}
+use Rattle.history.specs.Aids.Came.{Came, stays}
 use Rattle.history.specs.History as history
 use Rattle.history.specs.Promises.{Begins}
 use Rattle.history.specs.World.{World, outcomeOf, step, rename, mode, close}
@@ -55,11 +55,11 @@ module _ (k : Kind) (w : World) (b : Begins k w) where
           let i = file-there k l (b .on) s (row 4) in
           let fits = good-name n (row 3) in
           let free = no-file-found k l (b .on) n (not-false (noFile l n) (row 7)) in
-          let m : step w (rename s n) .image ≡ withName l (slotAt k (fileSlot l s)) (nameOf n .name) = ap (λ (o : Outcome). o .image) e ∙ rw (on-kind l k (b .on)) in
+          let m : step w (rename s n) .image ≡ withName l (slotAt k (fileSlot l s)) (nameGiven n .name) = ap (λ (o : Outcome). o .image) e ∙ rw (on-kind l k (b .on)) in
           came-at k w (rename s n) (fileSlot l s) _ _ (ap (λ (o : Outcome). o .number) e) m refl
           (rename-changed k l (b .on) (fileSlot l s) i n fits free)
           (rename-bytes k l (b .on) (fileSlot l s) i n fits (b .bytes))
-          i (history.renamedTo (nameOf n .name)) (λ fs. refl)
+          i (history.renamedTo (nameGiven n .name)) (λ fs. refl)
           (rename-holds k l (b .on) (fileSlot l s) i n fits)
 
   -- ---- file mode

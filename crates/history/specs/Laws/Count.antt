@@ -7,13 +7,12 @@ use mathlib.Core.Path.{_≡_, refl}
 use lib.ListN.{length, take}
 use lib.Seq.{length-take-le}
 use Rattle.image.specs.Bytes.{Bytes}
-use Rattle.chains.specs.Write.{accepted}
 use Rattle.diskette.specs.declared.Kind.{Kind}
 use Rattle.calls.specs.Ready.{OnVolume}
 use Rattle.holding.specs.Holding.{FileIn}
 use Rattle.putting.specs.Longer.{roomOf}
-use Rattle.putting.specs.Put.{CanPut}
-use Rattle.writing.specs.Write.{writeCount}
+use Rattle.putting.specs.Aids.Put.{CanPut}
+use Rattle.writing.specs.Write.{writeCount, accepted}
 use Rattle.writing.specs.Laws.Write.{count-within, count-reaches}
 
 pub bytes-take : (n : ℕ) (bs : List ℕ) → Bytes bs → Bytes (take n bs)

@@ -5,7 +5,7 @@ use mathlib.Core.List.{List, [], _∷_}
 use mathlib.Core.Path.{_≡_, refl, sym, _∙_, subst}
 use Rattle.image.specs.Bytes.{Bytes}
 use Rattle.image.specs.Laws.Store.{bytes-one}
-use Rattle.chains.specs.Holders.{Holder, Owns}
+use Rattle.chains.specs.Aids.Holders.{Holder, Owns}
 use Rattle.chains.specs.Laws.Holders.{nobody-owns}
 use Rattle.diskette.specs.Places.{clusterBytes, lastCluster, slotAt}
 use Rattle.diskette.specs.declared.Kind.{Kind}
@@ -20,7 +20,7 @@ use Rattle.holding.specs.Holding.{FileIn}
 use Rattle.holding.specs.Laws.Chain.{file-within}
 use Rattle.freeing.specs.Freed.{chainFreed}
 use Rattle.deleting.specs.Delete.{erasedIn}
-use Rattle.changes.specs.Changed.{SlotChanged}
+use Rattle.changes.specs.Aids.Changed.{SlotChanged}
 use Rattle.changes.specs.Laws.Emptied.{Emptied, file-emptied, entry-emptied, emptied-changed}
 use Rattle.changes.specs.Laws.Slots.{used-lower}
 

@@ -18,7 +18,7 @@ use Rattle.chains.specs.Laws.Sizes.{clusters-zero}
 use Rattle.diskette.specs.Places.{clusterBytes, rootEntries, slotAt}
 use Rattle.diskette.specs.declared.Kind.{Kind}
 use Rattle.fields.specs.Fields.{timeOf, dateOf}
-use Rattle.names.specs.Reading.{nameOf}
+use Rattle.names.specs.Reading.{nameGiven}
 use Rattle.stamps.specs.declared.Stamp.{Stamp}
 use Rattle.stamps.specs.declared.Packed.the-variants.{Words}
 use Rattle.sound.specs.Counts.{freeOf, asideOf}
@@ -50,7 +50,7 @@ three e f g = rw (e, f, g)
 
 module _ (k : Kind) (w : World) (fs : Files) (n free : ℕ) (x : HasFiles k w fs n free) (slot : n < rootEntries k) (s : List ℕ) (attr : ℕ) (bs : List ℕ) (stamp : Stamp) (g : GoodFile k fs free s attr bs stamp) where
   abbrev name : List ℕ
-  name = nameOf s .name
+  name = nameGiven s .name
 
   abbrev put-file : ℕ → List ℕ → Files
   put-file a bytes = put fs n (some (file name a bytes))

@@ -12,7 +12,7 @@ use Rattle.image.specs.Bytes.{Bytes}
 use Rattle.diskette.specs.Places.{clusterBytes, clusters, rootEntries, slotAt}
 use Rattle.diskette.specs.declared.Kind.{Kind}
 use Rattle.directory.specs.Slots.{NeverUsedAt}
-use Rattle.names.specs.Reading.{nameOf}
+use Rattle.names.specs.Reading.{nameGiven}
 use Rattle.stamps.specs.Stamps.{packed}
 use Rattle.stamps.specs.declared.Stamp.{Stamp}
 use Rattle.stamps.specs.declared.Packed.the-variants.{Words}
@@ -50,9 +50,9 @@ verdict-of k w fs n free x h =
 
 -- what is given for a new file: the calls have no reason to refuse it
 pub record GoodFile (k : Kind) (fs : Files) (free : ℕ) (s : List ℕ) (attr : ℕ) (bs : List ℕ) (stamp : Stamp) : Type 0 where
-  pub fits : nameOf s .fits ≡ true
-  pub long : length (nameOf s .name) ≡ 11
-  pub new-name : (t : ℕ) (f : File) → fs t ≡ some f → f .name ≢ nameOf s .name
+  pub fits : nameGiven s .fits ≡ true
+  pub long : length (nameGiven s .name) ≡ 11
+  pub new-name : (t : ℕ) (f : File) → fs t ≡ some f → f .name ≢ nameGiven s .name
   pub may : badAttr attr ≡ false
   pub time : ℕ
   pub date : ℕ

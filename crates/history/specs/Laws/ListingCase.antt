@@ -13,11 +13,12 @@ use Rattle.image.specs.Bytes.{Bytes}
 use Rattle.chains.specs.Put.{put}
 use Rattle.chains.specs.Sizes.{clustersFor}
 use Rattle.chains.specs.Laws.Put.{put-same, put-other}
-use Rattle.diskette.specs.Kinds.{named, kindFE, Usable}
+use Rattle.diskette.specs.Kinds.{named, kindFE}
+use Rattle.diskette.specs.Aids.Usable.{Usable}
 use Rattle.diskette.specs.Places.{clusters}
 use Rattle.diskette.specs.Laws.Kinds.{named-usable}
 use Rattle.names.specs.Alphabet.{plain, allowed, capital}
-use Rattle.names.specs.Reading.{nameOf, fitting, before, after}
+use Rattle.names.specs.Reading.{nameGiven, fitting, beforeFirst, afterFirst}
 use Rattle.names.specs.Spelling.{every, eleven}
 use Rattle.names.specs.declared.Spelled.{Spelled}
 use Rattle.stamps.specs.Stamps.{packed, timeFits, dateFits}
@@ -39,12 +40,12 @@ usable : Usable kindFE
 unfolding named
 usable = named-usable 0xFE (named 0xFE) kindFE refl refl
 
-tare-read : nameOf tareGiven ≡ record { fits = true; name = tareName }
-unfolding nameOf fitting before after every allowed plain eleven capital
+tare-read : nameGiven tareGiven ≡ record { fits = true; name = tareName }
+unfolding nameGiven fitting beforeFirst afterFirst every allowed plain eleven capital
 tare-read = refl
 
-day-read : nameOf dayGiven ≡ record { fits = true; name = dayName }
-unfolding nameOf fitting before after every allowed plain eleven capital
+day-read : nameGiven dayGiven ≡ record { fits = true; name = dayName }
+unfolding nameGiven fitting beforeFirst afterFirst every allowed plain eleven capital
 day-read = refl
 
 tare-stamped : packed (timeThen 6 40 0) ≡ Words 0x3500 0x0721
@@ -116,17 +117,17 @@ module _ (tare : List ℕ) (bytes : Bytes tare) (long : length tare ≡ 40) wher
 
   -- the files after the first
   abbrev first-files : Files
-  first-files = put no-files 0 (some (file (nameOf tareGiven .name) (archived 0x01) tare))
+  first-files = put no-files 0 (some (file (nameGiven tareGiven .name) (archived 0x01) tare))
 
-  other-name : (t : ℕ) (f : File) → first-files t ≡ some f → f .name ≢ nameOf dayGiven .name
+  other-name : (t : ℕ) (f : File) → first-files t ≡ some f → f .name ≢ nameGiven dayGiven .name
   other-name t f e same = elim (ℕ-discrete t 0) [
     | yes z ↦
-        let q : some (file (nameOf tareGiven .name) (archived 0x01) tare) ≡ some f = sym (put-same no-files 0 (some (file (nameOf tareGiven .name) (archived 0x01) tare)) t z) ∙ e in
-        let r : file (nameOf tareGiven .name) (archived 0x01) tare ≡ f = cc in
+        let q : some (file (nameGiven tareGiven .name) (archived 0x01) tare) ≡ some f = sym (put-same no-files 0 (some (file (nameGiven tareGiven .name) (archived 0x01) tare)) t z) ∙ e in
+        let r : file (nameGiven tareGiven .name) (archived 0x01) tare ≡ f = cc in
         let n : tareName ≡ dayName = sym (ap (λ (x : Spelled). x .name) tare-read) ∙ ap (λ (x : File). x .name) r ∙ same ∙ ap (λ (x : Spelled). x .name) day-read in
         let d : _≡_ {A = ℕ} 0x54 0x44 = ap (λ (x : List ℕ). getD x 0 0) n in
         omega arith
-    | no d ↦ none-is-none f (sym (put-other no-files 0 (some (file (nameOf tareGiven .name) (archived 0x01) tare)) t d) ∙ e)
+    | no d ↦ none-is-none f (sym (put-other no-files 0 (some (file (nameGiven tareGiven .name) (archived 0x01) tare)) t d) ∙ e)
   ]
 
   abbrev one-file : World
@@ -156,7 +157,7 @@ module _ (tare : List ℕ) (bytes : Bytes tare) (long : length tare ≡ 40) wher
     }
 
     abbrev both-files : Files
-    both-files = put first-files 1 (some (file (nameOf dayGiven .name) (archived 0x00) day))
+    both-files = put first-files 1 (some (file (nameGiven dayGiven .name) (archived 0x00) day))
 
     abbrev two-files : World
     two-files = run one-file (fileCalls dayGiven 0x00 day (timeThen 18 5 29))

@@ -16,7 +16,7 @@ use Rattle.opening.specs.Open.{openRows, openEffect, openOutcome}
 use Rattle.seeking.specs.Seek.{seekRows, seekEffect, seekOutcome}
 use Rattle.reading.specs.Read.{readRows, readEffect, readOutcome}
 use Rattle.viewing.specs.View.{viewRows, viewOutcome}
-use Rattle.history.specs.Came.{Came, stays}
+use Rattle.history.specs.Aids.Came.{Came, stays}
 use Rattle.changes.specs.Files.{Files}
 use Rattle.history.specs.History.{changes, after}
 use Rattle.history.specs.World.{World, Call, verdictIn, outcomeOf, step, check, countFree, tellEntry, openFile, read, seek, view}

@@ -5,12 +5,12 @@ use mathlib.Core.Logic.{_≢_}
 use mathlib.Core.Path.{_≡_, refl, _∙_, subst}
 use Rattle.diskette.specs.Places.{rootEntries, slotAt}
 use Rattle.diskette.specs.declared.Kind.{Kind}
-use Rattle.directory.specs.Entries.{SameFields}
+use Rattle.directory.specs.Aids.Entries.{SameFields}
 use Rattle.directory.specs.Slots.{NeverUsedAt}
 use Rattle.directory.specs.Laws.Entries.{same-fields}
 use Rattle.sound.specs.Counts.{freeOf, asideOf}
 use Rattle.calls.specs.Laws.Files.{slot-within}
-use Rattle.history.specs.Came.{Came}
+use Rattle.history.specs.Aids.Came.{Came}
 use Rattle.changes.specs.Files.{Files, Shows, ShowsAt}
 use Rattle.history.specs.History.{after}
 use Rattle.history.specs.Promises.{Given, Begins}

@@ -12,7 +12,7 @@ use Rattle.calls.specs.Outcome.{Outcome}
 use Rattle.calls.specs.Laws.Ready.{on-kind}
 use Rattle.putting.specs.Longer.{roomOf}
 use Rattle.writing.specs.Write.{writeCount, writeRows, writeEffect, writeOutcome, writeAt}
-use Rattle.history.specs.Came.{Came}
+use Rattle.history.specs.Aids.Came.{Came}
 use Rattle.history.specs.Promises.{Given, Begins, SoundAfterEach, FilesOfHistory, AltersNoOther, TotalAfterEach, ShortOnlyWhereFull}
 use Rattle.history.specs.Tare.{TareStays}
 use Rattle.history.specs.World.{World, Call, outcomeOf, run, check, countFree, tellEntry, openFile, create, read, write, seek, close, delete, rename, mode, view}

@@ -4,7 +4,7 @@ use mathlib.Core.List.{List}
 use mathlib.Core.Option.{Option, none, some}
 use mathlib.Core.Path.{_≡_, sym, ap, _∙_, subst}
 use lib.ListN.{length}
-use Rattle.chains.specs.Holders.{Holder, Owns}
+use Rattle.chains.specs.Aids.Holders.{Holder, Owns}
 use Rattle.chains.specs.Sizes.{clustersFor}
 use Rattle.chains.specs.Laws.Content.{content-length}
 use Rattle.chains.specs.Laws.Holders.{owns-same}
@@ -13,10 +13,10 @@ use Rattle.contents.specs.Laws.Chain.{chain-room}
 use Rattle.diskette.specs.Places.{firstData, clusterBytes, lastCluster, rootEntries, slotAt}
 use Rattle.diskette.specs.declared.Kind.{Kind}
 use Rattle.fields.specs.Fields.{startOf, sizeOf}
-use Rattle.chaincheck.specs.Entries.{holderAt}
+use Rattle.chaincheck.specs.Aids.Entries.{holderAt}
 use Rattle.sound.specs.Counts.{freeOf, asideOf}
 use Rattle.sound.specs.Files.{valueOf}
-use Rattle.sound.specs.Holders.{rootHolders, rootChains}
+use Rattle.sound.specs.Aids.Holders.{rootHolders, rootChains}
 use Rattle.sound.specs.Laws.Geometry.{geometry}
 use Rattle.sound.specs.Laws.Holders.{root-holder}
 use Rattle.calls.specs.Ready.{OnVolume}
@@ -24,8 +24,8 @@ use Rattle.calls.specs.Laws.Ready.{on-usable}
 use Rattle.holding.specs.Holding.{fileChain, fileBytes, FileIn}
 use Rattle.holding.specs.Laws.Chain.{chain-long, file-holds}
 use Rattle.holding.specs.Laws.Clusters.{on-clusters}
-use Rattle.history.specs.Came.{Came, stays, changes}
-use Rattle.changes.specs.Changed.{SlotChanged}
+use Rattle.history.specs.Aids.Came.{Came, stays, changes}
+use Rattle.changes.specs.Aids.Changed.{SlotChanged}
 use Rattle.changes.specs.Files.{File, ShowsAt}
 use Rattle.history.specs.World.{World, Call, Names, step}
 use Rattle.changes.specs.Laws.Changed.{on-theory, changed-on}

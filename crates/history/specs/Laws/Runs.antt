@@ -9,7 +9,7 @@ use Rattle.diskette.specs.declared.Kind.{Kind}
 use Rattle.sound.specs.Counts.{freeOf, heldOf, asideOf}
 use Rattle.sound.specs.Laws.Total.{total}
 use Rattle.calls.specs.Laws.Ready.{on-usable}
-use Rattle.history.specs.Came.{Came}
+use Rattle.history.specs.Aids.Came.{Came}
 use Rattle.changes.specs.Files.{Files, Shows}
 use Rattle.history.specs.History.{history, after}
 use Rattle.history.specs.Promises.{Given, AllGiven, Begins}

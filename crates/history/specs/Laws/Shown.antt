@@ -9,7 +9,7 @@ use mathlib.Core.Option.{Option, none, some}
 use mathlib.Core.Path.{_≡_, refl, sym, ap, _∙_, subst}
 use Rattle.image.specs.Store.{stored, part}
 use Rattle.chains.specs.Content.{content}
-use Rattle.chains.specs.Holders as Theory
+use Rattle.chains.specs.Aids.Holders as Theory
 use Rattle.diskette.specs.Places.{firstData, clusterBytes, lastCluster, rootAt, rootEntries, slotAt}
 use Rattle.diskette.specs.declared.Kind.{Kind}
 use Rattle.fields.specs.Fields.{nameOf, attrOf, sizeOf}
@@ -17,7 +17,7 @@ use Rattle.directory.specs.Slots.{standingOf, isPlain, PlainAt}
 use Rattle.directory.specs.Laws.Slots.{plain-is}
 use Rattle.opened.specs.Records.{slotOf, pointerOf}
 use Rattle.sound.specs.Files.{valueOf, IsFile, ChainOf}
-use Rattle.sound.specs.Holders.{rootHolders}
+use Rattle.sound.specs.Aids.Holders.{rootHolders}
 use Rattle.sound.specs.Laws.Chains.{file-owns-chain}
 use Rattle.sound.specs.Laws.Holders.{root-holder, plain-holder}
 use Rattle.sound.specs.Laws.Sound.{chain-only}

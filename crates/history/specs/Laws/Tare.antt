@@ -19,7 +19,7 @@ use Rattle.calls.specs.Ready.{OnVolume}
 use Rattle.calls.specs.Refusals.{readOnly}
 use Rattle.calls.specs.Laws.Ready.{on-kind}
 use Rattle.viewing.specs.View.{viewOutcome}
-use Rattle.history.specs.Came.{Came}
+use Rattle.history.specs.Aids.Came.{Came}
 use Rattle.changes.specs.Files.{File, Holds}
 use Rattle.history.specs.Promises.{Given, AllGiven, Begins}
 use Rattle.history.specs.Tare.{Tare, SetsMode, NoModeSet, SameFile}

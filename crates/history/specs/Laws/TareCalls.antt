@@ -14,8 +14,8 @@ use borrow.Author.Tests.{eqb-true, eqb-false, lt-ltb}
 use Rattle.chains.specs.Laws.Tests.{clash}
 use Rattle.diskette.specs.Places.{slotAt}
 use Rattle.diskette.specs.declared.Kind.{Kind}
-use Rattle.directory.specs.Slots.{OpenAt}
-use Rattle.names.specs.Reading.{nameOf}
+use Rattle.directory.specs.Slots.{VacantAt}
+use Rattle.names.specs.Reading.{nameGiven}
 use Rattle.stamps.specs.Stamps.{packed}
 use Rattle.stamps.specs.declared.Stamp.{Stamp}
 use Rattle.stamps.specs.declared.Packed.{Packed}
@@ -183,7 +183,7 @@ module _ (k : Kind) (w : World) (v : OnVolume (w .image) k) (s : ℕ) (g : Guard
   new-small e = omega (arith, new-slot k l v e .below, on-usable l k v .few-slots)
 
   new-other : isNothing (slotForNew l) ≡ false → ¬ (s ≡ placeFound (slotForNew l))
-  new-other e q = elim (subst (λ (n : ℕ). OpenAt l (slotAt k n)) (sym q) (new-slot k l v e .passes)) [
+  new-other e q = elim (subst (λ (n : ℕ). VacantAt l (slotAt k n)) (sym q) (new-slot k l v e .passes)) [
     | inl z ↦ g .is-file .plain .0 .1 z
     | inr z ↦ g .is-file .plain .0 .0 z
   ]
@@ -194,6 +194,6 @@ module _ (k : Kind) (w : World) (v : OnVolume (w .image) k) (s : ℕ) (g : Guard
       let row = passed-row (createRows l t name attr stamp) refl p in
       either-spares (noFile l name) _ _ l s _
       (λ e. let found = first-holds (noFile l name) (isNothing (slotForNew l)) (row 7) e in
-      made-by-spares (placeFound (slotForNew l)) (new-small found) (new-other found) (row 8) l (theKind l) (nameOf name .name) attr (packed stamp))
+      made-by-spares (placeFound (slotForNew l)) (new-small found) (new-other found) (row 8) l (theKind l) (nameGiven name .name) attr (packed stamp))
       (λ e. let writable = first-holds (not (noFile l name)) (readOnly l (fileSlot l name)) (row 6) (ap not e) in
-      made-by-spares (fileSlot l name) (named-small k l v name e) (other-slot (fileSlot l name) writable) (row 8) (chainFreed (theKind l) l (fileSlot l name)) (theKind l) (nameOf name .name) attr (packed stamp)))
+      made-by-spares (fileSlot l name) (named-small k l v name e) (other-slot (fileSlot l name) writable) (row 8) (chainFreed (theKind l) l (fileSlot l name)) (theKind l) (nameGiven name .name) attr (packed stamp)))

@@ -8,8 +8,8 @@ use Rattle.chains.specs.Put.{put}
 use Rattle.chains.specs.Laws.Put.{put-same, put-other}
 use Rattle.diskette.specs.declared.Kind.{Kind}
 use Rattle.holding.specs.Holding.{FileIn}
-use Rattle.history.specs.Came.{Came, changes}
-use Rattle.changes.specs.Changed.{SlotChanged}
+use Rattle.history.specs.Aids.Came.{Came, changes}
+use Rattle.changes.specs.Aids.Changed.{SlotChanged}
 use Rattle.changes.specs.Files.{File, Files, Holds, Shows, ShowsAt}
 use Rattle.history.specs.History as history
 use Rattle.history.specs.World.{World, Call, Names, outcomeOf, step}

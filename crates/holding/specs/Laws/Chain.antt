@@ -4,10 +4,10 @@ use native.Mathlib.Omega.{arith}
 use mathlib.Core.List.{List}
 use mathlib.Core.Path.{_≡_, refl, sym, ap, _∙_, subst}
 use lib.ListN.{length}
-use Rattle.chains.specs.Chain.{Chain}
-use Rattle.chains.specs.Holders.{Holder, Owns, fileHolder}
+use Rattle.chains.specs.Aids.Chain.{Chain}
+use Rattle.chains.specs.Aids.Holders.{Holder, Owns, fileHolder}
 use Rattle.chains.specs.Sizes.{clustersFor}
-use Rattle.chains.specs.Laws.Clusters.{file-owns}
+use Rattle.sound.specs.Laws.Clusters.{file-owns}
 use Rattle.chains.specs.Laws.Holders.{file-fits}
 use Rattle.chains.specs.Laws.Sizes.{fits-exact}
 use Rattle.chains.specs.Laws.Tests.{says-true}

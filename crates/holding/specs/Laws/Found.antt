@@ -13,7 +13,7 @@ use Rattle.fields.specs.Fields.{nameOf}
 use Rattle.directory.specs.Slots.{standingOf, isPlain}
 use Rattle.directory.specs.Search.{sameName, namedSlot, slotNamed}
 use Rattle.directory.specs.Laws.Slots.{plain-is}
-use Rattle.opened.specs.Places.{liveSlot}
+use Rattle.opened.specs.Aids.Places.{liveSlot}
 use Rattle.opened.specs.Laws.Places.{live-slot-is}
 use Rattle.calls.specs.Laws.Files.{live-slot, live-below}
 use Rattle.holding.specs.Holding.{FileIn}

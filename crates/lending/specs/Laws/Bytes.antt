@@ -11,7 +11,8 @@ use lib.Seq.{getD-append-add}
 use Rattle.image.specs.Bytes.{Bytes}
 use Rattle.image.specs.Numbers.{number, digits}
 use Rattle.image.specs.Laws.Numbers.{number-same}
-use Rattle.opened.specs.Records.{placeAt, mark, numberBytes, usedOf, slotOf, accessOf, pointerOf, writtenOf}
+use Rattle.opened.specs.Records.{placeAt, numberBytes, usedOf, slotOf, accessOf, pointerOf, writtenOf}
+use Rattle.chains.specs.Sums.{bit}
 use Rattle.opened.specs.Laws.Records.{slot-small, pointer-small}
 use Rattle.records.specs.Row.{unused, recordAt, recordOf, rowFrom, rowOf}
 use Rattle.records.specs.Laws.Alike.{row-length, row-reads, record-of}
@@ -47,7 +48,7 @@ length-place : (r : OpenRecord) → length (placeBytes r) ≡ 16
 unfolding placeBytes numberBytes digits
 length-place r = refl
 
-mark-back : (b : Bool) → not (eqb (mark b) 0) ≡ b
+mark-back : (b : Bool) → not (eqb (bit b) 0) ≡ b
 mark-back true = refl
 mark-back false = refl
 

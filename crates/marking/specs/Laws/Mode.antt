@@ -13,12 +13,14 @@ use Rattle.search.specs.declared.Found.{Found}
 use Rattle.search.specs.declared.Found.the-variants.{At, Nothing}
 use Rattle.fields.specs.Fields.{attrOf, withAttr}
 use Rattle.directory.specs.Search.{slotNamed}
-use Rattle.names.specs.Reading.{nameOf}
+use Rattle.names.specs.Reading.{nameGiven}
 use Rattle.names.specs.declared.Spelled.{Spelled}
 use Rattle.opened.specs.Places.{isOpen}
-use Rattle.calls.specs.Outcome.{Outcome, refusal, decided, refusedBy, answering}
+use Rattle.calls.specs.Outcome.{Outcome, refusal, decided}
+use Rattle.calls.specs.Aids.Answers.{refusedBy, answering}
 use Rattle.calls.specs.Refusals.{badAttr}
-use Rattle.calls.specs.Ready.{readyOf, OnVolume}
+use Rattle.calls.specs.Ready.{OnVolume}
+use Rattle.calls.specs.Aids.Ready.{readyOf}
 use Rattle.marking.specs.Mode.{modeOutcome, Modes}
 use Rattle.calls.specs.Laws.Ready.{on-kind, known-passed, sound-passed, ready-refused}
 use Rattle.calls.specs.Laws.Files.{found-is}
@@ -47,7 +49,7 @@ module _ (img t s : List ℕ) (function attr : ℕ) where
     unfolding modeOutcome decided refusal
     mode-function h a x = record { is = rw (x, known-passed img k v, sound-passed img k v, lt-ltb 1 function h) }
 
-    module _ (small : function ≤ 1) (g : Spelled) (given : g ≡ nameOf s) where
+    module _ (small : function ≤ 1) (g : Spelled) (given : g ≡ nameGiven s) where
       pub mode-42 : not (g .fits) ≡ true → Refuses 42
       unfolding modeOutcome decided refusal
       mode-42 h a x = record { is = rw (x, known-passed img k v, sound-passed img k v, le-ltb 1 function small, ← given, h) }

@@ -14,8 +14,9 @@ use Rattle.image.specs.Numbers.{number, digits}
 use Rattle.image.specs.Laws.Store.{bytes-one, bytes-append, and-then, bytes-stored, stored-inside}
 use Rattle.image.specs.Laws.Numbers.{length-digits, bytes-digits, number-same, number-stored}
 use Rattle.directory.specs.Laws.Entries.{byte-back}
-use Rattle.opened.specs.Records.{placeCount, placeAt, usedOf, slotOf, accessOf, pointerOf, writtenOf, mark, markBytes, numberBytes, recordBytes, withRecord, withPointer, withWritten, cleared}
-use Rattle.opened.specs.Changes.{Holds, OnlyAt}
+use Rattle.opened.specs.Records.{placeCount, placeAt, usedOf, slotOf, accessOf, pointerOf, writtenOf, markBytes, numberBytes, recordBytes, withRecord, withPointer, withWritten, cleared}
+use Rattle.chains.specs.Sums.{bit}
+use Rattle.opened.specs.Aids.Changes.{PlaceHolds, OnlyAt}
 use Rattle.opened.specs.Laws.Records.{untouched, only-place}
 
 -- ---- the bytes of a record
@@ -24,11 +25,11 @@ pub length-record : (access slot pointer : ℕ) (written : Bool) → length (rec
 unfolding recordBytes markBytes numberBytes digits
 length-record access slot pointer written = refl
 
-mark-small : (b : Bool) → mark b < 256
+mark-small : (b : Bool) → bit b < 256
 mark-small true = omega arith
 mark-small false = omega arith
 
-mark-back : (b : Bool) → not (eqb (mark b) 0) ≡ b
+mark-back : (b : Bool) → not (eqb (bit b) 0) ≡ b
 mark-back true = refl
 mark-back false = refl
 
@@ -57,7 +58,7 @@ module _ (t : List ℕ) (p : ℕ) (s : List ℕ) (long : length s ≡ 16) (k : p
       number-same (stored t (placeAt p) s) s (placeAt p + o) o 4
       (λ i j. let e : placeAt p + o + i ≡ placeAt p + (o + i) = omega arith in rw e (byte (o + i) (omega arith)))
 
-  pub whole-place : Holds (stored t (placeAt p) s) p (usedOf s 0) (accessOf s 0) (slotOf s 0) (pointerOf s 0) (writtenOf s 0)
+  pub whole-place : PlaceHolds (stored t (placeAt p) s) p (usedOf s 0) (accessOf s 0) (slotOf s 0) (pointerOf s 0) (writtenOf s 0)
   unfolding usedOf accessOf slotOf pointerOf writtenOf
   whole-place =
       let e : placeAt p + 0 ≡ placeAt p = omega arith in
@@ -79,7 +80,7 @@ module _ (t : List ℕ) (p : ℕ) (k : p < placeCount t) where
         only-place t (placeAt p) 16 (recordBytes access slot pointer written) (length-record access slot pointer written) p
         (omega arith) (omega arith) k
 
-    pub record-holds : slot < 4294967296 → pointer < 4294967296 → Holds (withRecord t p access slot pointer written) p true access slot pointer written
+    pub record-holds : slot < 4294967296 → pointer < 4294967296 → PlaceHolds (withRecord t p access slot pointer written) p true access slot pointer written
     unfolding withRecord usedOf accessOf slotOf pointerOf writtenOf recordBytes markBytes numberBytes digits number
     record-holds h j =
         let w = whole-place t p (recordBytes access slot pointer written) (length-record access slot pointer written) k in
@@ -102,7 +103,7 @@ module _ (t : List ℕ) (p : ℕ) (k : p < placeCount t) where
     unfolding withPointer
     pointer-only = only-place t (placeAt p + 8) 4 (digits v 4) (length-digits v 4) p (omega arith) (omega arith) k
 
-    pub pointer-holds : v < 4294967296 → Holds (withPointer t p v) p (usedOf t p) (accessOf t p) (slotOf t p) v (writtenOf t p)
+    pub pointer-holds : v < 4294967296 → PlaceHolds (withPointer t p v) p (usedOf t p) (accessOf t p) (slotOf t p) v (writtenOf t p)
     unfolding withPointer pointerOf
     pointer-holds h =
         let u = untouched t (placeAt p + 8) 4 (digits v 4) (length-digits v 4) p in
@@ -122,7 +123,7 @@ module _ (t : List ℕ) (p : ℕ) (k : p < placeCount t) where
   unfolding withWritten
   written-only = only-place t (placeAt p + 2) 1 (1 ∷ []) refl p (omega arith) (omega arith) k
 
-  pub written-holds : Holds (withWritten t p) p (usedOf t p) (accessOf t p) (slotOf t p) (pointerOf t p) true
+  pub written-holds : PlaceHolds (withWritten t p) p (usedOf t p) (accessOf t p) (slotOf t p) (pointerOf t p) true
   unfolding withWritten writtenOf
   written-holds =
       let u = untouched t (placeAt p + 2) 1 (1 ∷ []) refl p in
@@ -142,7 +143,7 @@ module _ (t : List ℕ) (p : ℕ) (k : p < placeCount t) where
   unfolding cleared
   cleared-only = only-place t (placeAt p) 16 (replicate 16 0) refl p (omega arith) (omega arith) k
 
-  pub cleared-holds : Holds (cleared t p) p false 0 0 0 false
+  pub cleared-holds : PlaceHolds (cleared t p) p false 0 0 0 false
   unfolding cleared usedOf accessOf slotOf pointerOf writtenOf number
   cleared-holds =
       let w = whole-place t p (replicate 16 0) refl k in

@@ -10,13 +10,15 @@ use Rattle.diskette.specs.declared.Kind.{Kind}
 use Rattle.search.specs.declared.Found.{Found}
 use Rattle.search.specs.declared.Found.the-variants.{At, Nothing}
 use Rattle.directory.specs.Search.{slotNamed}
-use Rattle.names.specs.Reading.{nameOf}
+use Rattle.names.specs.Reading.{nameGiven}
 use Rattle.names.specs.declared.Spelled.{Spelled}
 use Rattle.opened.specs.Records.{withRecord}
 use Rattle.opened.specs.Places.{lowestUnused}
-use Rattle.calls.specs.Outcome.{Outcome, refusal, decided, refusedBy, answering}
+use Rattle.calls.specs.Outcome.{Outcome, refusal, decided}
+use Rattle.calls.specs.Aids.Answers.{refusedBy, answering}
 use Rattle.calls.specs.Refusals.{readOnly}
-use Rattle.calls.specs.Ready.{readyOf, OnVolume}
+use Rattle.calls.specs.Ready.{OnVolume}
+use Rattle.calls.specs.Aids.Ready.{readyOf}
 use Rattle.opening.specs.Open.{openOutcome, Opens}
 use Rattle.calls.specs.Laws.Ready.{known-passed, sound-passed, ready-refused}
 use Rattle.calls.specs.Laws.Files.{found-is}
@@ -43,7 +45,7 @@ module _ (img t s : List ℕ) (access : ℕ) where
     unfolding openOutcome decided refusal
     open-12 h a x = record { is = rw (x, known-passed img k v, sound-passed img k v, lt-ltb 2 access h) }
 
-    module _ (small : access ≤ 2) (g : Spelled) (given : g ≡ nameOf s) where
+    module _ (small : access ≤ 2) (g : Spelled) (given : g ≡ nameGiven s) where
       pub open-42 : not (g .fits) ≡ true → Refuses 42
       unfolding openOutcome decided refusal
       open-42 h a x = record { is = rw (x, known-passed img k v, sound-passed img k v, le-ltb 2 access small, ← given, h) }

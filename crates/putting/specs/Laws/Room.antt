@@ -6,10 +6,11 @@ use mathlib.Core.List.{List, _++_}
 use mathlib.Core.Logic.{inl, inr}
 use mathlib.Core.Path.{_≡_}
 use lib.ListN.{length, length-append}
-use Rattle.chains.specs.Chain.{Chain}
+use Rattle.chains.specs.Aids.Chain.{Chain}
 use Rattle.chains.specs.Free.{freeClusters}
-use Rattle.chains.specs.Lists.{_∈_, Once, occ}
-use Rattle.chains.specs.Sizes.{Geometry}
+use Rattle.chains.specs.Lists.{_∈_}
+use Rattle.chains.specs.Aids.Lists.{occ, Once}
+use Rattle.chains.specs.Aids.Sizes.{Geometry}
 use Rattle.chains.specs.Values.{Link}
 use Rattle.chains.specs.Laws.Chain.{chain-mem, chain-once}
 use Rattle.chains.specs.Laws.Free.{free-mem, free-once, free-length}

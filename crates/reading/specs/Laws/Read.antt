@@ -12,7 +12,8 @@ use Rattle.image.specs.Laws.Store.{length-part, stored-outside}
 use Rattle.chains.specs.Content.{content}
 use Rattle.chains.specs.Laws.Content.{content-length}
 use Rattle.contents.specs.Laws.Chain.{chain-room}
-use Rattle.contents.specs.Contents.{chainFrom, fetched}
+use Rattle.contents.specs.Contents.{chainFrom}
+use Rattle.contents.specs.Aids.Contents.{fetched}
 use Rattle.contents.specs.Laws.Read.{fetched-content}
 use Rattle.diskette.specs.Places.{firstData, clusterBytes, lastCluster, rootAt, rootEntries, slotAt}
 use Rattle.diskette.specs.declared.Kind.{Kind}
@@ -20,9 +21,11 @@ use Rattle.search.specs.declared.Found.{Found}
 use Rattle.search.specs.declared.Found.the-variants.{At, Nothing}
 use Rattle.fields.specs.Fields.{startOf, sizeOf}
 use Rattle.opened.specs.Records.{accessOf, pointerOf, withPointer}
-use Rattle.opened.specs.Places.{liveSlot}
-use Rattle.calls.specs.Outcome.{Outcome, refusal, decided, refusedBy, answering}
-use Rattle.calls.specs.Ready.{readyOf, OnVolume}
+use Rattle.opened.specs.Aids.Places.{liveSlot}
+use Rattle.calls.specs.Outcome.{Outcome, refusal, decided}
+use Rattle.calls.specs.Aids.Answers.{refusedBy, answering}
+use Rattle.calls.specs.Ready.{OnVolume}
+use Rattle.calls.specs.Aids.Ready.{readyOf}
 use Rattle.holding.specs.Holding.{fileChain, fileBytes, FileIn}
 use Rattle.holding.specs.Laws.Clusters.{on-clusters}
 use Rattle.holding.specs.Laws.Chain.{file-holds}

@@ -9,13 +9,16 @@ use Rattle.search.specs.declared.Found.{Found}
 use Rattle.search.specs.declared.Found.the-variants.{At, Nothing}
 use Rattle.fields.specs.Fields.{withName}
 use Rattle.directory.specs.Search.{slotNamed}
-use Rattle.names.specs.Reading.{nameOf}
+use Rattle.names.specs.Reading.{nameGiven}
 use Rattle.names.specs.declared.Spelled.{Spelled}
 use Rattle.opened.specs.Places.{isOpen}
-use Rattle.calls.specs.Outcome.{Outcome, refusal, decided, refusedBy, answering}
+use Rattle.calls.specs.Outcome.{Outcome, refusal, decided}
+use Rattle.calls.specs.Aids.Answers.{refusedBy, answering}
 use Rattle.calls.specs.Refusals.{isNothing, readOnly}
-use Rattle.calls.specs.Ready.{readyOf, OnVolume}
-use Rattle.renaming.specs.Rename.{renameOutcome, Renames, RenamesSlot}
+use Rattle.calls.specs.Ready.{OnVolume}
+use Rattle.calls.specs.Aids.Ready.{readyOf}
+use Rattle.renaming.specs.Rename.{renameOutcome, Renames}
+use Rattle.renaming.specs.Aids.Rename.{RenamesSlot}
 use Rattle.calls.specs.Laws.Ready.{on-kind, known-passed, sound-passed, ready-refused}
 use Rattle.calls.specs.Laws.Files.{found-is}
 use Rattle.calls.specs.declared.Answer.{Answer}
@@ -38,12 +41,12 @@ module _ (img t s n : List ℕ) where
   unfolding renameOutcome
   rename-not-ready r e number q a x = record { is = rw x (sym (ready-refused img r e number q .answer _ _ t [])) }
 
-  module _ (k : Kind) (v : OnVolume img k) (g : Spelled) (given : g ≡ nameOf s) where
+  module _ (k : Kind) (v : OnVolume img k) (g : Spelled) (given : g ≡ nameGiven s) where
     pub rename-old : not (g .fits) ≡ true → Refuses 42
     unfolding renameOutcome decided refusal
     rename-old h a x = record { is = rw (x, known-passed img k v, sound-passed img k v, ← given, h) }
 
-    module _ (fits : not (g .fits) ≡ false) (w : Spelled) (new : w ≡ nameOf n) where
+    module _ (fits : not (g .fits) ≡ false) (w : Spelled) (new : w ≡ nameGiven n) where
       pub rename-new : not (w .fits) ≡ true → Refuses 42
       unfolding renameOutcome decided refusal
       rename-new h a x = record { is = rw (x, known-passed img k v, sound-passed img k v, ← given, fits, ← new, h) }

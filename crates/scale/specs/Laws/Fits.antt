@@ -7,15 +7,14 @@ use mathlib.Core.Logic.{inl, inr}
 use mathlib.Core.Path.{_≡_, refl, sym, subst}
 use lib.Dec.{ltb, eqb}
 use lib.ListN.{length, getD}
-use Rattle.chains.specs.Holders.{none-of-it, as-many}
 use Rattle.chains.specs.Lists.{_∈_}
-use Rattle.chains.specs.Sums.{tally}
-use Rattle.chains.specs.Tests.{bit}
+use Rattle.chains.specs.Sums.{tally, bit}
 use Rattle.chains.specs.Values.{Link}
 use Rattle.chains.specs.Verdict.{None, OrElse}
 use Rattle.chains.specs.Laws.Tests.{says-dec}
 use Rattle.diskette.specs.Images.{kindOfImage, kindOfArea}
-use Rattle.diskette.specs.Kinds.{named, Usable}
+use Rattle.diskette.specs.Kinds.{named}
+use Rattle.diskette.specs.Aids.Usable.{Usable}
 use Rattle.diskette.specs.Places.{lastCluster, rootEntries, rootAt}
 use Rattle.diskette.specs.Laws.Images.{image-of-kind, area-of-kind, image-usable, area-usable}
 use Rattle.diskette.specs.Laws.Kinds.{OfKnown, of-cond}
@@ -24,9 +23,10 @@ use Rattle.diskette.specs.declared.WhichKind.{WhichKind}
 use Rattle.diskette.specs.declared.WhichKind.the-variants.{Known, Unknown}
 use Rattle.chaincheck.specs.Held.{plainSlot}
 use Rattle.sound.specs.Answer.{AnswersOf, AnswersBy, Checked, CheckedArea}
-use Rattle.sound.specs.Files.{ChainOf}
+use Rattle.sound.specs.Files.{ChainOf, none-of-it, as-many}
 use Rattle.sound.specs.Findings.{TablesDiffer, BadValue, BadSlot, BadChain, InTwoChains, Lost}
-use Rattle.sound.specs.FromFinding.{FromLost, FromTwo, FromChains, FromSlots, FromValues, Counted, NoFinding}
+use Rattle.sound.specs.Aids.FromFinding.{FromLost, FromTwo, FromChains, FromSlots, FromValues, Counted}
+use Rattle.sound.specs.Sound.{NoFinding}
 use Rattle.sound.specs.Laws.IsSound.{known-says}
 use Rattle.sound.specs.Laws.Sound.{sound-exactly}
 use Rattle.sound.specs.Laws.Total.{total}
@@ -35,7 +35,7 @@ use Rattle.sound.specs.declared.Verdict.the-variants.{Finding}
 use Rattle.freespace.specs.FreeSpace.{noSpace, freeSpace, Spaced}
 use Rattle.freespace.specs.declared.FreeAnswer.{FreeAnswer}
 use Rattle.freespace.specs.Laws.FreeSpace.{space-unknown, space-unsound, space-sound}
-use Rattle.scale.specs.Fits.{Fits, VerdictFits, SpaceFits}
+use Rattle.scale.specs.Aids.Fits.{Fits, VerdictFits, SpaceFits}
 
 -- ---- what bounds them
 

@@ -17,9 +17,11 @@ use Rattle.offset.specs.Offset.{movedBy}
 use Rattle.offset.specs.declared.Moved.{Moved}
 use Rattle.offset.specs.declared.Moved.the-variants.{To, Beyond}
 use Rattle.opened.specs.Records.{slotOf, pointerOf, withPointer}
-use Rattle.opened.specs.Places.{liveSlot}
-use Rattle.calls.specs.Outcome.{Outcome, refusal, decided, refusedBy, answering}
-use Rattle.calls.specs.Ready.{readyOf, OnVolume}
+use Rattle.opened.specs.Aids.Places.{liveSlot}
+use Rattle.calls.specs.Outcome.{Outcome, refusal, decided}
+use Rattle.calls.specs.Aids.Answers.{refusedBy, answering}
+use Rattle.calls.specs.Ready.{OnVolume}
+use Rattle.calls.specs.Aids.Ready.{readyOf}
 use Rattle.seeking.specs.Seek.{seekBase, seekOutcome, Seeks}
 use Rattle.calls.specs.Laws.Ready.{on-kind, known-passed, sound-passed, ready-refused}
 use Rattle.calls.specs.Laws.Files.{not-live, live-passed}

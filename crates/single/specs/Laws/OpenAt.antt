@@ -7,7 +7,7 @@ use mathlib.Core.Path.{_≡_, sym, ap, _∙_}
 use borrow.Author.Tests.{ne-eqb}
 use Rattle.search.specs.declared.Found.{Found}
 use Rattle.search.specs.declared.Found.the-variants.{At, Nothing}
-use Rattle.calls.specs.Outcome.{refusedBy, answering}
+use Rattle.calls.specs.Aids.Answers.{refusedBy, answering}
 use Rattle.calls.specs.Refusals.{placeFound}
 use Rattle.calls.specs.declared.Answer.{Answer}
 use Rattle.opening.specs.Open.{openOutcome}
@@ -15,7 +15,7 @@ use Rattle.records.specs.Row.{unused}
 use Rattle.records.specs.declared.OpenRecord.{OpenRecord}
 use Rattle.single.specs.declared.held.Done.{Done}
 use Rattle.single.specs.Rows.{bytesOf, LeavesRow}
-use Rattle.single.specs.OpenAt.{spareFor, OpensAt}
+use Rattle.single.specs.Aids.OpenAt.{spareFor, OpensAt}
 
 pub spare-free : (free : Found) (p : ℕ) → free ≡ At p → unused ≡ spareFor free
 unfolding spareFor

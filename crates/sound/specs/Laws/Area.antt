@@ -5,21 +5,21 @@ use mathlib.Core.List.{List}
 use mathlib.Core.Logic.{_⊎_, _↔_, inl, inr}
 use mathlib.Core.Path.{_≡_, sym, ap, _∙_}
 use lib.ListN.{getD}
-use Rattle.chains.specs.Tests.{bit}
+use Rattle.chains.specs.Sums.{bit}
 use Rattle.chains.specs.Laws.Sums.{sum-cong, tally-sum}
-use Rattle.diskette.specs.Kinds.{Usable}
+use Rattle.diskette.specs.Aids.Usable.{Usable}
 use Rattle.diskette.specs.Places.{clusterBytes, lastCluster, rootEntries, rootAt, copyOne, copyTwo, slotAt}
 use Rattle.diskette.specs.declared.Kind.{Kind}
-use Rattle.directory.specs.Entries.{SameFields}
+use Rattle.directory.specs.Aids.Entries.{SameFields}
 use Rattle.directory.specs.Slots.{NeverUsedAt, LiveAt, LabelAt, PlainAt, isPlain}
 use Rattle.directory.specs.Laws.Entries.{same-fields}
 use Rattle.table.specs.Laws.View.{table-same}
 use Rattle.chaincheck.specs.Held.{plainSlot, heldBy}
-use Rattle.sound.specs.Area.{SameArea}
+use Rattle.sound.specs.Aids.Area.{SameArea}
 use Rattle.sound.specs.Counts.{fileCount, heldOf}
 use Rattle.sound.specs.Files.{valueOf, IsFile, ChainOf}
 use Rattle.sound.specs.Findings.{TablesDiffer, BadValue, BadSlot, AfterNeverUsed, StrangeEntry, SecondLabel, NameTwice, BadChain, InChain, InTwoChains, Lost}
-use Rattle.sound.specs.FromFinding.{Counted}
+use Rattle.sound.specs.Aids.FromFinding.{Counted}
 use Rattle.sound.specs.declared.Verdict.{Verdict}
 
 pub area-back : (k : Kind) (m l : List ℕ) → SameArea k m l → SameArea k l m

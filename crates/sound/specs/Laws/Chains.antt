@@ -5,26 +5,25 @@ use native.Mathlib.Omega.{arith}
 use mathlib.Core.List.{List, []}
 use mathlib.Core.Logic.{_↔_}
 use mathlib.Core.Path.{_≡_, sym, ap, _∙_, subst}
-use Rattle.chains.specs.Holders.{Holder, Owns, nobody, fileHolder}
+use Rattle.chains.specs.Aids.Holders.{Holder, Owns, nobody, fileHolder}
 use Rattle.chains.specs.Lists.{_∈_}
-use Rattle.chains.specs.Laws.Clusters.{owns-file, file-owns}
+use Rattle.sound.specs.Laws.Clusters.{owns-file, file-owns}
 use Rattle.chains.specs.Laws.Holders.{nobody-owns, owns-nobody}
 use Rattle.chains.specs.Laws.Rows.{rows-in, in-rows}
 use Rattle.chains.specs.Laws.Tests.{by-test, clash}
-use Rattle.diskette.specs.Kinds.{Usable}
-use Rattle.diskette.specs.Places.{clusterBytes, lastCluster, rootEntries, rootAt, slotAt}
+use Rattle.diskette.specs.Aids.Usable.{Usable}
+use Rattle.diskette.specs.Places.{clusterBytes, lastCluster, rootEntries, rootAt, slotAt, slotFrom}
 use Rattle.diskette.specs.declared.Kind.{Kind}
 use Rattle.fields.specs.Fields.{startOf, sizeOf}
-use Rattle.directory.specs.Search.{slotFrom}
 use Rattle.directory.specs.Slots.{PlainAt, standingOf, isPlain}
 use Rattle.directory.specs.Laws.Slots.{plain-is}
-use Rattle.chaincheck.specs.Entries.{holderAt}
+use Rattle.chaincheck.specs.Aids.Entries.{holderAt}
 use Rattle.sound.specs.Files.{valueOf, IsFile, ChainOf}
 use Rattle.sound.specs.Findings.{BadChain, InChain, InTwoChains, Lost}
-use Rattle.sound.specs.Holders.{rootList, rootRows}
+use Rattle.sound.specs.Aids.Holders.{rootList, rootRows}
 use Rattle.sound.specs.Laws.Geometry.{geometry}
 use Rattle.sound.specs.Laws.Holders.{plain-holder, no-holder, listed-slot, slot-listed, slot-same}
-use Rattle.chains.specs.Findings as Theory
+use Rattle.chains.specs.Aids.Findings as Theory
 
 dec-plain : (l : List ℕ) (a : ℕ) → Dec (PlainAt l a)
 dec-plain l a = by-test (isPlain (standingOf l a)) (λ e. yes (plain-is l a .0 e)) (λ e. no (λ p. clash (plain-is l a .1 p) e))

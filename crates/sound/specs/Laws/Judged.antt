@@ -4,26 +4,26 @@ use mathlib.Core.List.{List}
 use mathlib.Core.Option.{Option, none, some}
 use mathlib.Core.Path.{_≡_, refl, sym, _∙_}
 use lib.ListN.{replicate}
-use Rattle.chains.specs.Verdict.{first, orElse}
-use Rattle.chains.specs.Check.{badValue, inTwo, lost, checkLost, checkTwo, checkChains}
+use Rattle.chains.specs.Aids.Verdict.{orElse, first}
+use Rattle.chains.specs.Aids.Check.{badValue, inTwo, lost, checkLost, checkTwo, checkChains}
 use Rattle.search.specs.Laws.Theory.{optional}
 use Rattle.search.specs.declared.Found.{Found}
 use Rattle.search.specs.declared.Found.the-variants.{At, Nothing}
 use Rattle.diskette.specs.Places.{clusterBytes, lastCluster, rootEntries, rootAt, copyTwo}
 use Rattle.diskette.specs.declared.Kind.{Kind}
 use Rattle.table.specs.Entries.{tableOf}
-use Rattle.tablecheck.specs.Copies.{differsAt}
-use Rattle.tablecheck.specs.Values.{censusBy, censusOf}
+use Rattle.tablecheck.specs.Aids.Copies.{differsAt}
+use Rattle.tablecheck.specs.Aids.Values.{censusBy, censusOf}
 use Rattle.tablecheck.specs.declared.Census.{Census}
 use Rattle.tablecheck.specs.declared.Census.the-variants.{BadValue, Values}
-use Rattle.slotcheck.specs.Slots.{badSlotAt}
-use Rattle.chaincheck.specs.Entries.{badChainSlot}
-use Rattle.chaincheck.specs.Visits.{chainsBy, chainsFound, FilesVisited}
+use Rattle.slotcheck.specs.Aids.Slots.{badSlotAt}
+use Rattle.chaincheck.specs.Aids.Entries.{badChainSlot}
+use Rattle.chaincheck.specs.Aids.Visits.{chainsBy, chainsFound, FilesVisited}
 use Rattle.chaincheck.specs.declared.Chains.{Chains}
 use Rattle.chaincheck.specs.declared.Chains.the-variants.{BadChain, Held}
 use Rattle.sound.specs.Files.{valueOf}
 use Rattle.sound.specs.Counts.{fileCount, freeOf, heldOf, asideOf}
-use Rattle.sound.specs.Judged.{marksOfFiles, voice, marksJudged, chainsJudged, judged}
+use Rattle.sound.specs.Aids.Judged.{marksOfFiles, voice, marksJudged, chainsJudged, judged}
 use Rattle.sound.specs.Laws.Visited.{files-visited-marks}
 use Rattle.sound.specs.declared.Verdict.{Verdict}
 use Rattle.sound.specs.declared.Verdict.the-variants.{Sound, Finding}

@@ -8,8 +8,7 @@ use mathlib.Core.Logic.{_≢_, _↔_}
 use mathlib.Core.Path.{_≡_, refl, sym, _∙_, ap, subst}
 use lib.Dec.{eqb, leb}
 use borrow.Author.Tests.{eq-eqb, ne-eqb, eqb-true, eqb-false, le-leb, lt-leb, leb-true}
-use Rattle.chains.specs.Tests.{bit}
-use Rattle.chains.specs.Sums.{tally}
+use Rattle.chains.specs.Sums.{tally, bit}
 use Rattle.chains.specs.Values.{freeCount, asideCount}
 use Rattle.chains.specs.Values as theory
 use Rattle.chains.specs.Laws.Sums.{sum-cong, tally-sum}

@@ -15,7 +15,8 @@ use Rattle.search.specs.declared.Found.{Found}
 use Rattle.search.specs.declared.Found.the-variants.{At, Nothing}
 use Rattle.fields.specs.Fields.{startOf, sizeOf}
 use Rattle.calls.specs.Outcome.{Outcome, refusal, decided}
-use Rattle.calls.specs.Ready.{readyOf, OnVolume}
+use Rattle.calls.specs.Ready.{OnVolume}
+use Rattle.calls.specs.Aids.Ready.{readyOf}
 use Rattle.calls.specs.Laws.Ready.{on-kind, known-passed, sound-passed, ready-refused}
 use Rattle.calls.specs.Laws.Files.{found-is}
 use Rattle.calls.specs.declared.Ready.{Ready}
@@ -29,7 +30,8 @@ use Rattle.holding.specs.Laws.Clusters.{on-clusters}
 use Rattle.holding.specs.Laws.Chain.{file-holds}
 use Rattle.directory.specs.Search.{slotNamed}
 use Rattle.names.specs.declared.Spelled.{Spelled}
-use Rattle.viewing.specs.View.{viewCount, viewAt, viewPart, viewOutcome, Views, ViewNumbers, Sees, SeesFile}
+use Rattle.viewing.specs.View.{viewCount, viewAt, viewPart, viewOutcome, Views, ViewNumbers}
+use Rattle.viewing.specs.Aids.View.{Sees, SeesFile}
 use Rattle.names.specs.Reading as reading
 
 pub views-only : {img s : List ℕ} {offset : ℕ} {p q : List ℕ} → Views img s offset p → Views img s offset q → p ≡ q
@@ -93,7 +95,7 @@ module _ (img s : List ℕ) (offset : ℕ) where
   unfolding viewOutcome
   see-not-ready r e n q = record { is = sym (ready-refused img r e n q .answer _ _ [] []); within = omega arith }
 
-  module _ (k : Kind) (v : OnVolume img k) (g : Spelled) (given : g ≡ reading.nameOf s) where
+  module _ (k : Kind) (v : OnVolume img k) (g : Spelled) (given : g ≡ reading.nameGiven s) where
     pub see-42 : not (g .fits) ≡ true → Sees img s offset 42 0 0
     unfolding viewOutcome decided refusal
     see-42 h = record { is = rw (known-passed img k v, sound-passed img k v, ← given, h); within = omega arith }

@@ -6,16 +6,17 @@ use mathlib.Core.Logic.{_≢_}
 use mathlib.Core.Path.{_≡_, refl, sym, ap, _∙_}
 use lib.ListN.{length, take}
 use borrow.Author.Tests.{eq-eqb, ne-eqb}
-use Rattle.chains.specs.Write.{accepted}
 use Rattle.diskette.specs.Places.{clusterBytes, rootAt, rootEntries}
 use Rattle.diskette.specs.declared.Kind.{Kind}
 use Rattle.search.specs.declared.Found.{Found}
 use Rattle.search.specs.declared.Found.the-variants.{At, Nothing}
 use Rattle.opened.specs.Records.{accessOf, pointerOf, withPointer, withWritten}
-use Rattle.opened.specs.Places.{liveSlot}
+use Rattle.opened.specs.Aids.Places.{liveSlot}
 use Rattle.sound.specs.Counts.{freeOf}
-use Rattle.calls.specs.Outcome.{Outcome, refusal, decided, refusedBy, answering}
-use Rattle.calls.specs.Ready.{readyOf, OnVolume}
+use Rattle.calls.specs.Outcome.{Outcome, refusal, decided}
+use Rattle.calls.specs.Aids.Answers.{refusedBy, answering}
+use Rattle.calls.specs.Ready.{OnVolume}
+use Rattle.calls.specs.Aids.Ready.{readyOf}
 use Rattle.calls.specs.Laws.Ready.{on-kind, on-usable, known-passed, sound-passed, ready-refused}
 use Rattle.calls.specs.Laws.Files.{not-live, live-passed, live-slot}
 use Rattle.calls.specs.declared.Answer.{Answer}
@@ -24,7 +25,8 @@ use Rattle.calls.specs.declared.Ready.the-variants.{Refused}
 use Rattle.holding.specs.Holding.{fileChain, FileIn}
 use Rattle.putting.specs.Longer.{roomOf}
 use Rattle.putting.specs.Written.{writtenIn}
-use Rattle.writing.specs.Write.{writeAt, writeOutcome, Writes, WritesAt}
+use Rattle.writing.specs.Write.{writeAt, writeOutcome, Writes, accepted}
+use Rattle.writing.specs.Aids.Write.{WritesAt}
 use Rattle.putting.specs.Laws.Room.{room-clusters, room-fits}
 
 pub writes-only : {img t : List ℕ} {h : ℕ} {bs : List ℕ} {r r′ : Answer} {l l′ m m′ : List ℕ} → Writes img t h bs r l m → Writes img t h bs r′ l′ m′

@@ -1,0 +1,23 @@
+-- What every call does first: rows 40 and 41, else the kind and how many clusters are free.
+use Prim.Native.Nat.{ℕ}
+use mathlib.Core.List.{List}
+use Rattle.diskette.specs.Images.{kindOfImage}
+use Rattle.diskette.specs.declared.Kind.{Kind}
+use Rattle.diskette.specs.declared.WhichKind.{WhichKind}
+use Rattle.diskette.specs.declared.WhichKind.the-variants.{Known, Unknown}
+use Rattle.sound.specs.Judged.{checkOf}
+use Rattle.sound.specs.declared.Verdict.{Verdict}
+use Rattle.sound.specs.declared.Verdict.the-variants.{Sound, Finding}
+use Rattle.calls.specs.declared.Ready.{Ready}
+use Rattle.calls.specs.declared.Ready.the-variants.{Volume, Refused}
+
+abbrev pub readyWith : Kind → Verdict → Ready
+readyWith k (Sound files free held aside) = Volume k free
+readyWith k (Finding number place) = Refused 41
+
+abbrev pub readyBy : WhichKind → Verdict → Ready
+readyBy (Known k) v = readyWith k v
+readyBy Unknown v = Refused 40
+
+unfoldable pub readyOf : List ℕ → Ready
+readyOf img = readyBy (kindOfImage img) (checkOf img)

@@ -1,0 +1,12 @@
+-- The slot of a live place, as the code answers it.
+use Prim.Native.Nat.{ℕ}
+use mathlib.Core.Bool.{cond}
+use mathlib.Core.List.{List}
+use Rattle.search.specs.declared.Found.{Found}
+use Rattle.search.specs.declared.Found.the-variants.{At, Nothing}
+use Rattle.opened.specs.Places.{isLive}
+use Rattle.opened.specs.Records.{slotOf}
+
+-- the slot of a live place
+unfoldable pub liveSlot : List ℕ → ℕ → List ℕ → ℕ → ℕ → Found
+liveSlot t h l root count = cond (isLive t h l root count) (At (slotOf t h)) Nothing
