@@ -1,5 +1,3 @@
--- What files hold, for the counts (Held). Findings 5 to 7 as the code walks the chains are aids to the proofs of sound, which
--- has the definitions.
-pub mod Held
+-- Findings 5 to 7 as the code walks the chains: aids to the proofs of sound, which has the definitions.
 pub mod Aids
 pub mod Laws

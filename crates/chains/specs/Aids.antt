@@ -11,8 +11,9 @@ pub mod Growth
 pub mod Marks
 pub mod Steps
 pub mod Content
-pub mod Write
 pub mod Verdict
 pub mod Findings
 pub mod Check
 pub mod Rows
+pub mod Walk
+pub mod Values

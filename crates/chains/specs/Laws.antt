@@ -7,6 +7,7 @@ pub mod TallyTurns
 pub mod Sizes
 pub mod Values
 pub mod Chain
+pub mod Met
 pub mod Walk
 pub mod Holders
 pub mod Counts

@@ -4,7 +4,7 @@ pub mod Lists
 pub mod Sums
 pub mod Sizes
 pub mod Values
-pub mod Walk
+pub mod Chain
 pub mod Free
 pub mod Content
 pub mod Write

@@ -4,7 +4,7 @@ ghost use Prim.Native.Nat.{ℕ, _≤_, _<_};
 ghost use lib.ListN.{length};
 ghost use Rattle.diskette.specs.Kinds.{named};
 ghost use Rattle.diskette.specs.Aids.Usable.{Usable};
-ghost use Rattle.diskette.specs.Places.{firstData, clusterBytes, clusters, lastCluster, rootEntries, copyTwo, rootAt, slotAt, sectorOf, clusterAt};
+ghost use Rattle.diskette.specs.Places.{firstData, clusterBytes, clusters, lastCluster, rootEntries, copyTwo, rootAt, slotAt, sectorOf};
 ghost use Rattle.chains.specs.Sizes.{clustersFor};
 ghost use Rattle.diskette.specs.Images.{kindOfImage, kindOfArea};
 
@@ -140,15 +140,6 @@ impl Kind {
         ensures { λ r. ⌜ r ≡ sectorOf self n ⌝ }
     {
         (n - 2) * self.per + self.first_data()
-    }
-
-    // The byte at which cluster n starts.
-    pub fn cluster_at(self, n: usize) -> usize
-        requires { ⌜ Usable self ⌝ }
-        requires { ⌜ (2 ≤ n) × (n ≤ lastCluster self) ⌝ }
-        ensures { λ r. ⌜ r ≡ clusterAt self n ⌝ }
-    {
-        512 * self.sector(n)
     }
 
     // How many clusters a file of that size needs.

@@ -46,9 +46,6 @@ withFirst l a v = stored l a (v ∷ [])
 abbrev pub withAttr : List ℕ → ℕ → ℕ → List ℕ
 withAttr l a v = stored l (a + 11) (v ∷ [])
 
-abbrev pub withReserved : List ℕ → ℕ → List ℕ → List ℕ
-withReserved l a s = stored l (a + 12) s
-
 abbrev pub withTime : List ℕ → ℕ → ℕ → List ℕ
 withTime l a v = stored l (a + 22) (digits v 2)
 

@@ -15,7 +15,7 @@ use Rattle.opened.specs.Records.{slotOf, pointerOf}
 use Rattle.sound.specs.Counts.{freeOf, heldOf, asideOf}
 use Rattle.sound.specs.Judged.{isSound}
 use Rattle.calls.specs.Ready.{OnVolume}
-use Rattle.putting.specs.Longer.{roomOf}
+use Rattle.writing.specs.Write.{roomOf}
 use Rattle.changes.specs.Files.{File, Files, Shows, ShowsAt}
 use Rattle.history.specs.History.{history}
 use Rattle.history.specs.World.{World, Call, Names, outcomeOf, step, run, check, countFree, tellEntry, openFile, create, read, write, seek, close, delete, rename, mode, view}

@@ -9,14 +9,14 @@ use Rattle.diskette.specs.declared.Kind.{Kind}
 use Rattle.directory.specs.Entries.{SameBytes}
 use Rattle.opened.specs.Places.{isOpen}
 use Rattle.calls.specs.Refusals.{fileSlot, readOnly}
-use Rattle.holding.specs.Holding.{FileIn}
+use Rattle.sound.specs.Files.{IsFile}
 use Rattle.changes.specs.Files.{File, Holds}
 use Rattle.history.specs.Promises.{AllGiven, Begins}
 use Rattle.history.specs.World.{World, Call, outcomeOf, step, run, check, countFree, tellEntry, openFile, create, read, write, seek, close, delete, rename, mode, view}
 
 -- when the run begins, a plain file stands in slot s, it is read-only, and no used place names its slot
 pub record Tare (k : Kind) (w : World) (s : ℕ) : Type 0 where
-  pub is-file : FileIn (w .image) k s
+  pub is-file : IsFile k (w .image) s
   pub marked : readOnly (w .image) s ≡ true
   pub closed : isOpen (w .table) s ≡ false
 

@@ -1,20 +1,13 @@
--- The room that a write has, and a file made as long as it needs: "each new cluster is the lowest free", "Size and start are
--- stored at once".
-use Prim.Native.Nat.{ℕ, _+_, _*_}
+-- A file made as long as a write needs: "each new cluster is the lowest free", "Size and start are stored at once".
+use Prim.Native.Nat.{ℕ}
 use mathlib.Core.List.{List, _++_}
-use lib.ListN.{length}
 use Rattle.chains.specs.Sizes.{lacking}
-use Rattle.chains.specs.Lists as lists
+use Rattle.chains.specs.Lists.{headOf}
 use Rattle.diskette.specs.Places.{clusterBytes, copyTwo, lastCluster, slotAt}
 use Rattle.diskette.specs.declared.Kind.{Kind}
 use Rattle.fields.specs.Fields.{withStart, withSize}
 use Rattle.links.specs.Linked.{endOf, linked, newClusters}
-use Rattle.sound.specs.Counts.{freeOf}
 use Rattle.holding.specs.Holding.{fileChain}
-
--- "Write has room for (own clusters + free) times cluster bytes"
-unfoldable pub roomOf : Kind → List ℕ → ℕ → ℕ
-roomOf k img slot = (length (fileChain k img slot) + freeOf k img) * clusterBytes k
 
 -- the clusters that the file in the slot lacks to have size bytes: the lowest free ones
 abbrev pub newFor : Kind → List ℕ → ℕ → ℕ → List ℕ
@@ -32,4 +25,4 @@ withClusters k img slot size = linked (copyTwo k) img (endOf (fileChain k img sl
 unfoldable pub lengthened : Kind → List ℕ → ℕ → ℕ → List ℕ
 lengthened k img slot size =
     let a = slotAt k slot in
-    withSize (withStart (withClusters k img slot size) a (lists.headOf (chainAfter k img slot size))) a size
+    withSize (withStart (withClusters k img slot size) a (headOf (chainAfter k img slot size))) a size

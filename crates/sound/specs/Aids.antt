@@ -1,4 +1,4 @@
--- Aids to the proofs. No definition beside this folder rests on them.
+-- Aids to the proofs. Of the definitions beside this folder only the three of Judged rest on them.
 pub mod Judged
 pub mod FromFinding
 pub mod Holders

@@ -17,8 +17,9 @@ abbrev pub valueOf : Kind → List ℕ → ℕ → ℕ
 valueOf k l = tableOf (lastCluster k) l
 
 -- slot s holds a plain file
-abbrev pub IsFile : Kind → List ℕ → ℕ → Type 0
-IsFile k l s = (s < rootEntries k) × PlainAt l (slotAt k s)
+pub record IsFile (k : Kind) (l : List ℕ) (s : ℕ) : Type 0 where
+  pub below : s < rootEntries k
+  pub plain : PlainAt l (slotAt k s)
 
 -- "the clusters from start .., each in range, each but the last naming the next, the last an end value", by the table f
 pub record Clusters (last : ℕ) (f : ℕ → ℕ) (start : ℕ) (cs : List ℕ) : Type 0 where

@@ -1,5 +1,4 @@
 -- The table's entries: where they stand.
 pub mod Entries
-pub mod Counts
 pub mod Aids
 pub mod Laws

@@ -5,16 +5,17 @@ use Prim.Native.Nat.{ℕ, _-_, _*_, _%_, min}
 use mathlib.Core.List.{List, [], _∷_}
 use mathlib.Core.Path.{_≡_}
 use Rattle.image.specs.Store.{part}
-use Rattle.contents.specs.Contents.{placeOf}
-use Rattle.diskette.specs.Places.{firstData, clusterBytes, lastCluster, slotAt}
+use Rattle.chains.specs.Content.{byteAt}
+use Rattle.diskette.specs.Places.{firstData, clusterBytes, slotAt}
 use Rattle.diskette.specs.declared.Kind.{Kind}
-use Rattle.fields.specs.Fields.{startOf, sizeOf}
+use Rattle.fields.specs.Fields.{sizeOf}
 use Rattle.calls.specs.Outcome.{Row, Outcome, outcome, decided}
+use Rattle.holding.specs.Holding.{fileChain}
 use Rattle.calls.specs.Refusals.{theKind, notOfKind, notSound, badName, noFile, fileSlot}
 
 -- where byte offset of the file in a slot lies in the image
 abbrev pub viewAt : Kind → List ℕ → ℕ → ℕ → ℕ
-viewAt k img slot offset = placeOf (512 * firstData k) (clusterBytes k) (lastCluster k) img (startOf img (slotAt k slot)) offset
+viewAt k img slot offset = byteAt (512 * firstData k) (clusterBytes k) (fileChain k img slot) offset
 
 -- how many bytes there are from it on to the end of its cluster of cb bytes or of its file, whichever is first; none at or past the end
 abbrev pub viewCount : ℕ → ℕ → ℕ → ℕ

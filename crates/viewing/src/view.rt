@@ -7,7 +7,7 @@ use search::Found;
 ghost use Prim.Native.Nat.{_<_};
 ghost use mathlib.Core.Path.{_≡_};
 ghost use Rattle.calls.specs.Ready.{OnVolume};
-ghost use Rattle.holding.specs.Holding.{FileIn};
+ghost use Rattle.sound.specs.Files.{IsFile};
 ghost use Rattle.viewing.specs.View.{viewCount, Views, ViewNumbers};
 ghost use Rattle.viewing.specs.Aids.View.{Sees, SeesFile};
 
@@ -32,7 +32,7 @@ fn bytes_from(cb: usize, size: u32, offset: u32) -> usize
 // The bytes of the file in the slot, from its byte offset on.
 fn see_file(img: &[u8], k: Kind, slot: usize, offset: u32) -> Seen
     requires { ⌜ OnVolume (now img) k ⌝ }
-    requires { ⌜ FileIn (now img) k slot ⌝ }
+    requires { ⌜ IsFile k (now img) slot ⌝ }
     ensures { λ r. ⌜ SeesFile (now (img .entry)) k slot offset (r .number) (r .at) (r .bytes) ⌝ }
 {
     let a = k.slot_at(slot);

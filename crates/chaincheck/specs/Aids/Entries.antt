@@ -7,10 +7,10 @@ use Rattle.chains.specs.Aids.Findings.{holdersOf}
 use Rattle.chains.specs.Aids.Lists.{joined}
 use Rattle.chains.specs.Aids.Check.{ownsb, chainOf}
 use Rattle.chains.specs.Aids.Rows.{rows}
+use Rattle.diskette.specs.Places.{slotFrom}
 use Rattle.table.specs.Entries.{tableOf}
 use Rattle.fields.specs.Fields.{startOf, sizeOf}
 use Rattle.directory.specs.Slots.{standingOf}
-use Rattle.diskette.specs.Places.{slotFrom}
 use Rattle.directory.specs.declared.Standing.{Standing}
 use Rattle.directory.specs.declared.Standing.the-variants.{NeverUsed, Erased, Label, Plain}
 

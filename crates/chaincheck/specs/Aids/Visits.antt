@@ -13,12 +13,12 @@ use Rattle.chains.specs.Sums.{sum, tally}
 use Rattle.chains.specs.Aids.Verdict.{first}
 use Rattle.chains.specs.Aids.Check.{chainOf, ownsb}
 use Rattle.chains.specs.Sizes.{clustersFor}
+use Rattle.diskette.specs.Places.{slotFrom}
 use Rattle.table.specs.Entries.{tableOf}
 use Rattle.fields.specs.Fields.{sizeOf}
 use Rattle.directory.specs.Slots.{standingOf, isPlain}
-use Rattle.diskette.specs.Places.{slotFrom}
 use Rattle.walks.specs.Aids.Walks.{Tails}
-use Rattle.chaincheck.specs.Held.{plainSlot, heldBy}
+use Rattle.chaincheck.specs.Aids.Held.{plainSlot, heldSlot}
 use Rattle.chaincheck.specs.Aids.Entries.{holderAt, badChainSlot, chainsOf}
 use Rattle.chaincheck.specs.declared.Slot.{Slot}
 use Rattle.chaincheck.specs.declared.Slot.the-variants.{NoFile, Bad, Clusters}
@@ -63,7 +63,7 @@ chainsBy (some s) files held = BadChain s
 
 unfoldable pub chainsFound : ℕ → ℕ → List ℕ → ℕ → ℕ → Chains
 chainsFound last cb l root count =
-    chainsBy (first (badChainSlot last cb l root) count 0) (tally (plainSlot l root) count 0) (sum count (heldBy cb l root))
+    chainsBy (first (badChainSlot last cb l root) count 0) (tally (plainSlot l root) count 0) (sum count (heldSlot cb l root))
 
 abbrev pub marksIf : Chains → List ℕ → List ℕ → Type 0
 marksIf (Held files held) after all = after ≡ all
@@ -77,7 +77,7 @@ pub record Underway (last cb : ℕ) (l : List ℕ) (root count : ℕ) (m₀ : Li
   pub bounded : held ≤ 4096 * s
   pub none-bad : first (badChainSlot last cb l root) (count - s) s ≡ first (badChainSlot last cb l root) count 0
   pub files-are : files + tally (plainSlot l root) (count - s) s ≡ tally (plainSlot l root) count 0
-  pub held-is : held ≡ sum s (heldBy cb l root)
+  pub held-is : held ≡ sum s (heldSlot cb l root)
   pub marks-are : marks m (joined (chainAt last cb l) (holdersOf (rows (slotFrom root) s (count - s)))) ≡ marks m₀ (chainsOf last cb l root count)
   pub tails : Tails last (tableOf last l) m t
 

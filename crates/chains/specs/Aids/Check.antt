@@ -6,8 +6,9 @@ use mathlib.Core.List.{List, []}
 use lib.Dec.{eqb}
 use lib.ListN.{length, getD}
 use Rattle.chains.specs.Aids.Lists.{joined}
-use Rattle.chains.specs.Values.{asideb, endb, freeb, linkb}
-use Rattle.chains.specs.Walk.{walk}
+use Rattle.chains.specs.Values.{asideb, freeb, linkb}
+use Rattle.chains.specs.Aids.Values.{endb}
+use Rattle.chains.specs.Aids.Walk.{walk}
 use Rattle.chains.specs.Aids.Holders.{Holder}
 use Rattle.chains.specs.Aids.Marks.{marksOf}
 use Rattle.chains.specs.Aids.Verdict.{orElse, first}

@@ -13,7 +13,7 @@ use Rattle.chains.specs.Lists.{_∈_}
 use Rattle.chains.specs.Aids.Lists.{Once, joined, InTwoOf}
 use Rattle.chains.specs.Aids.Sizes.{Geometry}
 use Rattle.chains.specs.Values.{Link}
-use Rattle.chains.specs.Walk.{walk}
+use Rattle.chains.specs.Aids.Walk.{walk}
 use Rattle.chains.specs.Aids.Holders.{Holder, Owns}
 use Rattle.chains.specs.Aids.Marks.{marksOf}
 use Rattle.chains.specs.Aids.Verdict.{Found, first}

@@ -1,7 +1,6 @@
 -- A write: the table, the holders and the bytes of every file after it.
 use Prim.Native.Nat.{ℕ, _+_, _-_, _*_, _≤_, _<_, max}
 use native.Mathlib.Omega.{arith}
-use native.Mathlib.Nat.{mul-le-mul-right}
 use mathlib.Core.Path.{_≡_, refl, sym, ap, ap₂, _∙_}
 use mathlib.Core.Logic.{_≢_}
 use mathlib.Core.List.{List, [], _∷_, _++_, append-nil, append-assoc}
@@ -13,14 +12,13 @@ use Rattle.chains.specs.Aids.Lists.{Once}
 use Rattle.chains.specs.Sizes.{clustersFor, lacking}
 use Rattle.chains.specs.Aids.Sizes.{Geometry}
 use Rattle.chains.specs.Values.{Link}
-use Rattle.chains.specs.Aids.Holders.{Holder, Owns, FitTogether, fileHolder}
+use Rattle.chains.specs.Aids.Holders.{Holder, FitTogether, fileHolder}
 use Rattle.chains.specs.Aids.Replace.{Replaced}
 use Rattle.chains.specs.Free.{freeClusters}
 use Rattle.chains.specs.Aids.Growth.{extended, longerChain, longerTable}
 use Rattle.chains.specs.Content.{chainBytes, clusterBegin, bytesOfCluster, content}
 use Rattle.chains.specs.Aids.Content.{Room, Touches}
 use Rattle.chains.specs.Write.{filledImage, splice, written, writtenImage}
-use Rattle.chains.specs.Aids.Write.{roomFor}
 use Rattle.chains.specs.Laws.Sizes.{clusters-least}
 use Rattle.chains.specs.Laws.Chain.{chain-mem, chain-once}
 use Rattle.chains.specs.Laws.Holders.{file-fits, in-range}
@@ -44,7 +42,7 @@ content-more base cb p img cs ds n r l =
 
 module _ (G : Geometry) (base : ℕ) (f : ℕ → ℕ) (h : ℕ → Holder) (χ : ℕ → List ℕ) (v : FitTogether (G .last) f h χ)
     (img : List ℕ) (whole : (c : ℕ) → Link (G .last) c → clusterBegin base (G .cb) c + G .cb ≤ length img) (i st sz : ℕ) (is : h i ≡ fileHolder (G .cb) st sz) (pos : ℕ) (bs : List ℕ)
-    (fit : max sz (pos + length bs) ≤ roomFor (G .last) (G .cb) f (χ i)) where
+    (room : max sz (pos + length bs) ≤ (length (χ i) + length (freeClusters (G .last) f)) * G .cb) where
   abbrev size′ : ℕ
   size′ = max sz (pos + length bs)
 
@@ -53,10 +51,6 @@ module _ (G : Geometry) (base : ℕ) (f : ℕ → ℕ) (h : ℕ → Holder) (χ 
 
   abbrev image′ : List ℕ
   image′ = writtenImage base (G .cb) img chain′ sz pos bs
-
-  room : size′ ≤ (length (χ i) + length (freeClusters (G .last) f)) * G .cb
-  unfolding roomFor
-  room = fit
 
   pub write-replaces : Replaced (G .last) f (longerTable (G .last) (G .cb) f (χ i) size′) (fileHolder (G .cb) (headOf chain′) size′) (χ i) chain′
   write-replaces = file-grows G f h χ v i st sz is size′ (omega arith) room
@@ -115,16 +109,6 @@ module _ (G : Geometry) (base : ℕ) (f : ℕ → ℕ) (h : ℕ → Holder) (χ 
   -- any other holder's bytes, as many as its chain holds
   pub write-others : (t n : ℕ) → t ≢ i → n ≤ length (χ t) * G .cb → content base (G .cb) image′ (χ t) n ≡ content base (G .cb) img (χ t) n
   write-others t n ne full = others-keep G base f (longerTable (G .last) (G .cb) f (χ i) size′) h χ v i (fileHolder (G .cb) (headOf chain′) size′) chain′ write-replaces img image′ whole write-touches t n ne full
-
--- ---- how much a write takes
-
--- a file has room for its own bytes
-pub room-own : (G : Geometry) (f : ℕ → ℕ) (h : Holder) (cs : List ℕ) (st sz : ℕ) → h ≡ fileHolder (G .cb) st sz → Owns (G .last) f h cs → sz ≤ roomFor (G .last) (G .cb) f cs
-unfolding roomFor
-room-own G f h cs st sz is o = omega (arith, file-fits G f h cs st sz is o, mul-le-mul-right (G .cb) (more (length cs) (length (freeClusters (G .last) f))))
-  where
-    more : (a b : ℕ) → a ≤ a + b
-    more a b = omega arith
 
 -- who lacks no cluster keeps its chain, and the table stays
 pub lacks-none : (last cb : ℕ) (f : ℕ → ℕ) (cs : List ℕ) (n : ℕ) → n ≤ length cs * cb → 0 < cb → (longerChain last cb f cs n ≡ cs) × (longerTable last cb f cs n ≡ f)

@@ -9,10 +9,10 @@ use Rattle.chains.specs.Aids.Content.{Touches}
 use Rattle.chains.specs.Aids.Replace.{Replaced}
 use Rattle.diskette.specs.Places.{firstData, clusterBytes, copyTwo, lastCluster, rootEntries, slotAt}
 use Rattle.diskette.specs.declared.Kind.{Kind}
-use Rattle.directory.specs.Entries.{SameBytes}
-use Rattle.fields.specs.Fields.{nameOf}
-use Rattle.directory.specs.Slots.{NeverUsedAt, LabelAt, PlainAt}
 use Rattle.table.specs.Aids.Copies.{Agree}
+use Rattle.fields.specs.Fields.{nameOf}
+use Rattle.directory.specs.Entries.{SameBytes}
+use Rattle.directory.specs.Slots.{NeverUsedAt, LabelAt, PlainAt}
 use Rattle.chaincheck.specs.Aids.Entries.{holderAt}
 use Rattle.sound.specs.Files.{valueOf}
 use Rattle.sound.specs.Findings.{StrangeEntry}

@@ -22,12 +22,12 @@ use Rattle.links.specs.Aids.Leaves.{SameButEntries, HasTable}
 use Rattle.links.specs.Laws.Freed.{table-freed}
 use Rattle.links.specs.Laws.Leaves.{leaves-freed}
 use Rattle.chaincheck.specs.Aids.Entries.{holderAt}
-use Rattle.sound.specs.Files.{valueOf}
+use Rattle.sound.specs.Files.{valueOf, IsFile}
 use Rattle.sound.specs.Aids.Holders.{rootHolders, rootChains}
 use Rattle.sound.specs.Laws.Geometry.{geometry}
 use Rattle.calls.specs.Ready.{OnVolume}
 use Rattle.calls.specs.Laws.Ready.{on-usable}
-use Rattle.holding.specs.Holding.{fileChain, FileIn}
+use Rattle.holding.specs.Holding.{fileChain}
 use Rattle.holding.specs.Laws.Chain.{file-chain}
 use Rattle.holding.specs.Laws.Clusters.{copies-reach}
 use Rattle.freeing.specs.Freed.{chainFreed}
@@ -49,7 +49,7 @@ module _ (k : Kind) (l : List ℕ) (v : OnVolume l k) (b : Bytes l) (s : ℕ) wh
 
   -- ---- a file's clusters freed
 
-  module _ (i : FileIn l k s) where
+  module _ (i : IsFile k l s) where
     in-reach : (c : ℕ) → c ∈ fileChain k l s → Link (lastCluster k) c
     in-reach c m = chain-mem (geometry k u) (valueOf k l) (startOf l (slotAt k s)) (fileChain k l s) (file-chain l k v s i) c m .0
 

@@ -37,13 +37,13 @@ use Rattle.directory.specs.Search.{slotNamed}
 use Rattle.directory.specs.Slots.{hasBit, NeverUsedAt, PlainAt}
 use Rattle.directory.specs.Laws.Entries.{untouched, byte-leaves, word-leaves, byte-back, run-back}
 use Rattle.directory.specs.Laws.Search.{slot-named-answers}
-use Rattle.names.specs.Reading as Given
+use Rattle.names.specs.Reading.{nameGiven}
 use Rattle.names.specs.Spelling.{Proper}
 use Rattle.names.specs.Laws.Proper.{proper}
 use Rattle.search.specs.Search.{Answers}
 use Rattle.search.specs.declared.Found.the-variants.{Nothing}
 use Rattle.chaincheck.specs.Aids.Entries.{holderAt}
-use Rattle.sound.specs.Files.{valueOf, ChainOf}
+use Rattle.sound.specs.Files.{valueOf, ChainOf, IsFile}
 use Rattle.sound.specs.Findings.{StrangeEntry}
 use Rattle.sound.specs.Aids.Holders.{rootHolders, rootChains}
 use Rattle.sound.specs.Laws.Geometry.{geometry}
@@ -55,7 +55,6 @@ use Rattle.calls.specs.Laws.Files.{root-within}
 use Rattle.calls.specs.Laws.Ready.{on-usable}
 use Rattle.closing.specs.Close.{archived, stamped}
 use Rattle.closing.specs.Laws.Close.{archived-fits}
-use Rattle.holding.specs.Holding.{FileIn}
 use Rattle.holding.specs.Laws.Chain.{file-within}
 use Rattle.holding.specs.Laws.Clusters.{on-clusters}
 use Rattle.changes.specs.Files.{File, file, Holds}
@@ -161,7 +160,7 @@ pub record Marked (k : Kind) (l m : List ℕ) (s attr : ℕ) : Type 0 where
   pub start : startOf m (slotAt k s) ≡ startOf l (slotAt k s)
   pub size : sizeOf m (slotAt k s) ≡ sizeOf l (slotAt k s)
 
-module _ (k : Kind) (l : List ℕ) (v : OnVolume l k) (s : ℕ) (i : FileIn l k s) where
+module _ (k : Kind) (l : List ℕ) (v : OnVolume l k) (s : ℕ) (i : IsFile k l s) where
   u : Usable k
   u = on-usable l k v
 
@@ -245,7 +244,7 @@ module _ (k : Kind) (l : List ℕ) (v : OnVolume l k) (s : ℕ) (i : FileIn l k 
 
     pub entry-holds : (g : File) → Holds k l s g → (name : List ℕ) (attr : ℕ) → nameOf m a ≡ name → attrOf m a ≡ attr → Holds k m s (file name attr (g .bytes))
     entry-holds g h name attr e d = record {
-      is-file = (i .below, f .plain);
+      is-file = record { below = i .below; plain = f .plain };
       name = e;
       attr = d;
       bytes = (h .bytes .0, chain-stays (h .bytes .0) (h .bytes .1), same-content (h .bytes .0) (h .bytes .1) ∙ h .bytes .2);
@@ -256,9 +255,9 @@ module _ (k : Kind) (l : List ℕ) (v : OnVolume l k) (s : ℕ) (i : FileIn l k 
 
   -- ---- rename
 
-  module _ (given : List ℕ) (fits : Given.nameGiven given .fits ≡ true) where
+  module _ (given : List ℕ) (fits : nameGiven given .fits ≡ true) where
     abbrev name : List ℕ
-    name = Given.nameGiven given .name
+    name = nameGiven given .name
 
     abbrev renamed : List ℕ
     renamed = withName l a name

@@ -17,8 +17,7 @@ use Rattle.stamps.specs.declared.Packed.{Packed}
 use Rattle.stamps.specs.declared.Packed.the-variants.{Words, OutOfRange}
 use Rattle.opened.specs.Records.{writtenOf, cleared}
 use Rattle.opened.specs.Aids.Places.{liveSlot}
-use Rattle.calls.specs.Outcome.{Outcome, refusal, decided}
-use Rattle.calls.specs.Aids.Answers.{refusedBy, answering}
+use Rattle.calls.specs.Outcome.{Outcome, refusal, decided, refusedBy, answering}
 use Rattle.calls.specs.Ready.{OnVolume}
 use Rattle.calls.specs.Aids.Ready.{readyOf}
 use Rattle.closing.specs.Close.{archived, stamped, closeOutcome, Closes}

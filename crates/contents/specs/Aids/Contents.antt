@@ -3,7 +3,7 @@ use Prim.Native.Nat.{ℕ, _+_, _-_, _*_, _≤_, _<_}
 use mathlib.Core.List.{List}
 use lib.ListN.{length, replicate}
 use Rattle.image.specs.Store.{part}
-use Rattle.chains.specs.Content.{chainBytes}
+use Rattle.chains.specs.Content.{chainBytes, byteAt}
 use Rattle.chains.specs.Write.{poured}
 use Rattle.table.specs.Entries.{wordAt}
 use Rattle.contents.specs.Contents.{chainFrom}
@@ -26,3 +26,7 @@ bytesPut base cb last l start pos bs = poured base cb l (chainFrom last l start)
 -- the image after n zeros were put there
 abbrev pub zerosPut : ℕ → ℕ → ℕ → List ℕ → ℕ → ℕ → ℕ → List ℕ
 zerosPut base cb last l start pos n = poured base cb l (chainFrom last l start) pos (replicate n 0) n
+
+-- where byte pos of the chain lies in the image
+abbrev pub placeOf : ℕ → ℕ → ℕ → List ℕ → ℕ → ℕ → ℕ
+placeOf base cb last l start pos = byteAt base cb (chainFrom last l start) pos

@@ -20,8 +20,7 @@ use Rattle.stamps.specs.declared.Packed.{Packed}
 use Rattle.stamps.specs.declared.Packed.the-variants.{Words, OutOfRange}
 use Rattle.opened.specs.Places.{isOpen, lowestUnused}
 use Rattle.opened.specs.Records.{withRecord}
-use Rattle.calls.specs.Outcome.{Outcome, refusal, decided}
-use Rattle.calls.specs.Aids.Answers.{refusedBy, answering}
+use Rattle.calls.specs.Outcome.{Outcome, refusal, decided, refusedBy, answering}
 use Rattle.calls.specs.Refusals.{readOnly, badAttr, slotForNew}
 use Rattle.calls.specs.Ready.{OnVolume}
 use Rattle.calls.specs.Aids.Ready.{readyOf}

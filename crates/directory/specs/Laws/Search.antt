@@ -36,9 +36,9 @@ lowest-all p n = let e : n - 0 ≡ n = omega arith in ap (lowest p 0) e
 
 module _ (l : List ℕ) (root count : ℕ) where
   -- the lowest erased or never-used slot
-  pub open-slot-answers : Answers (λ (s : ℕ). VacantAt l (slotFrom root s)) count (lowestVacant l root count)
+  pub vacant-slot-answers : Answers (λ (s : ℕ). VacantAt l (slotFrom root s)) count (lowestVacant l root count)
   unfolding lowestVacant
-  open-slot-answers = lowest-answers (vacantSlot l root) (λ (s : ℕ). VacantAt l (slotFrom root s)) count (λ s k. vacant-is l (slotFrom root s))
+  vacant-slot-answers = lowest-answers (vacantSlot l root) (λ (s : ℕ). VacantAt l (slotFrom root s)) count (λ s k. vacant-is l (slotFrom root s))
 
   -- the plain file with these 11 name bytes
   pub slot-named-answers : root + 32 * count ≤ length l → (name : List ℕ) → length name ≡ 11

@@ -9,7 +9,7 @@ use Rattle.image.specs.Store.{stored, part}
 use Rattle.image.specs.Numbers.{digits}
 use Rattle.image.specs.Laws.Store.{bytes-one, bytes-append, bytes-zeros, stored-whole, and-then, length-part}
 use Rattle.image.specs.Laws.Numbers.{length-digits, bytes-digits}
-use Rattle.fields.specs.Fields.{nameOf, reservedOf, headBytes, tailBytes, entryBytes}
+use Rattle.fields.specs.Fields.{nameOf, headBytes, tailBytes, entryBytes}
 
 pub length-head : (name : List ℕ) (attr : ℕ) → length name ≡ 11 → length (headBytes name attr) ≡ 22
 unfolding headBytes
@@ -36,9 +36,6 @@ copied l r at n h p =
 
 pub name-copied : (l r : List ℕ) (a : ℕ) → a + 32 ≤ length l → r ≡ stored (replicate 11 0) 0 (take (a + 11 - a) (drop a l)) → r ≡ nameOf l a
 name-copied l r a h p = copied l r a 11 (omega arith) p
-
-pub reserved-copied : (l r : List ℕ) (a : ℕ) → a + 32 ≤ length l → r ≡ stored (replicate 10 0) 0 (take (a + 12 + 10 - (a + 12)) (drop (a + 12) l)) → r ≡ reservedOf l a
-reserved-copied l r a h p = copied l r (a + 12) 10 (omega arith) p
 
 pub head-stored : (l l₁ l₂ l₃ : List ℕ) (a : ℕ) (name : List ℕ) (attr : ℕ) → length name ≡ 11
     → l₁ ≡ stored l a name → l₂ ≡ stored l₁ (a + 11) (attr ∷ []) → l₃ ≡ stored l₂ (a + 12) (replicate 10 0)

@@ -30,7 +30,7 @@ use Rattle.history.specs.World.{world}
 
 module _ (k : Kind) (u : Usable k) (named-so : named (k .byte) ≡ Known k) where
   no-file : (s : ℕ) → ¬ IsFile k (blank k) s
-  no-file s i = i .1 .0 .0 (blank-slot k u s (i .0))
+  no-file s i = i .plain .0 .0 (blank-slot k u s (i .below))
 
   blank-sound : Sound k (blank k)
   blank-sound = (

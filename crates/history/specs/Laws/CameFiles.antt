@@ -31,7 +31,7 @@ use Rattle.opened.specs.Laws.Stores.{record-holds}
 use Rattle.calls.specs.Outcome.{Outcome, refusal}
 use Rattle.calls.specs.Refusals.{isNothing, placeFound, noFile, fileSlot, slotForNew, noPlace, freePlace, isOut, theKind}
 use Rattle.calls.specs.Laws.Ready.{on-kind, on-usable}
-use Rattle.holding.specs.Holding.{FileIn}
+use Rattle.sound.specs.Files.{IsFile}
 use Rattle.holding.specs.Laws.Chain.{slot-fits}
 use Rattle.creating.specs.Create.{made, madeBy, createRows, createEffect, createOutcome}
 use Rattle.deleting.specs.Delete.{erasedIn, deleteRows, deleteEffect, deleteOutcome}

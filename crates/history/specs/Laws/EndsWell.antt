@@ -28,9 +28,8 @@ use Rattle.calls.specs.Refusals.{badAttr, fileFound, slotForNew, notLive}
 use Rattle.calls.specs.Laws.Ready.{on-kind}
 use Rattle.creating.specs.Create.{made, createOutcome}
 use Rattle.closing.specs.Close.{closeEffect, closeOutcome}
-use Rattle.putting.specs.Longer.{roomOf}
 use Rattle.putting.specs.Written.{writtenIn}
-use Rattle.writing.specs.Write.{writeCount, writeOutcome, writeAt, accepted}
+use Rattle.writing.specs.Write.{writeCount, writeOutcome, writeAt, accepted, roomOf}
 use Rattle.history.specs.World.{World, outcomeOf, create, write, close}
 
 -- the one place of the table is taken for the file in slot n
@@ -88,8 +87,8 @@ module _ (k : Kind) (w : World) (v : OnVolume (w .image) k) where
         counted = one-place t (x .long);
         used = x .holds .used;
         access = omega (arith, x .holds .access);
-        slot = rw (x .holds .slot) (i .0);
-        plain = rw (x .holds .slot) (i .1);
+        slot = rw (x .holds .slot) (i .below);
+        plain = rw (x .holds .slot) (i .plain);
       })))
 
   count-all : (n length : ℕ) → length ≤ freeOf k l * clusterBytes k → writeCount k l n 0 length ≡ length

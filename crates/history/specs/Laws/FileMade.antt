@@ -39,7 +39,7 @@ use Rattle.history.specs.World.{World, outcomeOf, step, run, answers, cr
 use Rattle.history.specs.Laws.EndsWell.{TakenFor, place-free, taken-made, taken-written, create-well, write-well, close-well}
 use Rattle.history.specs.Laws.Looks.{after-well}
 use Rattle.history.specs.Laws.OneSlot.{Stands, stands-step, others-step, free-step, aside-step}
-use Rattle.changes.specs.Laws.NewSlot.{none-of-name, lowest-open}
+use Rattle.changes.specs.Laws.NewSlot.{none-of-name, lowest-vacant}
 use Rattle.history.specs.Laws.Room.{needed}
 use Rattle.history.specs.Laws.HasFiles.{HasFiles, GoodFile}
 use Rattle.history.specs.Laws.Stamped.{stamped-words, same-stamp}
@@ -71,7 +71,7 @@ module _ (k : Kind) (w : World) (fs : Files) (n free : ℕ) (x : HasFiles k w fs
       let v = x .stands .begins .on in
       create-well k w v s attr stamp (g .time) (g .date) n (g .fits) (g .stamped) (g .may)
       (none-of-name k (w .image) v fs (x .stands .shows) s (g .long) (g .new-name))
-      (lowest-open k (w .image) v fs (x .stands .shows) n slot (x .below) (x .never))
+      (lowest-vacant k (w .image) v fs (x .stands .shows) n slot (x .below) (x .never))
       (ap lowestUnused (x .table) ∙ place-free)
 
   taken-created : TakenFor (world-created .table) n 0 false
@@ -92,7 +92,7 @@ module _ (k : Kind) (w : World) (fs : Files) (n free : ℕ) (x : HasFiles k w fs
 
   none-needed : (o : Option File) → ShowsAt k (w .image) n o → needed k o ≡ 0
   none-needed none y = refl
-  none-needed (some f) y = absurd (y .is-file .1 .0 .0 (x .never))
+  none-needed (some f) y = absurd (y .is-file .plain .0 .0 (x .never))
 
   free-created : freeOf k (world-created .image) ≡ free
   free-created =

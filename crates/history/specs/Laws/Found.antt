@@ -12,7 +12,7 @@ use Rattle.search.specs.declared.Found.{Found}
 use Rattle.search.specs.declared.Found.the-variants.{At, Nothing}
 use Rattle.directory.specs.Search.{lowestVacant, slotNamed}
 use Rattle.directory.specs.Slots.{VacantAt}
-use Rattle.directory.specs.Laws.Search.{open-slot-answers}
+use Rattle.directory.specs.Laws.Search.{vacant-slot-answers}
 use Rattle.names.specs.Reading.{nameGiven}
 use Rattle.opened.specs.Places.{LivePlace}
 use Rattle.opened.specs.Records.{placeCount, slotOf}
@@ -21,7 +21,7 @@ use Rattle.calls.specs.Ready.{OnVolume}
 use Rattle.calls.specs.Refusals.{isNothing, placeFound, theKind, badName, fileFound, noFile, fileSlot, notLive, noPlace, freePlace, slotForNew}
 use Rattle.calls.specs.Laws.Files.{found-is, named-fits, unused-below}
 use Rattle.calls.specs.Laws.Ready.{on-kind}
-use Rattle.holding.specs.Holding.{FileIn}
+use Rattle.sound.specs.Files.{IsFile}
 use Rattle.holding.specs.Laws.Found.{named-file}
 
 pub good-name : (s : List ℕ) → badName s ≡ false → nameGiven s .fits ≡ true
@@ -48,7 +48,7 @@ module _ (k : Kind) (l : List ℕ) (v : OnVolume l k) (s : List ℕ) where
   pub file-found : noFile l s ≡ false → slotNamed l (rootAt k) (rootEntries k) (nameGiven s .name) ≡ At (fileSlot l s)
   file-found e = sym by-name ∙ found-at (fileFound l s) e
 
-  pub file-there : noFile l s ≡ false → FileIn l k (fileSlot l s)
+  pub file-there : noFile l s ≡ false → IsFile k l (fileSlot l s)
   file-there e = named-file l k (nameGiven s .name) (slotNamed l (rootAt k) (rootEntries k) (nameGiven s .name)) refl (fileSlot l s) (file-found e)
 
   -- the name of none
@@ -65,7 +65,7 @@ module _ (k : Kind) (l : List ℕ) (v : OnVolume l k) where
   live-at t h e = live-is t h l _ _ .0 (not-false _ e)
 
   -- the file that a live handle reaches
-  pub live-there : (t : List ℕ) (h : ℕ) → notLive l t h ≡ false → FileIn l k (slotOf t h)
+  pub live-there : (t : List ℕ) (h : ℕ) → notLive l t h ≡ false → IsFile k l (slotOf t h)
   live-there t h e = let x = live-at t h e in record { below = rw (← on-kind l k v) (x .slot); plain = rw (← on-kind l k v) (x .plain) }
 
   -- the slot that a new file takes: below the root's count, and open
@@ -73,4 +73,4 @@ module _ (k : Kind) (l : List ℕ) (v : OnVolume l k) where
   unfolding slotForNew
   new-slot e =
       let same : slotForNew l ≡ lowestVacant l (rootAt k) (rootEntries k) = rw (on-kind l k v) refl in
-      subst (Answers (λ (i : ℕ). VacantAt l (slotAt k i)) (rootEntries k)) (sym same ∙ found-at (slotForNew l) e) (open-slot-answers l (rootAt k) (rootEntries k))
+      subst (Answers (λ (i : ℕ). VacantAt l (slotAt k i)) (rootEntries k)) (sym same ∙ found-at (slotForNew l) e) (vacant-slot-answers l (rootAt k) (rootEntries k))

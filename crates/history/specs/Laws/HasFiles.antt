@@ -41,9 +41,9 @@ pub verdict-of : (k : Kind) (w : World) (fs : Files) (n free : ℕ) → HasFiles
 verdict-of k w fs n free x h =
     let files : fileCount k (w .image) ≡ n = first-count k (w .image) n (omega arith)
     (λ t i. subst (ShowsAt k (w .image) t) (x .below t i .1) (x .stands .shows t) .is-file)
-    (λ t i f. f .1 .0 .0 (elim (ℕ-discrete t n) as (λ _. NeverUsedAt (w .image) (slotAt k t)) [
+    (λ t i f. f .plain .0 .0 (elim (ℕ-discrete t n) as (λ _. NeverUsedAt (w .image) (slotAt k t)) [
       | yes e ↦ rw e (x .never)
-      | no d ↦ x .stands .above t (omega arith) (f .0)
+      | no d ↦ x .stands .above t (omega arith) (f .below)
     ])) in
     let held : heldOf k (w .image) ≡ clusters k - free = omega (arith, total-of k w (x .stands .begins), x .free-are, x .aside-none) in
     sound-verdict k (w .image) (x .stands .begins .on) ∙ rw (files, x .free-are, held, x .aside-none)

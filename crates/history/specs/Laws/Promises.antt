@@ -10,8 +10,7 @@ use Rattle.diskette.specs.declared.Kind.{Kind}
 use Rattle.opened.specs.Records.{slotOf, pointerOf}
 use Rattle.calls.specs.Outcome.{Outcome}
 use Rattle.calls.specs.Laws.Ready.{on-kind}
-use Rattle.putting.specs.Longer.{roomOf}
-use Rattle.writing.specs.Write.{writeCount, writeRows, writeEffect, writeOutcome, writeAt}
+use Rattle.writing.specs.Write.{writeCount, writeRows, writeEffect, writeOutcome, writeAt, roomOf}
 use Rattle.history.specs.Aids.Came.{Came}
 use Rattle.history.specs.Promises.{Given, Begins, SoundAfterEach, FilesOfHistory, AltersNoOther, TotalAfterEach, ShortOnlyWhereFull}
 use Rattle.history.specs.Tare.{TareStays}

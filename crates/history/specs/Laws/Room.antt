@@ -15,13 +15,13 @@ use Rattle.diskette.specs.declared.Kind.{Kind}
 use Rattle.fields.specs.Fields.{startOf, sizeOf}
 use Rattle.chaincheck.specs.Aids.Entries.{holderAt}
 use Rattle.sound.specs.Counts.{freeOf, asideOf}
-use Rattle.sound.specs.Files.{valueOf}
+use Rattle.sound.specs.Files.{valueOf, IsFile}
 use Rattle.sound.specs.Aids.Holders.{rootHolders, rootChains}
 use Rattle.sound.specs.Laws.Geometry.{geometry}
 use Rattle.sound.specs.Laws.Holders.{root-holder}
 use Rattle.calls.specs.Ready.{OnVolume}
 use Rattle.calls.specs.Laws.Ready.{on-usable}
-use Rattle.holding.specs.Holding.{fileChain, fileBytes, FileIn}
+use Rattle.holding.specs.Holding.{fileChain, fileBytes}
 use Rattle.holding.specs.Laws.Chain.{chain-long, file-holds}
 use Rattle.holding.specs.Laws.Clusters.{on-clusters}
 use Rattle.history.specs.Aids.Came.{Came, stays, changes}
@@ -38,16 +38,16 @@ needed k none = 0
 needed k (some f) = clustersFor (clusterBytes k) (length (f .bytes))
 
 module _ (k : Kind) (l : List ℕ) (v : OnVolume l k) (s : ℕ) where
-  bytes-long : FileIn l k s → length (fileBytes k l s) ≡ sizeOf l (slotAt k s)
+  bytes-long : IsFile k l s → length (fileBytes k l s) ≡ sizeOf l (slotAt k s)
   unfolding fileBytes
   bytes-long i =
       content-length (512 * firstData k) (clusterBytes k) (on-clusters l k v .wide) l (fileChain k l s) (sizeOf l (slotAt k s))
       (chain-room (512 * firstData k) (clusterBytes k) (lastCluster k) l (startOf l (slotAt k s)) (on-clusters l k v)) (file-holds l k v s i)
 
   chain-needed : s < rootEntries k → (o : Option File) → ShowsAt k l s o → length (rootChains k l (slotAt k s)) ≡ needed k o
-  chain-needed h none x = ap length (root-none k l v s h (λ p. x (h, p)))
+  chain-needed h none x = ap length (root-none k l v s h (λ p. x (record { below = h; plain = p })))
   chain-needed h (some f) x =
-      let i : FileIn l k s = record { below = x .is-file .0; plain = x .is-file .1 } in
+      let i = x .is-file in
       ap length (root-file k l v s i) ∙ chain-long l k v s i
       ∙ ap (clustersFor (clusterBytes k)) (sym (bytes-long i) ∙ ap length (holds-bytes k l v s f x))
 

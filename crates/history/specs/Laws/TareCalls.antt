@@ -26,7 +26,7 @@ use Rattle.calls.specs.Outcome.{Row, Outcome, refusal, decided}
 use Rattle.calls.specs.Ready.{OnVolume}
 use Rattle.calls.specs.Refusals.{isNothing, placeFound, theKind, noFile, fileSlot, readOnly, notLive, noPlace, freePlace, slotForNew}
 use Rattle.calls.specs.Laws.Ready.{on-usable}
-use Rattle.holding.specs.Holding.{FileIn}
+use Rattle.sound.specs.Files.{IsFile}
 use Rattle.creating.specs.Create.{made, madeBy, createRows, createEffect, createOutcome}
 use Rattle.deleting.specs.Delete.{deleteRows, deleteEffect, deleteOutcome}
 use Rattle.freeing.specs.Freed.{chainFreed}
@@ -45,7 +45,7 @@ use Rattle.history.specs.Laws.TarePlaces.{Watched, ReadsOnly, record-wat
 
 -- a read-only file whose places, where it has any, only read
 pub record Guarded (k : Kind) (w : World) (s : ℕ) : Type 0 where
-  pub is-file : FileIn (w .image) k s
+  pub is-file : IsFile k (w .image) s
   pub marked : readOnly (w .image) s ≡ true
   pub places : Watched (w .table) s
 

@@ -7,7 +7,7 @@ use Rattle.image.specs.Bytes.{Bytes}
 use Rattle.chains.specs.Put.{put}
 use Rattle.chains.specs.Laws.Put.{put-same, put-other}
 use Rattle.diskette.specs.declared.Kind.{Kind}
-use Rattle.holding.specs.Holding.{FileIn}
+use Rattle.sound.specs.Files.{IsFile}
 use Rattle.history.specs.Aids.Came.{Came, changes}
 use Rattle.changes.specs.Aids.Changed.{SlotChanged}
 use Rattle.changes.specs.Files.{File, Files, Holds, Shows, ShowsAt}
@@ -28,10 +28,10 @@ module _ (k : Kind) (w : World) (c : Call) (s : ℕ) (ds m : List ℕ) (well : o
   })
 
   -- the file that stands there is changed
-  pub came-at : FileIn (w .image) k s → (g : File → File) → ((fs : Files) → history.changes c w (outcomeOf c w) fs ≡ history.at s (history.each g) fs)
+  pub came-at : IsFile k (w .image) s → (g : File → File) → ((fs : Files) → history.changes c w (outcomeOf c w) fs ≡ history.at s (history.each g) fs)
       → ((f : File) → Holds k (w .image) s f → Holds k m s (g f)) → Came k w c
   came-at i g at-there holds = came-put (λ fs. history.each g (fs s)) at-there (λ fs y. go (fs s) (y s))
     where
       go : (o : Option File) → ShowsAt k (w .image) s o → ShowsAt k m s (history.each g o)
-      go none y = absurd (y (i .below, i .plain))
+      go none y = absurd (y i)
       go (some f) y = holds f y

@@ -16,8 +16,7 @@ use Rattle.directory.specs.Search.{slotNamed}
 use Rattle.names.specs.Reading.{nameGiven}
 use Rattle.names.specs.declared.Spelled.{Spelled}
 use Rattle.opened.specs.Places.{isOpen}
-use Rattle.calls.specs.Outcome.{Outcome, refusal, decided}
-use Rattle.calls.specs.Aids.Answers.{refusedBy, answering}
+use Rattle.calls.specs.Outcome.{Outcome, refusal, decided, refusedBy, answering}
 use Rattle.calls.specs.Refusals.{badAttr}
 use Rattle.calls.specs.Ready.{OnVolume}
 use Rattle.calls.specs.Aids.Ready.{readyOf}

@@ -22,11 +22,11 @@ use Rattle.search.specs.declared.Found.the-variants.{At, Nothing}
 use Rattle.fields.specs.Fields.{startOf, sizeOf}
 use Rattle.opened.specs.Records.{accessOf, pointerOf, withPointer}
 use Rattle.opened.specs.Aids.Places.{liveSlot}
-use Rattle.calls.specs.Outcome.{Outcome, refusal, decided}
-use Rattle.calls.specs.Aids.Answers.{refusedBy, answering}
+use Rattle.calls.specs.Outcome.{Outcome, refusal, decided, refusedBy, answering}
 use Rattle.calls.specs.Ready.{OnVolume}
 use Rattle.calls.specs.Aids.Ready.{readyOf}
-use Rattle.holding.specs.Holding.{fileChain, fileBytes, FileIn}
+use Rattle.holding.specs.Holding.{fileChain, fileBytes}
+use Rattle.sound.specs.Files.{IsFile}
 use Rattle.holding.specs.Laws.Clusters.{on-clusters}
 use Rattle.holding.specs.Laws.Chain.{file-holds}
 use Rattle.reading.specs.Read.{readCount, readOutcome, Reads}
@@ -53,7 +53,7 @@ count-short img k slot room size pointer n e a sized ae = rw (← ae, ← sized)
 -- ---- the bytes of a file of a volume that is ready
 
 module _ (img : List ℕ) (k : Kind) (v : OnVolume img k) where
-  module _ (slot : ℕ) (i : FileIn img k slot) (pointer n : ℕ) (short : n ≤ sizeOf img (slotAt k slot) - pointer) where
+  module _ (slot : ℕ) (i : IsFile k img slot) (pointer n : ℕ) (short : n ≤ sizeOf img (slotAt k slot) - pointer) where
     module _ (some : n ≢ 0) (cb last : ℕ) (ce : cb ≡ clusterBytes k) (le : last ≡ lastCluster k) where
       module _ (a start : ℕ) (ae : a ≡ slotAt k slot) (se : start ≡ startOf img a) where
         pub copy-room : pointer + n ≤ length (chainFrom last img start) * cb
@@ -103,7 +103,7 @@ module _ (img t : List ℕ) (h : ℕ) (buf : List ℕ) where
 -- ---- what it means
 
 -- as many bytes are moved as are answered
-module _ (img : List ℕ) (k : Kind) (v : OnVolume img k) (slot : ℕ) (i : FileIn img k slot) (pointer n : ℕ) (short : n ≤ sizeOf img (slotAt k slot) - pointer) where
+module _ (img : List ℕ) (k : Kind) (v : OnVolume img k) (slot : ℕ) (i : IsFile k img slot) (pointer n : ℕ) (short : n ≤ sizeOf img (slotAt k slot) - pointer) where
   pub moved-length : length (part (fileBytes k img slot) pointer n) ≡ n
   unfolding fileBytes
   moved-length = elim (decLt 0 n) [

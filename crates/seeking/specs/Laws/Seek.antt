@@ -18,8 +18,7 @@ use Rattle.offset.specs.declared.Moved.{Moved}
 use Rattle.offset.specs.declared.Moved.the-variants.{To, Beyond}
 use Rattle.opened.specs.Records.{slotOf, pointerOf, withPointer}
 use Rattle.opened.specs.Aids.Places.{liveSlot}
-use Rattle.calls.specs.Outcome.{Outcome, refusal, decided}
-use Rattle.calls.specs.Aids.Answers.{refusedBy, answering}
+use Rattle.calls.specs.Outcome.{Outcome, refusal, decided, refusedBy, answering}
 use Rattle.calls.specs.Ready.{OnVolume}
 use Rattle.calls.specs.Aids.Ready.{readyOf}
 use Rattle.seeking.specs.Seek.{seekBase, seekOutcome, Seeks}

@@ -6,9 +6,9 @@ use mathlib.Core.List.{List}
 use mathlib.Core.Logic.{_≢_}
 use mathlib.Core.Path.{_≡_}
 use lib.ListN.{length, getD}
+use Rattle.diskette.specs.Places.{slotFrom}
 use Rattle.fields.specs.Fields.{nameOf}
 use Rattle.directory.specs.Slots.{PlainAt}
-use Rattle.diskette.specs.Places.{slotFrom}
 use Rattle.slotcheck.specs.Aids.Slots.{nameTwiceSlot, badSlotBy}
 
 abbrev pub withByte : ℕ → ℕ → ℕ

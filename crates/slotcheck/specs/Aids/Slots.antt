@@ -4,13 +4,13 @@ use mathlib.Core.Bool.{Bool, true, false, _&&_, _||_, not}
 use mathlib.Core.List.{List}
 use lib.Dec.{eqb}
 use lib.ListN.{getD}
+use Rattle.search.specs.Search.{isFound}
+use Rattle.diskette.specs.Places.{slotFrom}
 use Rattle.fields.specs.Fields.{nameOf, attrOf}
 use Rattle.directory.specs.Slots.{hasBit, standingOf, isPlain}
 use Rattle.directory.specs.Search.{slotNamed}
-use Rattle.diskette.specs.Places.{slotFrom}
 use Rattle.directory.specs.declared.Standing.{Standing}
 use Rattle.directory.specs.declared.Standing.the-variants.{NeverUsed, Erased, Label, Plain}
-use Rattle.search.specs.Search.{isFound}
 
 -- does any number below s pass?
 unfoldable pub anyBelow : (ℕ → Bool) → ℕ → Bool

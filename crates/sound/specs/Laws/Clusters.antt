@@ -11,6 +11,7 @@ use Rattle.chains.specs.Values.{Link}
 use Rattle.chains.specs.Aids.Chain.{After, Chain}
 use Rattle.sound.specs.Files.{Clusters, FileClusters, none-of-it, as-many}
 use Rattle.chains.specs.Aids.Holders.{Owns, fileHolder}
+use Rattle.chains.specs.Laws.Chain.{leads-next}
 use Rattle.chains.specs.Laws.Sizes.{clusters-some, clusters-zero, exact-fits, fits-empty, fits-exact}
 use Rattle.chains.specs.Laws.Holders.{in-range}
 
@@ -29,7 +30,7 @@ after-clusters last f c (d ∷ ds) l p =
     record {
       from-start = refl;
       in-range = λ i. elim i [ zero ↦ λ k. l | suc j ↦ λ k. r .in-range j (omega arith) ];
-      naming = λ i. elim i [ zero ↦ λ k. p .0 | suc j ↦ λ k. r .naming j (omega arith) ∙ ap (λ (x : ℕ). getD (d ∷ ds) x 0) (next j) ∙ sym (ap (λ (x : ℕ). getD (c ∷ (d ∷ ds)) x 0) (next (suc j))) ];
+      naming = leads-next last f c (c ∷ (d ∷ ds)) (refl, l, p);
       ending = λ i. elim i [ zero ↦ λ k. absurd (omega arith) | suc j ↦ λ k. r .ending j (omega arith) ];
     }
 

@@ -18,11 +18,12 @@ use Rattle.tablecheck.specs.declared.Census.{Census}
 use Rattle.tablecheck.specs.declared.Census.the-variants.{BadValue, Values}
 use Rattle.slotcheck.specs.Aids.Slots.{badSlotAt}
 use Rattle.chaincheck.specs.Aids.Entries.{badChainSlot}
+use Rattle.chaincheck.specs.Aids.Held.{plainSlot, heldSlot}
 use Rattle.chaincheck.specs.Aids.Visits.{chainsBy, chainsFound, FilesVisited}
 use Rattle.chaincheck.specs.declared.Chains.{Chains}
 use Rattle.chaincheck.specs.declared.Chains.the-variants.{BadChain, Held}
 use Rattle.sound.specs.Files.{valueOf}
-use Rattle.sound.specs.Counts.{fileCount, freeOf, heldOf, asideOf}
+use Rattle.sound.specs.Counts.{isFile, freeOf, heldBy, asideOf}
 use Rattle.sound.specs.Aids.Judged.{marksOfFiles, voice, marksJudged, chainsJudged, judged}
 use Rattle.sound.specs.Laws.Visited.{files-visited-marks}
 use Rattle.sound.specs.declared.Verdict.{Verdict}
@@ -63,7 +64,7 @@ chains-say (some s) files held r e rest = rw e
 
 module _ (k : Kind) (l : List ℕ) (free aside : ℕ) (r : Chains) (e : r ≡ chainsFound (lastCluster k) (clusterBytes k) l (rootAt k) (rootEntries k)) where
   said : (elim r as (λ _. Verdict) [ BadChain s ↦ Finding 5 s | Held a b ↦ marksJudged (lastCluster k) (valueOf k l) (marksOfFiles k l) (Sound a free b aside) ]) ≡ chainsJudged k l free aside
-  unfolding chainsFound chainsJudged
+  unfolding chainsFound chainsJudged plainSlot heldSlot isFile heldBy
   said = chains-say _ _ _ r e (λ a b. marksJudged (lastCluster k) (valueOf k l) (marksOfFiles k l) (Sound a free b aside))
 
   chains-bad : (s : ℕ) → r ≡ BadChain s → Finding 5 s ≡ chainsJudged k l free aside

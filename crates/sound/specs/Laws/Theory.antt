@@ -4,7 +4,7 @@ use Prim.Native.Nat.{ℕ}
 use mathlib.Core.List.{List}
 use mathlib.Core.Path.{_≡_, subst}
 use lib.Dec.{ltb}
-use Rattle.chains.specs.Aids.Holders.{NamesAll}
+use Rattle.chains.specs.Aids.Holders.{NamesAll, FitTogether}
 use Rattle.chains.specs.Lists.{_∈_}
 use Rattle.chains.specs.Verdict.{None}
 use Rattle.chains.specs.Laws.Findings.{none-sound}
@@ -21,12 +21,11 @@ use Rattle.sound.specs.Laws.Chains.{bad-chain-as, in-two-as, lost-as, fi
 use Rattle.sound.specs.Laws.Geometry.{geometry}
 use Rattle.sound.specs.Laws.Holders.{root-holder, root-nobody, slot-same, slots-once}
 use Rattle.sound.specs.Laws.SamePlaces.{none-as}
-use Rattle.chains.specs.Aids.Holders as Theory
 
 module _ (k : Kind) (u : Usable k) (l : List ℕ) where
   -- ---- to the theory
 
-  pub no-finding-theory : NoFinding k l → Theory.FitTogether (lastCluster k) (valueOf k l) (rootHolders k l) (rootChains k l)
+  pub no-finding-theory : NoFinding k l → FitTogether (lastCluster k) (valueOf k l) (rootHolders k l) (rootChains k l)
   unfolding rootChains
   no-finding-theory n =
       let h = rootHolders k l in
@@ -38,7 +37,7 @@ module _ (k : Kind) (u : Usable k) (l : List ℕ) where
 
   -- ---- from the theory; χ is any family, as a change of one holder gives it
 
-  module _ (χ : ℕ → List ℕ) (v : Theory.FitTogether (lastCluster k) (valueOf k l) (rootHolders k l) χ) where
+  module _ (χ : ℕ → List ℕ) (v : FitTogether (lastCluster k) (valueOf k l) (rootHolders k l) χ) where
     pub root-names : NamesAll χ (rootList k)
     root-names = sound-names (geometry k u) (valueOf k l) (rootHolders k l) χ v (rootList k) (root-nobody k l) (slots-once k)
 

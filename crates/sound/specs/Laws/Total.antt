@@ -19,8 +19,7 @@ use Rattle.diskette.specs.declared.Kind.{Kind}
 use Rattle.fields.specs.Fields.{startOf, sizeOf}
 use Rattle.directory.specs.Slots.{standingOf, isPlain}
 use Rattle.directory.specs.Laws.Slots.{plain-is}
-use Rattle.chaincheck.specs.Held.{plainSlot, heldBy}
-use Rattle.sound.specs.Counts.{freeOf, heldOf, asideOf}
+use Rattle.sound.specs.Counts.{isFile, freeOf, heldBy, heldOf, asideOf}
 use Rattle.sound.specs.Files.{valueOf}
 use Rattle.sound.specs.Aids.Holders.{rootList, rootHolders, rootChains}
 use Rattle.sound.specs.Sound.{Sound}
@@ -44,8 +43,8 @@ module _ (k : Kind) (u : Usable k) (l : List ℕ) where
       go true p = file-exact cb (startOf l a) (sizeOf l a) (rootHolders k l a) (root-listed k l a m ∙ plain-holder cb l a (plain-is l a .0 p)) n e
       go false p = nobody-exact cb (geometry k u .wide) (rootHolders k l a) (root-listed k l a m ∙ no-holder cb l a (λ q. clash (plain-is l a .1 q) p)) n e
 
-  held-slot : (s : ℕ) → clustersFor cb (bytesAt l (slotFrom (rootAt k) s)) ≡ heldBy cb l (rootAt k) s
-  unfolding heldBy plainSlot
+  held-slot : (s : ℕ) → clustersFor cb (bytesAt l (slotFrom (rootAt k) s)) ≡ heldBy k l s
+  unfolding heldBy isFile
   held-slot s = go (isPlain (standingOf l (slotFrom (rootAt k) s)))
     where
       go : (b : Bool) → clustersFor cb (cond b (sizeOf l (slotFrom (rootAt k) s)) 0) ≡ cond b (clustersFor cb (sizeOf l (slotFrom (rootAt k) s))) 0

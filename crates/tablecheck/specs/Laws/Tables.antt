@@ -15,7 +15,8 @@ use Rattle.image.specs.Bytes.{Bytes}
 use Rattle.image.specs.Numbers.{number}
 use Rattle.chains.specs.Aids.Check.{badValue}
 use Rattle.chains.specs.Sums.{tally, bit}
-use Rattle.chains.specs.Values.{freeAt, asideAt, freeCount, asideCount, freeb, linkb, endb, asideb, Valid, free, used, aside}
+use Rattle.chains.specs.Values.{freeCount, asideCount, freeb, linkb, asideb, Valid, free, used, aside}
+use Rattle.chains.specs.Aids.Values.{endb, freeAt, asideAt}
 use Rattle.chains.specs.Aids.Verdict.{first}
 use Rattle.chains.specs.Laws.Tests.{says-not, true-says, false-says, clash}
 use Rattle.chains.specs.Laws.Values.{says-valid, says-aside}

@@ -7,7 +7,8 @@ use mathlib.Core.List.{List, []}
 use mathlib.Core.Path.{_≡_, refl, sym, ap, _∙_}
 use lib.ListN.{length, getD}
 use Rattle.image.specs.Store.{part}
-use Rattle.contents.specs.Contents.{chainFrom, placeOf}
+use Rattle.contents.specs.Contents.{chainFrom}
+use Rattle.contents.specs.Aids.Contents.{placeOf}
 use Rattle.contents.specs.Laws.Chain.{chain-room}
 use Rattle.diskette.specs.Places.{firstData, clusterBytes, lastCluster, rootAt, rootEntries, slotAt}
 use Rattle.diskette.specs.declared.Kind.{Kind}
@@ -25,14 +26,15 @@ use native.Mathlib.Nat.{div-lt-iff-lt-mul, mod-lt}
 use Rattle.chains.specs.Content.{byteAt}
 use Rattle.chains.specs.Laws.Lists.{index-mem}
 use Rattle.chains.specs.Laws.Runs.{content-run}
-use Rattle.holding.specs.Holding.{fileBytes, FileIn}
+use Rattle.holding.specs.Holding.{fileBytes}
+use Rattle.sound.specs.Files.{IsFile}
 use Rattle.holding.specs.Laws.Clusters.{on-clusters}
 use Rattle.holding.specs.Laws.Chain.{file-holds}
 use Rattle.directory.specs.Search.{slotNamed}
 use Rattle.names.specs.declared.Spelled.{Spelled}
 use Rattle.viewing.specs.View.{viewCount, viewAt, viewPart, viewOutcome, Views, ViewNumbers}
 use Rattle.viewing.specs.Aids.View.{Sees, SeesFile}
-use Rattle.names.specs.Reading as reading
+use Rattle.names.specs.Reading.{nameGiven}
 
 pub views-only : {img s : List ℕ} {offset : ℕ} {p q : List ℕ} → Views img s offset p → Views img s offset q → p ≡ q
 views-only x y = x .is ∙ sym (y .is)
@@ -47,7 +49,7 @@ offset-inside cb offset wide = omega (arith, mod-lt offset wide)
 
 -- ---- the file in a slot of a volume that is ready
 
-module _ (img : List ℕ) (k : Kind) (v : OnVolume img k) (slot : ℕ) (i : FileIn img k slot) (a : ℕ) (ae : a ≡ slotAt k slot) (size : ℕ) (sized : size ≡ sizeOf img a) (offset : ℕ) where
+module _ (img : List ℕ) (k : Kind) (v : OnVolume img k) (slot : ℕ) (i : IsFile k img slot) (a : ℕ) (ae : a ≡ slotAt k slot) (size : ℕ) (sized : size ≡ sizeOf img a) (offset : ℕ) where
   pub see-none : size ≤ offset → SeesFile img k slot offset 0 0 0
   unfolding viewPart
   see-none h = record {
@@ -95,7 +97,7 @@ module _ (img s : List ℕ) (offset : ℕ) where
   unfolding viewOutcome
   see-not-ready r e n q = record { is = sym (ready-refused img r e n q .answer _ _ [] []); within = omega arith }
 
-  module _ (k : Kind) (v : OnVolume img k) (g : Spelled) (given : g ≡ reading.nameGiven s) where
+  module _ (k : Kind) (v : OnVolume img k) (g : Spelled) (given : g ≡ nameGiven s) where
     pub see-42 : not (g .fits) ≡ true → Sees img s offset 42 0 0
     unfolding viewOutcome decided refusal
     see-42 h = record { is = rw (known-passed img k v, sound-passed img k v, ← given, h); within = omega arith }
@@ -123,7 +125,7 @@ module _ (img s : List ℕ) (offset : ℕ) where
 
 -- ---- what it means: the part is bytes of the file
 
-pub view-content : (img : List ℕ) (k : Kind) → OnVolume img k → (slot : ℕ) → FileIn img k slot → (offset : ℕ)
+pub view-content : (img : List ℕ) (k : Kind) → OnVolume img k → (slot : ℕ) → IsFile k img slot → (offset : ℕ)
     → viewPart k img slot offset ≡ part (fileBytes k img slot) offset (viewCount (clusterBytes k) (sizeOf img (slotAt k slot)) offset)
 unfolding viewPart fileBytes
 view-content img k v slot i offset =

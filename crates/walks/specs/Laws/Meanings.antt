@@ -5,7 +5,8 @@ use mathlib.Core.Bool.{Bool, true, false}
 use mathlib.Core.List.{List}
 use mathlib.Core.Path.{_≡_, sym, _∙_}
 use Rattle.image.specs.Bytes.{Bytes}
-use Rattle.chains.specs.Values.{endb, linkb}
+use Rattle.chains.specs.Values.{linkb}
+use Rattle.chains.specs.Aids.Values.{endb}
 use Rattle.chains.specs.Laws.Tests.{true-says, false-says}
 use Rattle.chains.specs.Laws.Values.{says-end, says-link}
 use Rattle.values.specs.Values.{Values, meaningOf}

@@ -4,7 +4,8 @@ use mathlib.Core.Bool.{true, false}
 use mathlib.Core.Option.{Option, none, some}
 use mathlib.Core.List.{List, [], _∷_}
 use lib.Dec.{eqb}
-use Rattle.chains.specs.Values.{endb, linkb}
+use Rattle.chains.specs.Values.{linkb}
+use Rattle.chains.specs.Aids.Values.{endb}
 
 -- v in front of the list, if there is one
 abbrev pub onto : ℕ → Option (List ℕ) → Option (List ℕ)

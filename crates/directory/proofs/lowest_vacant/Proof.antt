@@ -5,8 +5,8 @@ use Prim.Native.Nat.{_-_, _≤_}
 use Rattle.search.specs.Search.{lowest}
 use Rattle.directory.specs.Search.{vacantSlot, lowestVacant}
 use Rattle.directory.specs.Laws.Search.{lowest-all, lowest-hit, lowest-miss, lowest-end}
-use Rattle.directory.proofs.lowest_open_slot.Statement.{statement}
-use Rattle.directory.proofs.lowest_open_slot.Tie as tie
+use Rattle.directory.proofs.lowest_vacant.Statement.{statement}
+use Rattle.directory.proofs.lowest_vacant.Tie as tie
 
 abbrev Inv-loop : tie.InvT-loop
 Inv-loop img root count slot₀ slot = (slot ≤ count) × (lowest (vacantSlot img root) slot (count - slot) ≡ lowestVacant img root count)
@@ -18,14 +18,14 @@ loop-holds : tie.Need-loop-holds Inv-loop μ-loop
 unfolding lowestVacant
 loop-holds c = search (needs, lowest-all)
 
-mul-open-at : tie.Need-mul-open-at Inv-loop μ-loop
-mul-open-at c = search needs
+mul-vacant-at : tie.Need-mul-vacant-at Inv-loop μ-loop
+mul-vacant-at c = search needs
 
-add-open-at : tie.Need-add-open-at Inv-loop μ-loop
-add-open-at c = search needs
+add-vacant-at : tie.Need-add-vacant-at Inv-loop μ-loop
+add-vacant-at c = search needs
 
-open-at-requires : tie.Need-open-at-requires Inv-loop μ-loop
-open-at-requires c κs = search needs
+vacant-at-requires : tie.Need-vacant-at-requires Inv-loop μ-loop
+vacant-at-requires c κs = search needs
 
 returns : tie.Need-returns Inv-loop μ-loop
 returns c = search lowest-hit
@@ -42,16 +42,16 @@ loop-again c = search (needs, lowest-miss)
 returns-2 : tie.Need-returns-2 Inv-loop μ-loop
 returns-2 c = search lowest-end
 
-pub lowest-open-slot-spec : {M : Type 1} → statement M
-lowest-open-slot-spec =
+pub lowest-vacant-spec : {M : Type 1} → statement M
+lowest-vacant-spec =
     tie.close
     (tie.spec
     Inv-loop
     μ-loop
     loop-holds
-    mul-open-at
-    add-open-at
-    open-at-requires
+    mul-vacant-at
+    add-vacant-at
+    vacant-at-requires
     returns
     add-slot
     loop-less

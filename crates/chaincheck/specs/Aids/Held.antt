@@ -3,14 +3,14 @@ use Prim.Native.Nat.{ℕ}
 use mathlib.Core.Bool.{Bool, cond}
 use mathlib.Core.List.{List}
 use Rattle.chains.specs.Sizes.{clustersFor}
+use Rattle.diskette.specs.Places.{slotFrom}
 use Rattle.fields.specs.Fields.{sizeOf}
 use Rattle.directory.specs.Slots.{standingOf, isPlain}
-use Rattle.diskette.specs.Places.{slotFrom}
 
 -- slot s of the directory that stands at byte root holds a plain file
 unfoldable pub plainSlot : List ℕ → ℕ → ℕ → Bool
 plainSlot l root s = isPlain (standingOf l (slotFrom root s))
 
 -- "size divided by cluster bytes, rounded up", of the file in slot s; nothing where there is none
-unfoldable pub heldBy : ℕ → List ℕ → ℕ → ℕ → ℕ
-heldBy cb l root s = cond (plainSlot l root s) (clustersFor cb (sizeOf l (slotFrom root s))) 0
+unfoldable pub heldSlot : ℕ → List ℕ → ℕ → ℕ → ℕ
+heldSlot cb l root s = cond (plainSlot l root s) (clustersFor cb (sizeOf l (slotFrom root s))) 0

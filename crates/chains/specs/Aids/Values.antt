@@ -1,0 +1,15 @@
+-- More tests of a table's values.
+use Prim.Native.Nat.{ℕ}
+use mathlib.Core.Bool.{Bool, _&&_}
+use lib.Dec.{leb}
+use Rattle.chains.specs.Values.{freeb, asideb}
+
+unfoldable pub endb : ℕ → Bool
+endb v = leb 0xff8 v && leb v 0xfff
+
+-- is cluster c free, is it set aside?
+unfoldable pub freeAt : (ℕ → ℕ) → ℕ → Bool
+freeAt f c = freeb (f c)
+
+unfoldable pub asideAt : (ℕ → ℕ) → ℕ → Bool
+asideAt f c = asideb (f c)
