@@ -23,21 +23,14 @@ sameName x y = sameFrom x y 0 11
 
 -- ---- slots
 
--- slot s is erased or never used
-abbrev pub vacantSlot : List ℕ → ℕ → ℕ → Bool
-vacantSlot l root s = isVacant (standingOf l (slotFrom root s))
-
 -- the entry at a is the plain file of that name
 abbrev pub isNamed : List ℕ → ℕ → List ℕ → Bool
 isNamed l a name = isPlain (standingOf l a) && sameName (nameOf l a) name
 
-abbrev pub namedSlot : List ℕ → ℕ → List ℕ → ℕ → Bool
-namedSlot l root name s = isNamed l (slotFrom root s) name
-
 -- the lowest erased or never-used slot
 unfoldable pub lowestVacant : List ℕ → ℕ → ℕ → Found
-lowestVacant l root count = lowest (vacantSlot l root) 0 count
+lowestVacant l root count = lowest (λ s. isVacant (standingOf l (slotFrom root s))) 0 count
 
 -- the slot of the plain file with these 11 name bytes
 unfoldable pub slotNamed : List ℕ → ℕ → ℕ → List ℕ → Found
-slotNamed l root count name = lowest (namedSlot l root name) 0 count
+slotNamed l root count name = lowest (λ s. isNamed l (slotFrom root s) name) 0 count

@@ -2,7 +2,8 @@
 ghost use mathlib.Core.Path.{_≡_};
 ghost use Prim.Native.Nat.{_+_, _≤_};
 ghost use lib.ListN.{length};
-ghost use Rattle.fields.specs.Fields.{nameOf, attrOf, timeOf, dateOf, startOf, sizeOf, withName, withFirst, withAttr, withTime, withDate, withStart, withSize, headBytes, tailBytes, withEntry};
+ghost use Rattle.fields.specs.Fields.{nameOf, attrOf, timeOf, dateOf, startOf, sizeOf, withName, withFirst, withAttr, withTime, withDate, withStart, withSize, tailBytes, withEntry};
+ghost use Rattle.fields.specs.Aids.Fields.{headBytes};
 ghost use Rattle.image.specs.Store.{stored};
 
 pub fn name_at(img: &[u8], a: usize) -> [u8; 11]

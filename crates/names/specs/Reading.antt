@@ -27,10 +27,6 @@ abbrev pub spelledIf : Bool → List ℕ → Spelled
 spelledIf true n = record { fits = true; name = n }
 spelledIf false n = record { fits = false; name = replicate 11 space }
 
--- the answer for two parts
-abbrev pub spelledAs : List ℕ → List ℕ → Spelled
-spelledAs base ext = spelledIf (fitting base ext) (eleven base ext)
-
 -- the answer for a name given by a caller
 unfoldable pub nameGiven : List ℕ → Spelled
-nameGiven s = spelledAs (beforeFirst dot s) (afterFirst dot s)
+nameGiven s = let base = beforeFirst dot s in let ext = afterFirst dot s in spelledIf (fitting base ext) (eleven base ext)

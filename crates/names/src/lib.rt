@@ -3,7 +3,8 @@ ghost use mathlib.Core.Path.{_≡_};
 ghost use lib.ListN.{length};
 ghost use Rattle.names.specs.Alphabet.{within, smallLetter, among, plain, allowed, capital};
 ghost use Rattle.names.specs.Spelling.{dot, every, Parts, eleven};
-ghost use Rattle.names.specs.Reading.{beforeFirst, fitting, spelledAs, nameGiven};
+ghost use Rattle.names.specs.Reading.{beforeFirst, fitting, nameGiven};
+ghost use Rattle.names.specs.Aids.Reading.{spelledAs};
 ghost use Rattle.names.specs.Aids.Bytes.{paddedByte, nameByte};
 
 // Whether a name fits the rules, and its eleven bytes (all spaces where it does not).

@@ -33,16 +33,10 @@ pub record NamesAt (t : List ℕ) (slot p : ℕ) : Type 0 where
   pub used : usedOf t p ≡ true
   pub names : slotOf t p ≡ slot
 
-abbrev pub namesSlot : List ℕ → ℕ → ℕ → Bool
-namesSlot t slot p = usedOf t p && eqb (slotOf t p) slot
-
 unfoldable pub isOpen : List ℕ → ℕ → Bool
-isOpen t slot = isFound (lowest (namesSlot t slot) 0 (placeCount t))
+isOpen t slot = isFound (lowest (λ p. usedOf t p && eqb (slotOf t p) slot) 0 (placeCount t))
 
 -- ---- the lowest unused place
 
-abbrev pub unusedAt : List ℕ → ℕ → Bool
-unusedAt t p = not (usedOf t p)
-
 unfoldable pub lowestUnused : List ℕ → Found
-lowestUnused t = lowest (unusedAt t) 0 (placeCount t)
+lowestUnused t = lowest (λ p. not (usedOf t p)) 0 (placeCount t)

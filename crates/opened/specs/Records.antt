@@ -41,21 +41,14 @@ writtenOf t p = not (eqb (getD t (placeAt p + 2) 0) 0)
 
 -- ---- a record stored
 
--- bytes 0-3 of a used place
-unfoldable pub markBytes : ℕ → Bool → List ℕ
-markBytes access written = bit true ∷ access ∷ bit written ∷ 0 ∷ []
-
--- bytes 4-15
-unfoldable pub numberBytes : ℕ → ℕ → List ℕ
-numberBytes slot pointer = digits slot 4 ++ (digits pointer 4 ++ replicate 4 0)
-
--- the bytes of a used place
-unfoldable pub recordBytes : ℕ → ℕ → ℕ → Bool → List ℕ
-recordBytes access slot pointer written = markBytes access written ++ numberBytes slot pointer
+-- the bytes of a record
+unfoldable pub recordBytes : Bool → ℕ → ℕ → ℕ → Bool → List ℕ
+recordBytes used access slot pointer written =
+    bit used ∷ access ∷ bit written ∷ 0 ∷ (digits slot 4 ++ (digits pointer 4 ++ replicate 4 0))
 
 -- t with place p taken: all its bytes are stored
 unfoldable pub withRecord : List ℕ → ℕ → ℕ → ℕ → ℕ → Bool → List ℕ
-withRecord t p access slot pointer written = stored t (placeAt p) (recordBytes access slot pointer written)
+withRecord t p access slot pointer written = stored t (placeAt p) (recordBytes true access slot pointer written)
 
 -- t with the pointer of place p moved to v
 unfoldable pub withPointer : List ℕ → ℕ → ℕ → List ℕ

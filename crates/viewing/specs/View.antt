@@ -10,8 +10,8 @@ use Rattle.diskette.specs.Places.{firstData, clusterBytes, slotAt}
 use Rattle.diskette.specs.declared.Kind.{Kind}
 use Rattle.fields.specs.Fields.{sizeOf}
 use Rattle.calls.specs.Outcome.{Row, Outcome, outcome, decided}
-use Rattle.holding.specs.Holding.{fileChain}
 use Rattle.calls.specs.Refusals.{theKind, notOfKind, notSound, badName, noFile, fileSlot}
+use Rattle.holding.specs.Holding.{fileChain}
 
 -- where byte offset of the file in a slot lies in the image
 abbrev pub viewAt : Kind → List ℕ → ℕ → ℕ → ℕ

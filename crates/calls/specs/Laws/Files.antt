@@ -12,12 +12,13 @@ use Rattle.search.specs.declared.Found.{Found}
 use Rattle.search.specs.declared.Found.the-variants.{At, Nothing}
 use Rattle.fields.specs.Fields.{attrOf}
 use Rattle.directory.specs.Slots.{hasBit}
-use Rattle.directory.specs.Search.{namedSlot, slotNamed}
+use Rattle.directory.specs.Search.{slotNamed}
+use Rattle.directory.specs.Aids.Search.{namedSlot}
 use Rattle.names.specs.Reading.{nameGiven}
 use Rattle.names.specs.declared.Spelled.{Spelled}
 use Rattle.opened.specs.Records.{placeCount, slotOf}
-use Rattle.opened.specs.Places.{isLive, unusedAt, lowestUnused}
-use Rattle.opened.specs.Aids.Places.{liveSlot}
+use Rattle.opened.specs.Places.{isLive, lowestUnused}
+use Rattle.opened.specs.Aids.Places.{liveSlot, unusedAt}
 use Rattle.opened.specs.Laws.Places.{live-slot-is, live-slot-none, live-is}
 use Rattle.calls.specs.Refusals.{fileFound, readOnly, notLive}
 use Rattle.calls.specs.Ready.{OnVolume}

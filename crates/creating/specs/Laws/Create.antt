@@ -11,7 +11,8 @@ use Rattle.search.specs.Laws.Meaning.{lowest-is}
 use Rattle.search.specs.declared.Found.{Found}
 use Rattle.search.specs.declared.Found.the-variants.{At, Nothing}
 use Rattle.fields.specs.Fields.{withEntry}
-use Rattle.directory.specs.Search.{vacantSlot, lowestVacant, slotNamed}
+use Rattle.directory.specs.Search.{lowestVacant, slotNamed}
+use Rattle.directory.specs.Aids.Search.{vacantSlot}
 use Rattle.names.specs.Reading.{nameGiven}
 use Rattle.names.specs.declared.Spelled.{Spelled}
 use Rattle.stamps.specs.Stamps.{packed}

@@ -12,7 +12,8 @@ use Rattle.search.specs.declared.Found.{Found}
 use Rattle.search.specs.declared.Found.the-variants.{At, Nothing}
 use Rattle.fields.specs.Fields.{nameOf}
 use Rattle.directory.specs.Slots.{PlainAt, VacantAt}
-use Rattle.directory.specs.Search.{vacantSlot, namedSlot, lowestVacant, slotNamed}
+use Rattle.directory.specs.Search.{lowestVacant, slotNamed}
+use Rattle.directory.specs.Aids.Search.{vacantSlot, namedSlot}
 use Rattle.diskette.specs.Places.{slotFrom}
 use Rattle.directory.specs.Laws.Slots.{vacant-is}
 use Rattle.directory.specs.Laws.Names.{named-is}

@@ -11,7 +11,8 @@ use Rattle.search.specs.declared.Found.{Found}
 use Rattle.search.specs.declared.Found.the-variants.{At, Nothing}
 use Rattle.fields.specs.Fields.{nameOf}
 use Rattle.directory.specs.Slots.{standingOf, isPlain}
-use Rattle.directory.specs.Search.{sameName, namedSlot, slotNamed}
+use Rattle.directory.specs.Search.{sameName, slotNamed}
+use Rattle.directory.specs.Aids.Search.{namedSlot}
 use Rattle.directory.specs.Laws.Slots.{plain-is}
 use Rattle.opened.specs.Aids.Places.{liveSlot}
 use Rattle.opened.specs.Laws.Places.{live-slot-is}

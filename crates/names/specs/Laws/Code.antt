@@ -13,7 +13,8 @@ use lib.Seq.{drop-cons, getD-set-same, getD-set-other, ext-getD, take-all, lengt
 use borrow.Author.Tests.{not-true, not-false, leb-true, eq-eqb, ne-eqb, le-leb, lt-leb, lt-ltb, le-ltb}
 use Rattle.names.specs.Alphabet.{within, largeLetter, smallLetter, digit, signs, among, plain, allowed, capital}
 use Rattle.names.specs.Spelling.{dot, space, every, Parts, eleven}
-use Rattle.names.specs.Reading.{beforeFirst, afterFirst, fitting, spelledAs, nameGiven}
+use Rattle.names.specs.Reading.{beforeFirst, afterFirst, fitting, nameGiven}
+use Rattle.names.specs.Aids.Reading.{spelledAs}
 use Rattle.names.specs.Aids.Bytes.{paddedByte, nameByte}
 use Rattle.names.specs.Laws.Tests.{and-left, fitting-parts}
 use Rattle.names.specs.Laws.Parts.{take-before, drop-after, length-eleven, eleven-at}

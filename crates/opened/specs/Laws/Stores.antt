@@ -14,14 +14,15 @@ use Rattle.image.specs.Numbers.{number, digits}
 use Rattle.image.specs.Laws.Store.{bytes-one, bytes-append, and-then, bytes-stored, stored-inside}
 use Rattle.image.specs.Laws.Numbers.{length-digits, bytes-digits, number-same, number-stored}
 use Rattle.directory.specs.Laws.Entries.{byte-back}
-use Rattle.opened.specs.Records.{placeCount, placeAt, usedOf, slotOf, accessOf, pointerOf, writtenOf, markBytes, numberBytes, recordBytes, withRecord, withPointer, withWritten, cleared}
+use Rattle.opened.specs.Records.{placeCount, placeAt, usedOf, slotOf, accessOf, pointerOf, writtenOf, recordBytes, withRecord, withPointer, withWritten, cleared}
+use Rattle.opened.specs.Aids.Records.{markBytes, numberBytes}
 use Rattle.chains.specs.Sums.{bit}
 use Rattle.opened.specs.Aids.Changes.{PlaceHolds, OnlyAt}
 use Rattle.opened.specs.Laws.Records.{untouched, only-place}
 
 -- ---- the bytes of a record
 
-pub length-record : (access slot pointer : ℕ) (written : Bool) → length (recordBytes access slot pointer written) ≡ 16
+pub length-record : (access slot pointer : ℕ) (written : Bool) → length (recordBytes true access slot pointer written) ≡ 16
 unfolding recordBytes markBytes numberBytes digits
 length-record access slot pointer written = refl
 
@@ -77,13 +78,13 @@ module _ (t : List ℕ) (p : ℕ) (k : p < placeCount t) where
     pub record-only : OnlyAt p (withRecord t p access slot pointer written) t
     unfolding withRecord
     record-only =
-        only-place t (placeAt p) 16 (recordBytes access slot pointer written) (length-record access slot pointer written) p
+        only-place t (placeAt p) 16 (recordBytes true access slot pointer written) (length-record access slot pointer written) p
         (omega arith) (omega arith) k
 
     pub record-holds : slot < 4294967296 → pointer < 4294967296 → PlaceHolds (withRecord t p access slot pointer written) p true access slot pointer written
     unfolding withRecord usedOf accessOf slotOf pointerOf writtenOf recordBytes markBytes numberBytes digits number
     record-holds h j =
-        let w = whole-place t p (recordBytes access slot pointer written) (length-record access slot pointer written) k in
+        let w = whole-place t p (recordBytes true access slot pointer written) (length-record access slot pointer written) k in
         record {
           used = w .used;
           access = w .access;
@@ -93,9 +94,9 @@ module _ (t : List ℕ) (p : ℕ) (k : p < placeCount t) where
         }
 
     pub record-bytes : Bytes t → access < 256 → Bytes (withRecord t p access slot pointer written)
-    unfolding withRecord recordBytes
+    unfolding withRecord recordBytes markBytes numberBytes
     record-bytes b h =
-        bytes-stored t (placeAt p) (recordBytes access slot pointer written) b
+        bytes-stored t (placeAt p) (recordBytes true access slot pointer written) b
         (bytes-append (markBytes access written) (numberBytes slot pointer) (bytes-marks access written h) (bytes-numbers slot pointer))
 
   module _ (v : ℕ) where
@@ -179,5 +180,5 @@ numbers-stored t t₁ t₂ t₃ p slot pointer e f g =
 pub record-stored : (t t₁ t₂ : List ℕ) (p access slot pointer : ℕ)
     → t₁ ≡ stored t (placeAt p) (markBytes access false) → t₂ ≡ stored t₁ (placeAt p + 4) (numberBytes slot pointer)
     → t₂ ≡ withRecord t p access slot pointer false
-unfolding withRecord recordBytes markBytes
+unfolding withRecord recordBytes markBytes numberBytes
 record-stored t t₁ t₂ p access slot pointer e f = and-then t t₁ t₂ (placeAt p) (placeAt p + 4) (markBytes access false) (numberBytes slot pointer) e f refl
