@@ -3,5 +3,5 @@
 pub mod Outcome
 pub mod Numbers
 pub mod Refusals
-pub mod Ready
+pub mod Aids
 pub mod Laws

@@ -13,8 +13,8 @@ use Rattle.search.specs.declared.Found.{Found}
 use Rattle.search.specs.declared.Found.the-variants.{At, Nothing}
 use Rattle.fields.specs.Fields.{attrOf}
 use Rattle.directory.specs.Slots.{hasBit}
-use Rattle.directory.specs.Search.{lowestOpenSlot, slotNamed}
-use Rattle.names.specs.Reading.{nameOf}
+use Rattle.directory.specs.Search.{lowestVacant, slotNamed}
+use Rattle.names.specs.Reading.{nameGiven}
 use Rattle.stamps.specs.Stamps.{packed}
 use Rattle.stamps.specs.declared.Stamp.{Stamp}
 use Rattle.stamps.specs.declared.Packed.{Packed}
@@ -59,7 +59,7 @@ notSound img = not (isSound img)
 
 -- 42: a name breaks the rules
 abbrev pub badName : List ℕ → Bool
-badName s = not (nameOf s .fits)
+badName s = not (nameGiven s .fits)
 
 -- a stamp's words by this paper's number: 43, or 0 where they are no refusal
 abbrev pub stampNumber : Packed → ℕ
@@ -81,7 +81,7 @@ badAttr a = not (eqb a (a % 8 + a / 32 % 2 * 32))
 
 -- the slot of the plain file that a caller's name means
 unfoldable pub fileFound : List ℕ → List ℕ → Found
-fileFound img s = slotNamed img (rootAt (theKind img)) (rootEntries (theKind img)) (nameOf s .name)
+fileFound img s = slotNamed img (rootAt (theKind img)) (rootEntries (theKind img)) (nameGiven s .name)
 
 -- 2: no such plain file
 abbrev pub noFile : List ℕ → List ℕ → Bool
@@ -111,4 +111,4 @@ freePlace t = placeFound (lowestUnused t)
 
 -- the lowest erased or never-used slot
 unfoldable pub slotForNew : List ℕ → Found
-slotForNew img = lowestOpenSlot img (rootAt (theKind img)) (rootEntries (theKind img))
+slotForNew img = lowestVacant img (rootAt (theKind img)) (rootEntries (theKind img))

@@ -5,8 +5,8 @@ ghost use Prim.Native.Nat.{_<_};
 ghost use mathlib.Core.Path.{_≡_};
 ghost use Rattle.diskette.specs.Places.{rootAt, rootEntries};
 ghost use Rattle.directory.specs.Search.{slotNamed};
-ghost use Rattle.opened.specs.Places.{liveSlot};
-ghost use Rattle.calls.specs.Ready.{OnVolume};
+ghost use Rattle.opened.specs.Aids.Places.{liveSlot};
+ghost use Rattle.calls.specs.Aids.Ready.{OnVolume};
 ghost use Rattle.calls.specs.Refusals.{readOnly};
 
 // The slot of the plain file of that name.

@@ -1,6 +1,3 @@
--- What files hold, for the counts (Held); and findings 5 to 7 as the code walks the chains: aids to the proofs of sound, which
--- has the definitions.
-pub mod Held
-pub mod Entries
-pub mod Visits
+-- Findings 5 to 7 as the code walks the chains: aids to the proofs of sound, which has the definitions.
+pub mod Aids
 pub mod Laws

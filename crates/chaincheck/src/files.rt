@@ -5,8 +5,8 @@ use walks::Length;
 ghost use Prim.Native.Nat.{_+_, _*_, _-_, _≤_, _<_};
 ghost use lib.ListN.{length};
 ghost use Rattle.table.specs.Entries.{wordAt, tableOf};
-ghost use Rattle.walks.specs.Walks.{Tails};
-ghost use Rattle.chaincheck.specs.Visits.{SlotVisited, FilesVisited};
+ghost use Rattle.walks.specs.Aids.Walks.{Tails};
+ghost use Rattle.chaincheck.specs.Aids.Visits.{SlotVisited, FilesVisited};
 
 // Visits the chain of the entry at byte a, if it is a plain file, and holds its length against the size. A cluster has cb
 // bytes.

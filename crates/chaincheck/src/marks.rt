@@ -4,8 +4,8 @@ use values::Meaning;
 ghost use mathlib.Core.Path.{_≡_};
 ghost use Prim.Native.Nat.{_+_, _-_, _≤_, _<_};
 ghost use lib.ListN.{length};
-ghost use Rattle.chains.specs.Check.{inTwo, lost};
-ghost use Rattle.chains.specs.Verdict.{first};
+ghost use Rattle.chains.specs.Aids.Check.{inTwo, lost};
+ghost use Rattle.chains.specs.Aids.Verdict.{first};
 ghost use Rattle.search.specs.Laws.Theory.{optional};
 ghost use Rattle.table.specs.Entries.{wordAt, tableOf};
 

@@ -1,27 +1,10 @@
--- Chains of clusters through a table f, without any walk.
-use Prim.Native.Nat.{ℕ, _+_, _<_}
-use mathlib.Core.Path.{_≡_}
+-- The clusters of a chain, from the front: each is named by the value before it.
+use Prim.Native.Nat.{ℕ, zero, suc}
+use mathlib.Core.Bool.{cond}
 use mathlib.Core.List.{List, [], _∷_}
-use lib.ListN.{length, getD}
-use Rattle.chains.specs.Values.{End, Link}
+use Rattle.chains.specs.Values.{linkb}
 
--- the value v leads to the clusters cs: each is named by the value before it, all are in range, and the last one's value is an end
-abbrev pub Leads : ℕ → (ℕ → ℕ) → ℕ → List ℕ → Type 0
-Leads last f v [] = End v
-Leads last f v (d ∷ ds) = (v ≡ d) × Link last d × Leads last f (f d) ds
-
--- cluster c is followed by cs
-abbrev pub After : ℕ → (ℕ → ℕ) → ℕ → List ℕ → Type 0
-After last f c cs = Leads last f (f c) cs
-
--- the clusters of whoever starts at c: none, with start 0, or those that c leads to
-abbrev pub Chain : ℕ → (ℕ → ℕ) → ℕ → List ℕ → Type 0
-Chain last f c [] = c ≡ 0
-Chain last f c (d ∷ ds) = Leads last f c (d ∷ ds)
-
--- the same by index: "the clusters from start .., each in range, each but the last naming the next, the last an end value"
-pub record Clusters (last : ℕ) (f : ℕ → ℕ) (start : ℕ) (cs : List ℕ) : Type 0 where
-  pub from-start : getD cs 0 0 ≡ start
-  pub in-range : (i : ℕ) → i < length cs → Link last (getD cs i 0)
-  pub naming : (i : ℕ) → i + 1 < length cs → f (getD cs i 0) ≡ getD cs (i + 1) 0
-  pub ending : (i : ℕ) → i + 1 ≡ length cs → End (f (getD cs i 0))
+-- at most n of them from the value v on, up to a value that is no cluster's number, as an end value is
+unfoldable pub clustersFrom : ℕ → (ℕ → ℕ) → ℕ → ℕ → List ℕ
+clustersFrom last f zero v = []
+clustersFrom last f (suc n) v = cond (linkb last v) (v ∷ clustersFrom last f n (f v)) []

@@ -7,9 +7,9 @@ pub mod TallyTurns
 pub mod Sizes
 pub mod Values
 pub mod Chain
+pub mod Met
 pub mod Walk
 pub mod Holders
-pub mod Clusters
 pub mod Counts
 pub mod Replace
 pub mod ReplaceCounts

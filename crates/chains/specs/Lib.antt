@@ -1,22 +1,13 @@
--- Chains of clusters through a table, those who hold them, and the bytes along them. In reading order.
-pub mod Tests
+-- Chains of clusters through a table, and the bytes along them. In reading order.
 pub mod Put
 pub mod Lists
 pub mod Sums
 pub mod Sizes
 pub mod Values
 pub mod Chain
-pub mod Walk
-pub mod Holders
-pub mod Replace
 pub mod Free
-pub mod Growth
-pub mod Marks
-pub mod Steps
 pub mod Content
 pub mod Write
 pub mod Verdict
-pub mod Findings
-pub mod Check
-pub mod Rows
+pub mod Aids
 pub mod Laws

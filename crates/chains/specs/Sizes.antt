@@ -1,19 +1,12 @@
--- Sizes and chains: how many clusters a size asks for, and how long its chain must be.
-use Prim.Native.Nat.{ℕ, _+_, _-_, _/_, _≤_, _<_}
-use mathlib.Core.Bool.{Bool}
-use lib.Dec.{eqb}
+-- How many clusters a size asks for.
+use Prim.Native.Nat.{ℕ, _+_, _-_, _/_}
+use mathlib.Core.List.{List}
+use lib.ListN.{length}
 
 -- "the size divided by the cluster's bytes, rounded up": cb is the bytes of a cluster, n the size
 unfoldable pub clustersFor : ℕ → ℕ → ℕ
 clustersFor cb n = (n + (cb - 1)) / cb
 
--- "exactly as many": may a file of n bytes have a chain of k clusters? Used through its laws alone, so that another rule would change only these.
-unfoldable pub fits : ℕ → ℕ → ℕ → Bool
-fits cb n k = eqb k (clustersFor cb n)
-
--- What theorems use of a volume: the last cluster's number, the bytes of a cluster, and the facts about them. Definitions take the numbers alone.
-pub record Geometry : Type 0 where
-  pub last : ℕ
-  pub cb : ℕ
-  pub small : last ≤ 4079
-  pub wide : 0 < cb
+-- how many clusters a file with the clusters cs lacks to have n bytes
+unfoldable pub lacking : ℕ → List ℕ → ℕ → ℕ
+lacking cb cs n = clustersFor cb n - length cs

@@ -44,15 +44,8 @@ asideb v = leb 0xff0 v && leb v 0xff7
 
 -- ---- "free and aside are numbers of table values"
 
--- is cluster c free, is it set aside?
-unfoldable pub freeAt : (ℕ → ℕ) → ℕ → Bool
-freeAt f c = freeb (f c)
-
-unfoldable pub asideAt : (ℕ → ℕ) → ℕ → Bool
-asideAt f c = asideb (f c)
-
 unfoldable pub freeCount : ℕ → (ℕ → ℕ) → ℕ
-freeCount last f = tally (freeAt f) (last - 1) 2
+freeCount last f = tally (λ c. freeb (f c)) (last - 1) 2
 
 unfoldable pub asideCount : ℕ → (ℕ → ℕ) → ℕ
-asideCount last f = tally (asideAt f) (last - 1) 2
+asideCount last f = tally (λ c. asideb (f c)) (last - 1) 2

@@ -1,17 +1,8 @@
 -- Bytes put into a file: what its bytes are then, and what the image is then.
-use Prim.Native.Nat.{ℕ, zero, suc, _+_, _-_, _*_, min}
+use Prim.Native.Nat.{ℕ, zero, suc, _+_, _-_}
 use mathlib.Core.List.{List, _++_}
 use lib.ListN.{length, getD, set, take, drop, replicate}
-use Rattle.chains.specs.Free.{freeClusters}
 use Rattle.chains.specs.Content.{byteAt}
-
--- "room for (own clusters + free) times cluster bytes"
-unfoldable pub roomFor : ℕ → ℕ → (ℕ → ℕ) → List ℕ → ℕ
-roomFor last cb f cs = (length cs + length (freeClusters last f)) * cb
-
--- "the smaller of the length and room less pointer; 0 when the pointer is at or past the room"
-unfoldable pub accepted : ℕ → ℕ → ℕ → ℕ
-accepted room pos n = min n (room - pos)
 
 -- bs over xs, from byte pos on
 unfoldable pub splice : List ℕ → ℕ → List ℕ → List ℕ

@@ -1,4 +1,4 @@
--- The files of a volume, and what one change of the volume does to them. Read Files; Changed and the laws are for the proofs.
+-- The files of a volume, and what one change of the volume does to them. Read Files.
 pub mod Files
-pub mod Changed
+pub mod Aids
 pub mod Laws

@@ -13,7 +13,7 @@ ghost use mathlib.Core.Bool.{cond};
 ghost use mathlib.Core.Path.{_≡_};
 ghost use lib.ListN.{length};
 ghost use Rattle.opened.specs.Records.{placeCount, writtenOf};
-ghost use Rattle.calls.specs.Ready.{OnVolume};
+ghost use Rattle.calls.specs.Aids.Ready.{OnVolume};
 ghost use Rattle.closing.specs.Close.{archived, stamped, Closes};
 
 // The attribute with bit 20 set.

@@ -1,4 +1,4 @@
 -- The bytes of a file along its chain, in an image: where they lie, what is read, what is stored. Read Contents.
 pub mod Contents
-pub mod Loops
+pub mod Aids
 pub mod Laws

@@ -5,11 +5,12 @@ ghost use mathlib.Core.Path.{_≡_};
 ghost use Prim.Native.Nat.{_+_, _*_, _/_, _%_, _≤_, _<_};
 ghost use lib.ListN.{length};
 ghost use Rattle.image.specs.Store.{stored, part};
-ghost use Rattle.chains.specs.Steps.{followed};
-ghost use Rattle.chains.specs.Content.{clusterAt};
+ghost use Rattle.chains.specs.Aids.Steps.{followed};
+ghost use Rattle.chains.specs.Content.{clusterBegin};
 ghost use Rattle.table.specs.Entries.{wordAt, tableOf};
-ghost use Rattle.contents.specs.Contents.{chainFrom, Area, placeOf, fetched, bytesPut, zerosPut};
-ghost use Rattle.contents.specs.Loops.{runOf};
+ghost use Rattle.contents.specs.Contents.{chainFrom};
+ghost use Rattle.contents.specs.Aids.Contents.{Area, fetched, bytesPut, zerosPut, placeOf};
+ghost use Rattle.contents.specs.Aids.Loops.{runOf};
 
 // The cluster that holds byte pos of the chain.
 fn cluster_holding(img: &[u8], cb: usize, last: usize, start: usize, pos: usize) -> usize
@@ -40,8 +41,8 @@ fn run_of(cb: usize, p: usize, left: usize) -> usize
 pub fn byte_in(base: usize, cb: usize, cluster: usize, p: usize) -> usize
     requires { ⌜ 0 < cb ⌝ }
     requires { ⌜ 2 ≤ cluster ⌝ }
-    requires { ⌜ clusterAt base cb cluster + cb < 18446744073709551616 ⌝ }
-    ensures { λ r. ⌜ r ≡ clusterAt base cb cluster + p % cb ⌝ }
+    requires { ⌜ clusterBegin base cb cluster + cb < 18446744073709551616 ⌝ }
+    ensures { λ r. ⌜ r ≡ clusterBegin base cb cluster + p % cb ⌝ }
 {
     base + (cluster - 2) * cb + p % cb
 }

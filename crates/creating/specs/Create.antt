@@ -8,8 +8,8 @@ use mathlib.Core.Path.{_≡_}
 use Rattle.diskette.specs.Places.{rootAt, rootEntries, slotAt}
 use Rattle.diskette.specs.declared.Kind.{Kind}
 use Rattle.fields.specs.Fields.{withEntry}
-use Rattle.directory.specs.Search.{lowestOpenSlot}
-use Rattle.names.specs.Reading.{nameOf}
+use Rattle.directory.specs.Search.{lowestVacant}
+use Rattle.names.specs.Reading.{nameGiven}
 use Rattle.stamps.specs.Stamps.{packed}
 use Rattle.stamps.specs.declared.Stamp.{Stamp}
 use Rattle.stamps.specs.declared.Packed.{Packed}
@@ -49,8 +49,8 @@ madeBy l t k slot name attr OutOfRange = made l t k slot name attr 0 0
 abbrev pub createEffect : List ℕ → List ℕ → List ℕ → ℕ → Stamp → Outcome
 createEffect img t s attr stamp =
     let k = theKind img in
-    cond (noFile img s) (madeBy img t k (placeFound (slotForNew img)) (nameOf s .name) attr (packed stamp))
-    (madeBy (chainFreed k img (fileSlot img s)) t k (fileSlot img s) (nameOf s .name) attr (packed stamp))
+    cond (noFile img s) (madeBy img t k (placeFound (slotForNew img)) (nameGiven s .name) attr (packed stamp))
+    (madeBy (chainFreed k img (fileSlot img s)) t k (fileSlot img s) (nameGiven s .name) attr (packed stamp))
 
 unfoldable pub createOutcome : List ℕ → List ℕ → List ℕ → ℕ → Stamp → Outcome
 createOutcome img t s attr stamp = decided (createRows img t s attr stamp) (createEffect img t s attr stamp) img t []
@@ -64,14 +64,5 @@ pub record Creates (img t s : List ℕ) (attr : ℕ) (stamp : Stamp) (r : Answer
 abbrev pub oldRows : List ℕ → List ℕ → ℕ → List Row
 oldRows img t slot = (isOpen t slot, accessDenied) ∷ (readOnly img slot, accessDenied) ∷ (noPlace t, tooManyOpen) ∷ []
 
-pub record Empties (img t : List ℕ) (k : Kind) (slot : ℕ) (name : List ℕ) (attr time date : ℕ) (r : Answer) (after table : List ℕ) : Type 0 where
-  pub is : outcome (r .number) (r .value) after table [] ≡ decided (oldRows img t slot) (made (chainFreed k img slot) t k slot name attr time date) img t []
-
-abbrev pub newSlot : Kind → List ℕ → ℕ
-newSlot k img = placeFound (lowestOpenSlot img (rootAt k) (rootEntries k))
-
 abbrev pub newRows : List ℕ → List ℕ → Kind → List Row
-newRows img t k = (isNothing (lowestOpenSlot img (rootAt k) (rootEntries k)), accessDenied) ∷ (noPlace t, tooManyOpen) ∷ []
-
-pub record MakesNew (img t : List ℕ) (k : Kind) (name : List ℕ) (attr time date : ℕ) (r : Answer) (after table : List ℕ) : Type 0 where
-  pub is : outcome (r .number) (r .value) after table [] ≡ decided (newRows img t k) (made img t k (newSlot k img) name attr time date) img t []
+newRows img t k = (isNothing (lowestVacant img (rootAt k) (rootEntries k)), accessDenied) ∷ (noPlace t, tooManyOpen) ∷ []

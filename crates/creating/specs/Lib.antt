@@ -1,3 +1,4 @@
 -- Files made: create.
 pub mod Create
+pub mod Aids
 pub mod Laws

@@ -12,17 +12,18 @@ use stamps::Packed;
 use stamps::Stamp;
 ghost use mathlib.Core.Path.{_≡_};
 ghost use Rattle.diskette.specs.Places.{rootAt, rootEntries};
-ghost use Rattle.directory.specs.Search.{lowestOpenSlot};
-ghost use Rattle.calls.specs.Ready.{OnVolume};
-ghost use Rattle.holding.specs.Holding.{FileIn};
-ghost use Rattle.creating.specs.Create.{Creates, Empties, MakesNew};
+ghost use Rattle.directory.specs.Search.{lowestVacant};
+ghost use Rattle.calls.specs.Aids.Ready.{OnVolume};
+ghost use Rattle.sound.specs.Files.{IsFile};
+ghost use Rattle.creating.specs.Create.{Creates};
+ghost use Rattle.creating.specs.Aids.Create.{Empties, MakesNew};
 
 // The lowest slot that a new file may take.
 fn slot_for_new(img: &[u8], k: Kind) -> Found
     requires { ⌜ OnVolume (now img) k ⌝ }
-    ensures { λ r. ⌜ r ≡ lowestOpenSlot (now (img .entry)) (rootAt k) (rootEntries k) ⌝ }
+    ensures { λ r. ⌜ r ≡ lowestVacant (now (img .entry)) (rootAt k) (rootEntries k) ⌝ }
 {
-    directory::lowest_open_slot(img, k.root_at(), k.root_entries())
+    directory::lowest_vacant(img, k.root_at(), k.root_entries())
 }
 
 // Empties the file in the slot, where it is not open nor read-only and a place is unused.
@@ -37,7 +38,7 @@ fn empty_old(
     date: u16,
 ) -> Answer
     requires { ⌜ OnVolume (now img) k ⌝ }
-    requires { ⌜ FileIn (now img) k slot ⌝ }
+    requires { ⌜ IsFile k (now img) slot ⌝ }
     ensures { λ r. ⌜ Empties (now (img .entry)) (now (t .entry)) k slot name attr time date r (now (img .exit)) (now (t .exit)) ⌝ }
 {
     if opened::is_open(t, slot) {

@@ -41,6 +41,3 @@ pub record Deletes (img t s : List ℕ) (r : Answer) (after : List ℕ) : Type 0
 
 abbrev pub lastRows : List ℕ → List ℕ → ℕ → List Row
 lastRows img t slot = (isOpen t slot, accessDenied) ∷ (readOnly img slot, accessDenied) ∷ []
-
-pub record DeletesSlot (img t : List ℕ) (k : Kind) (slot : ℕ) (r : Answer) (after : List ℕ) : Type 0 where
-  pub is : outcome (r .number) (r .value) after t [] ≡ decided (lastRows img t slot) (outcome 0 0 (erasedIn k img slot) t []) img t []

@@ -1,3 +1,4 @@
 -- Files ended: delete.
 pub mod Delete
+pub mod Aids
 pub mod Laws

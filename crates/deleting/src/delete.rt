@@ -8,14 +8,15 @@ use diskette::Kind;
 use freeing::freed;
 use search::Found;
 ghost use mathlib.Core.Path.{_≡_};
-ghost use Rattle.calls.specs.Ready.{OnVolume};
-ghost use Rattle.holding.specs.Holding.{FileIn};
-ghost use Rattle.deleting.specs.Delete.{erasedIn, Deletes, DeletesSlot};
+ghost use Rattle.calls.specs.Aids.Ready.{OnVolume};
+ghost use Rattle.sound.specs.Files.{IsFile};
+ghost use Rattle.deleting.specs.Delete.{erasedIn, Deletes};
+ghost use Rattle.deleting.specs.Aids.Delete.{DeletesSlot};
 
 // Frees the chain of the file in the slot and erases its entry.
 fn erase_in(img: &mut [u8], k: Kind, slot: usize)
     requires { ⌜ OnVolume (now img) k ⌝ }
-    requires { ⌜ FileIn (now img) k slot ⌝ }
+    requires { ⌜ IsFile k (now img) slot ⌝ }
     ensures { λ _. ⌜ now (img .exit) ≡ erasedIn k (now (img .entry)) slot ⌝ }
 {
     let a = k.slot_at(slot);
@@ -26,7 +27,7 @@ fn erase_in(img: &mut [u8], k: Kind, slot: usize)
 // Deletes the file in the slot, where it is not open nor read-only.
 fn delete_in(img: &mut [u8], k: Kind, t: &[u8], slot: usize) -> Answer
     requires { ⌜ OnVolume (now img) k ⌝ }
-    requires { ⌜ FileIn (now img) k slot ⌝ }
+    requires { ⌜ IsFile k (now img) slot ⌝ }
     ensures { λ r. ⌜ DeletesSlot (now (img .entry)) (now (t .entry)) k slot r (now (img .exit)) ⌝ }
 {
     if opened::is_open(t, slot) {

@@ -2,4 +2,5 @@
 pub mod Slots
 pub mod Entries
 pub mod Search
+pub mod Aids
 pub mod Laws

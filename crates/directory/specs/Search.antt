@@ -1,13 +1,14 @@
 -- A slot found in a directory of count slots, the first of which stands at byte root.
-use Prim.Native.Nat.{ℕ, zero, suc, _+_, _*_}
+use Prim.Native.Nat.{ℕ, zero, suc, _+_}
 use mathlib.Core.Bool.{Bool, true, _&&_}
 use mathlib.Core.List.{List}
 use lib.Dec.{eqb}
 use lib.ListN.{getD}
 use Rattle.search.specs.Search.{lowest}
 use Rattle.search.specs.declared.Found.{Found}
+use Rattle.diskette.specs.Places.{slotFrom}
 use Rattle.fields.specs.Fields.{nameOf}
-use Rattle.directory.specs.Slots.{standingOf, isOpen, isPlain}
+use Rattle.directory.specs.Slots.{standingOf, isVacant, isPlain}
 
 -- ---- names
 
@@ -22,25 +23,14 @@ sameName x y = sameFrom x y 0 11
 
 -- ---- slots
 
--- the address of a slot
-abbrev pub slotFrom : ℕ → ℕ → ℕ
-slotFrom root s = root + 32 * s
-
--- slot s is erased or never used
-abbrev pub openSlot : List ℕ → ℕ → ℕ → Bool
-openSlot l root s = isOpen (standingOf l (slotFrom root s))
-
 -- the entry at a is the plain file of that name
 abbrev pub isNamed : List ℕ → ℕ → List ℕ → Bool
 isNamed l a name = isPlain (standingOf l a) && sameName (nameOf l a) name
 
-abbrev pub namedSlot : List ℕ → ℕ → List ℕ → ℕ → Bool
-namedSlot l root name s = isNamed l (slotFrom root s) name
-
 -- the lowest erased or never-used slot
-unfoldable pub lowestOpenSlot : List ℕ → ℕ → ℕ → Found
-lowestOpenSlot l root count = lowest (openSlot l root) 0 count
+unfoldable pub lowestVacant : List ℕ → ℕ → ℕ → Found
+lowestVacant l root count = lowest (λ s. isVacant (standingOf l (slotFrom root s))) 0 count
 
 -- the slot of the plain file with these 11 name bytes
 unfoldable pub slotNamed : List ℕ → ℕ → ℕ → List ℕ → Found
-slotNamed l root count name = lowest (namedSlot l root name) 0 count
+slotNamed l root count name = lowest (λ s. isNamed l (slotFrom root s) name) 0 count

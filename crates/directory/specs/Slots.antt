@@ -35,8 +35,8 @@ abbrev pub PlainAt : List ℕ → ℕ → Type 0
 PlainAt l a = LiveAt l a × (hasBit (attrOf l a) 0x08 ≡ false)
 
 -- erased or never used: a slot that a new file may take
-abbrev pub OpenAt : List ℕ → ℕ → Type 0
-OpenAt l a = ErasedAt l a ⊎ NeverUsedAt l a
+abbrev pub VacantAt : List ℕ → ℕ → Type 0
+VacantAt l a = ErasedAt l a ⊎ NeverUsedAt l a
 
 -- ---- the same as a function of the first byte and the attribute
 
@@ -50,11 +50,11 @@ standingBy first attr =
 abbrev pub standingOf : List ℕ → ℕ → Standing
 standingOf l a = standingBy (getD l a 0) (attrOf l a)
 
-abbrev pub isOpen : Standing → Bool
-isOpen NeverUsed = true
-isOpen Erased = true
-isOpen Label = false
-isOpen Plain = false
+abbrev pub isVacant : Standing → Bool
+isVacant NeverUsed = true
+isVacant Erased = true
+isVacant Label = false
+isVacant Plain = false
 
 abbrev pub isPlain : Standing → Bool
 isPlain NeverUsed = false

@@ -1,8 +1,7 @@
--- The four kinds: document 01's table, and what every rule may rest on.
-use Prim.Native.Nat.{ℕ, _+_, _*_, _/_, _≤_, _<_}
+-- The four kinds: document 01's table.
+use Prim.Native.Nat.{ℕ}
 use mathlib.Core.Bool.{cond}
 use lib.Dec.{eqb}
-use Rattle.diskette.specs.Places.{firstData, clusters, lastCluster}
 use Rattle.diskette.specs.declared.Kind.{Kind}
 use Rattle.diskette.specs.declared.WhichKind.{WhichKind}
 use Rattle.diskette.specs.declared.WhichKind.the-variants.{Known, Unknown}
@@ -31,15 +30,3 @@ named b =
     (cond (eqb b 0xFC) (Known kindFC)
     (cond (eqb b 0xFD) (Known kindFD)
     Unknown)))
-
--- What is used of a kind. The four meet it, and so does any FAT12 disk of 1 to 8 sectors a cluster whose last cluster is
--- below the set-aside values.
-pub record Usable (k : Kind) : Type 0 where
-  pub per-low : 1 ≤ k .per
-  pub per-high : k .per ≤ 8
-  pub some : 1 ≤ clusters k
-  pub below-aside : lastCluster k ≤ 4079
-  pub reaches : lastCluster k * 3 / 2 + 2 ≤ 512 * k .fat
-  pub whole : firstData k + clusters k * k .per ≤ k .sectors
-  pub few-slots : k .root ≤ 4096
-  pub small : k .sectors < 4294967296

@@ -2,4 +2,5 @@
 pub mod Kinds
 pub mod Places
 pub mod Images
+pub mod Aids
 pub mod Laws

@@ -29,12 +29,16 @@ copyOne = 512
 abbrev pub copyTwo : Kind → ℕ
 copyTwo k = 512 * (1 + k .fat)
 
--- the byte at which the root starts, and at which the 32 bytes of its slot s do
+-- the byte at which the root starts
 abbrev pub rootAt : Kind → ℕ
 rootAt k = 512 * (1 + 2 * k .fat)
 
+-- the byte at which the 32 bytes of slot s start, in a directory that stands at byte root, and in the root
+abbrev pub slotFrom : ℕ → ℕ → ℕ
+slotFrom root s = root + 32 * s
+
 abbrev pub slotAt : Kind → ℕ → ℕ
-slotAt k s = rootAt k + 32 * s
+slotAt k s = slotFrom (rootAt k) s
 
 -- Cluster n starts at sector (n - 2) times sectors per cluster plus first data sector.
 abbrev pub sectorOf : Kind → ℕ → ℕ

@@ -2,7 +2,8 @@
 ghost use mathlib.Core.Path.{_≡_};
 ghost use Prim.Native.Nat.{ℕ, _≤_, _<_};
 ghost use lib.ListN.{length};
-ghost use Rattle.diskette.specs.Kinds.{named, Usable};
+ghost use Rattle.diskette.specs.Kinds.{named};
+ghost use Rattle.diskette.specs.Aids.Usable.{Usable};
 ghost use Rattle.diskette.specs.Places.{firstData, clusterBytes, clusters, lastCluster, rootEntries, copyTwo, rootAt, slotAt};
 ghost use Rattle.chains.specs.Sizes.{clustersFor};
 ghost use Rattle.diskette.specs.Images.{kindOfImage, kindOfArea};

@@ -1,7 +1,7 @@
 -- "entry answers 'none' for a slot that is out of range, erased or never used, else, for the label too, the name bytes,
 -- attribute, time and date words, start and size as stored." It refuses only by 40.
 use Prim.Native.Nat.{ℕ}
-use mathlib.Core.Bool.{Bool, true, false, cond}
+use mathlib.Core.Bool.{Bool, true, false, cond, not}
 use mathlib.Core.List.{List}
 use mathlib.Core.Path.{_≡_}
 use lib.Dec.{leb}
@@ -11,9 +11,8 @@ use Rattle.diskette.specs.Places.{rootEntries, slotAt}
 use Rattle.diskette.specs.declared.WhichKind.{WhichKind}
 use Rattle.diskette.specs.declared.WhichKind.the-variants.{Known, Unknown}
 use Rattle.fields.specs.Fields.{nameOf, attrOf, timeOf, dateOf, startOf, sizeOf}
-use Rattle.directory.specs.Slots.{standingOf}
+use Rattle.directory.specs.Slots.{standingOf, isVacant}
 use Rattle.directory.specs.declared.Standing.{Standing}
-use Rattle.directory.specs.declared.Standing.the-variants.{NeverUsed, Erased, Label, Plain}
 use Rattle.calls.specs.Numbers.{ofNoKind}
 use Rattle.entries.specs.declared.EntryAnswer.{EntryAnswer}
 
@@ -36,10 +35,7 @@ asStored l a = record {
 
 -- not where the slot is "erased or never used"; "for the label too"
 abbrev pub isTold : Standing → Bool
-isTold NeverUsed = false
-isTold Erased = false
-isTold Label = true
-isTold Plain = true
+isTold s = not (isVacant s)
 
 unfoldable pub toldAt : List ℕ → ℕ → EntryAnswer
 toldAt l a = cond (isTold (standingOf l a)) (asStored l a) (nothing 0)

@@ -46,9 +46,6 @@ withFirst l a v = stored l a (v ∷ [])
 abbrev pub withAttr : List ℕ → ℕ → ℕ → List ℕ
 withAttr l a v = stored l (a + 11) (v ∷ [])
 
-abbrev pub withReserved : List ℕ → ℕ → List ℕ → List ℕ
-withReserved l a s = stored l (a + 12) s
-
 abbrev pub withTime : List ℕ → ℕ → ℕ → List ℕ
 withTime l a v = stored l (a + 22) (digits v 2)
 
@@ -63,16 +60,12 @@ withSize l a v = stored l (a + 28) (digits v 4)
 
 -- ---- a fresh entry: name, attribute, zero reserved bytes, stamp, start, size
 
--- bytes 0-21
-unfoldable pub headBytes : List ℕ → ℕ → List ℕ
-headBytes name attr = name ++ (attr ∷ replicate 10 0)
-
 -- bytes 22-31
 unfoldable pub tailBytes : ℕ → ℕ → ℕ → ℕ → List ℕ
 tailBytes time date start size = digits time 2 ++ (digits date 2 ++ (digits start 2 ++ digits size 4))
 
 unfoldable pub entryBytes : List ℕ → ℕ → ℕ → ℕ → ℕ → ℕ → List ℕ
-entryBytes name attr time date start size = headBytes name attr ++ tailBytes time date start size
+entryBytes name attr time date start size = (name ++ (attr ∷ replicate 10 0)) ++ tailBytes time date start size
 
 abbrev pub withEntry : List ℕ → ℕ → List ℕ → ℕ → ℕ → ℕ → ℕ → ℕ → List ℕ
 withEntry l a name attr time date start size = stored l a (entryBytes name attr time date start size)

@@ -2,7 +2,8 @@
 ghost use mathlib.Core.Path.{_≡_};
 ghost use Prim.Native.Nat.{_+_, _≤_};
 ghost use lib.ListN.{length};
-ghost use Rattle.fields.specs.Fields.{nameOf, attrOf, reservedOf, timeOf, dateOf, startOf, sizeOf, withName, withFirst, withAttr, withReserved, withTime, withDate, withStart, withSize, headBytes, tailBytes, withEntry};
+ghost use Rattle.fields.specs.Fields.{nameOf, attrOf, timeOf, dateOf, startOf, sizeOf, withName, withFirst, withAttr, withTime, withDate, withStart, withSize, tailBytes, withEntry};
+ghost use Rattle.fields.specs.Aids.Fields.{headBytes};
 ghost use Rattle.image.specs.Store.{stored};
 
 pub fn name_at(img: &[u8], a: usize) -> [u8; 11]
@@ -19,16 +20,6 @@ pub fn attr_at(img: &[u8], a: usize) -> u8
     ensures { λ r. ⌜ r ≡ attrOf (now (img .entry)) a ⌝ }
 {
     img[a + 11]
-}
-
-pub fn reserved_at(img: &[u8], a: usize) -> [u8; 10]
-    requires { ⌜ a + 32 ≤ length (now img) ⌝ }
-    ensures { λ r. ⌜ r ≡ reservedOf (now (img .entry)) a ⌝ }
-{
-    let from = a + 12;
-    let mut reserved: [u8; 10] = [0; 10];
-    image::copy_in(&mut reserved, 0, &img[from..from + 10]);
-    reserved
 }
 
 pub fn time_at(img: &[u8], a: usize) -> u16
@@ -83,7 +74,7 @@ pub fn put_attr(img: &mut [u8], a: usize, attr: u8)
 
 pub fn put_reserved(img: &mut [u8], a: usize, reserved: [u8; 10])
     requires { ⌜ a + 32 ≤ length (now img) ⌝ }
-    ensures { λ _. ⌜ now (img .exit) ≡ withReserved (now (img .entry)) a reserved ⌝ }
+    ensures { λ _. ⌜ now (img .exit) ≡ stored (now (img .entry)) (a + 12) reserved ⌝ }
 {
     image::copy_in(img, a + 12, &reserved);
 }

@@ -6,7 +6,8 @@ ghost use mathlib.Core.Path.{_≡_};
 ghost use Prim.Native.Nat.{_+_, _*_, _≤_};
 ghost use lib.ListN.{length};
 ghost use Rattle.image.specs.Store.{stored};
-ghost use Rattle.diskette.specs.Kinds.{named, Usable};
+ghost use Rattle.diskette.specs.Kinds.{named};
+ghost use Rattle.diskette.specs.Aids.Usable.{Usable};
 ghost use Rattle.formatting.specs.Format.{tableHead, blank, Formatted};
 
 // The kind that a number names. No number above 255 names one.

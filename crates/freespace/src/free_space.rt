@@ -5,7 +5,7 @@ use diskette::Kind;
 use diskette::WhichKind;
 use sound::Verdict;
 ghost use mathlib.Core.Path.{_≡_};
-ghost use Rattle.diskette.specs.Kinds.{Usable};
+ghost use Rattle.diskette.specs.Aids.Usable.{Usable};
 ghost use Rattle.freespace.specs.FreeSpace.{noSpace, spaceWith, Spaced};
 
 // The answer of a refusal.

@@ -9,7 +9,7 @@ use Rattle.image.specs.Bytes.{Bytes}
 use Rattle.diskette.specs.declared.Kind.{Kind}
 use Rattle.search.specs.Search.{LowestBelow}
 use Rattle.stamps.specs.declared.Stamp.{Stamp}
-use Rattle.opened.specs.Changes.{Holds, OnlyAt}
+use Rattle.opened.specs.Changes.{PlaceHolds, OnlyAt}
 use Rattle.opened.specs.Records.{placeCount, usedOf, slotOf, accessOf, pointerOf, writtenOf}
 use Rattle.history.specs.Meant.{Reaches, Names}
 use Rattle.history.specs.Promises.{Given, AfterAnyRun}
@@ -18,7 +18,7 @@ use Rattle.history.specs.World.{World, Call, Library, stepBy, look, open
 -- handle h, handed out between the worlds w and u: "the lowest unused place, pointer 0", and it reaches slot s
 pub record HandedOut (k : Kind) (w u : World) (h access s : ℕ) : Type 0 where
   pub lowest : LowestBelow (λ p. usedOf (w .table) p ≡ false) (placeCount (w .table)) h
-  pub holds : Holds (u .table) h true access s 0 false
+  pub holds : PlaceHolds (u .table) h true access s 0 false
   pub reaches : Reaches k u h s
 
 -- a call that ends well answers a handle of the file that it names
@@ -37,7 +37,7 @@ HandlesKeepTheirFiles lib = AfterAnyRun lib (λ k w. (c : Call) → Given c → 
 
 -- m is t but for the pointer and the written mark of place h
 abbrev pub Moved : List ℕ → List ℕ → ℕ → ℕ → Bool → Type 0
-Moved t m h pointer written = OnlyAt h m t × Holds m h (usedOf t h) (accessOf t h) (slotOf t h) pointer written
+Moved t m h pointer written = OnlyAt h m t × PlaceHolds m h (usedOf t h) (accessOf t h) (slotOf t h) pointer written
 
 -- what a call that ends well and answers v makes of the open table t
 abbrev pub TableBecomes : Call → ℕ → List ℕ → List ℕ → Type 0
@@ -46,7 +46,7 @@ TableBecomes (create name attr stamp) v t m = OnlyAt v m t
 TableBecomes (read h buffer) v t m = Moved t m h (pointerOf t h + v) (writtenOf t h)
 TableBecomes (write h bs) v t m = Moved t m h (pointerOf t h + v) (ltb 0 v || writtenOf t h)
 TableBecomes (seek h method offset) v t m = Moved t m h v (writtenOf t h)
-TableBecomes (close h stamp) v t m = OnlyAt h m t × Holds m h false 0 0 0 false
+TableBecomes (close h stamp) v t m = OnlyAt h m t × PlaceHolds m h false 0 0 0 false
 TableBecomes (delete name) v t m = m ≡ t
 TableBecomes (rename name new) v t m = m ≡ t
 TableBecomes (mode name function attr) v t m = m ≡ t

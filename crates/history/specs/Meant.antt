@@ -7,9 +7,9 @@ use Rattle.diskette.specs.Places.{rootAt, rootEntries, slotAt}
 use Rattle.diskette.specs.declared.Kind.{Kind}
 use Rattle.search.specs.Search.{LowestBelow}
 use Rattle.fields.specs.Fields.{nameOf}
-use Rattle.directory.specs.Slots.{OpenAt}
+use Rattle.directory.specs.Slots.{VacantAt}
 use Rattle.names.specs.Spelling.{Means}
-use Rattle.opened.specs.Places.{LiveAt}
+use Rattle.opened.specs.Places.{LivePlace}
 use Rattle.opened.specs.Records.{slotOf}
 use Rattle.sound.specs.Files.{IsFile}
 use Rattle.history.specs.World.{World, Call, look, openFile, create, read, write, seek, close, delete, rename, mode}
@@ -21,14 +21,14 @@ pub record HasName (k : Kind) (l name : List ℕ) (s : ℕ) : Type 0 where
 
 -- place h is live, and its slot is s
 pub record Reaches (k : Kind) (w : World) (h s : ℕ) : Type 0 where
-  pub live : LiveAt (w .table) h (w .image) (rootAt k) (rootEntries k)
+  pub live : LivePlace (w .table) h (w .image) (rootAt k) (rootEntries k)
   pub slot : slotOf (w .table) h ≡ s
 
 -- the name may be a file's, and no file has it: "else the lowest erased or never-used slot is taken"
 pub record IsForNew (k : Kind) (l name : List ℕ) (s : ℕ) : Type 0 where
   pub good : (n : List ℕ) × Means name n
   pub new : (t : ℕ) → ¬ HasName k l name t
-  pub lowest : LowestBelow (λ i. OpenAt l (slotAt k i)) (rootEntries k) s
+  pub lowest : LowestBelow (λ i. VacantAt l (slotAt k i)) (rootEntries k) s
 
 -- what a call is about: nothing, the file of a name, the file of a handle, or a file that is to be made
 pub data Target : Type 0 where

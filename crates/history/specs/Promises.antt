@@ -15,7 +15,7 @@ use Rattle.opened.specs.Records.{pointerOf}
 use Rattle.sound.specs.Counts.{freeOf, heldOf, asideOf}
 use Rattle.sound.specs.Sound.{Sound}
 use Rattle.reading.specs.Read.{readCount}
-use Rattle.putting.specs.Longer.{roomOf}
+use Rattle.writing.specs.Write.{roomOf}
 use Rattle.changes.specs.Files.{File, Files, Holds, Shows, ShowsAt}
 use Rattle.history.specs.History.{History}
 use Rattle.history.specs.Meant.{Names, target, nothing}

@@ -1,9 +1,9 @@
 -- A world is an image and an open table. A call is its name with what the caller gives; a run is a list of calls; a library is
 -- what answers calls. Format stands apart: it makes a new volume. Check on a system area alone reads other bytes than the world's.
 use Prim.Native.Nat.{ℕ}
-use mathlib.Core.Bool.{Bool, true, false}
 use mathlib.Core.List.{List, [], _∷_}
 use lib.IntN.{ℤ}
+use Rattle.chains.specs.Sums.{bit}
 use Rattle.stamps.specs.declared.Stamp.{Stamp}
 use Rattle.sound.specs.Judged.{checkOf}
 use Rattle.sound.specs.declared.Verdict.{Verdict}
@@ -76,10 +76,6 @@ looked number value w = outcome number value (w .image) (w .table) []
 abbrev pub verdictIn : Verdict → World → Outcome
 verdictIn (Sound files free held aside) w = looked 0 0 w
 verdictIn (Finding number place) w = looked number place w
-
-abbrev pub bit : Bool → ℕ
-bit true = 1
-bit false = 0
 
 -- view and rescue take no table: it stays
 abbrev pub viewedIn : Outcome → World → Outcome

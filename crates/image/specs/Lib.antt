@@ -2,4 +2,5 @@
 pub mod Bytes
 pub mod Store
 pub mod Numbers
+pub mod Aids
 pub mod Laws

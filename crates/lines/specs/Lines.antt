@@ -10,10 +10,7 @@ use Rattle.text.specs.Stamps.{dateText, timeText}
 unfoldable pub line : List ℕ → List ℕ → List ℕ
 line key value = key ++ (value ++ ascii "\n")
 
--- ---- a file. Its lines have at most so many bytes. (A number is taken as one of 20 digits.)
-
-abbrev pub fileRoom : ℕ
-fileRoom = 109
+-- ---- a file
 
 unfoldable pub stampText : ℕ → ℕ → List ℕ
 stampText date time = line (ascii "date=") (dateText date) ++ line (ascii "time=") (timeText time)
@@ -27,9 +24,6 @@ fileText name attr size start date time =
     ++ stampText date time)))
 
 -- ---- a sound volume, before its files
-
-abbrev pub soundRoom : ℕ
-soundRoom = 154
 
 unfoldable pub countsText : ℕ → ℕ → ℕ → ℕ → List ℕ
 countsText free held aside files =
@@ -46,9 +40,6 @@ soundText kind clusters free held aside files =
     ++ countsText free held aside files))
 
 -- ---- If not sound: `sound=no`, `finding=`, `place=` only.
-
-abbrev pub unsoundRoom : ℕ
-unsoundRoom = 65
 
 unfoldable pub unsoundText : ℕ → ℕ → List ℕ
 unsoundText finding place =

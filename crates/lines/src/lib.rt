@@ -6,7 +6,8 @@ ghost use Rattle.text.specs.Digits.{decimal, hex};
 ghost use Rattle.text.specs.Names.{nameText};
 ghost use Rattle.text.specs.Puts.{PutsIn};
 ghost use Rattle.text.specs.Stamps.{dateText, timeText};
-ghost use Rattle.lines.specs.Lines.{line, stampText, fileText, fileRoom, countsText, soundText, soundRoom, unsoundText, unsoundRoom};
+ghost use Rattle.lines.specs.Lines.{line, stampText, fileText, countsText, soundText, unsoundText};
+ghost use Rattle.lines.specs.Aids.Rooms.{fileRoom, soundRoom, unsoundRoom};
 
 // A line with a decimal number.
 fn put_decimal_line(out: &mut [u8], at: usize, key: &[u8], n: usize) -> usize

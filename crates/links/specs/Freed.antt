@@ -1,17 +1,9 @@
 -- A chain given back: "its clusters freed" (create), "frees the chain" (delete).
-use Prim.Native.Nat.{ℕ, zero, suc}
-use mathlib.Core.Bool.{cond}
+use Prim.Native.Nat.{ℕ}
 use mathlib.Core.List.{List, [], _∷_}
-use Rattle.chains.specs.Values.{linkb}
-use Rattle.table.specs.Entries.{entryOf, setBoth}
+use Rattle.table.specs.Entries.{setBoth}
 
 -- l with each cluster of a list free in both copies, from the front
 unfoldable pub freed : ℕ → List ℕ → List ℕ → List ℕ
 freed second l [] = l
 freed second l (c ∷ cs) = freed second (setBoth second l c 0) cs
-
--- the same as code does it along a chain: up to n clusters from c on, the next one read before the entry is cleared; a
--- number that is no cluster ends it
-unfoldable pub freedFrom : ℕ → ℕ → List ℕ → ℕ → ℕ → List ℕ
-freedFrom second last l zero c = l
-freedFrom second last l (suc n) c = cond (linkb last c) (freedFrom second last (setBoth second l c 0) n (entryOf l c)) l

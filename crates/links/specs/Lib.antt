@@ -1,5 +1,5 @@
--- What the calls do to the table along a chain: a chain is freed, a chain gets new clusters. Read Freed, Linked and Leaves.
+-- What the calls do to the table along a chain: a chain is freed, a chain gets new clusters. Read Freed and Linked.
 pub mod Freed
 pub mod Linked
-pub mod Leaves
+pub mod Aids
 pub mod Laws

@@ -5,10 +5,12 @@ use table::set_entry;
 ghost use mathlib.Core.Path.{_≡_};
 ghost use Prim.Native.Nat.{_+_, _-_, _≤_, _<_};
 ghost use lib.ListN.{length};
-ghost use Rattle.chains.specs.Steps.{followed};
-ghost use Rattle.table.specs.Entries.{wordAt, Reaches, tableOf};
-ghost use Rattle.links.specs.Freed.{freedFrom};
-ghost use Rattle.links.specs.Linked.{nextFree, linkedTo, Added};
+ghost use Rattle.chains.specs.Aids.Steps.{followed};
+ghost use Rattle.table.specs.Entries.{wordAt, tableOf};
+ghost use Rattle.table.specs.Aids.Copies.{Reaches};
+ghost use Rattle.links.specs.Aids.Freed.{freedFrom};
+ghost use Rattle.links.specs.Linked.{linkedTo};
+ghost use Rattle.links.specs.Aids.Linked.{nextFree, Added};
 
 // Frees up to n clusters of the chain that starts at start.
 pub fn free_chain(img: &mut [u8], second: usize, last: usize, start: usize, n: usize)

@@ -7,13 +7,12 @@ use lib.Dec.{leb}
 use lib.ListN.{length}
 use Rattle.image.specs.Store.{stored}
 use Rattle.diskette.specs.Images.{kindOfArea}
-use Rattle.diskette.specs.Places.{clusters, rootEntries, rootAt}
+use Rattle.diskette.specs.Places.{clusters, rootEntries, rootAt, slotFrom}
 use Rattle.diskette.specs.declared.Kind.{Kind}
 use Rattle.diskette.specs.declared.WhichKind.{WhichKind}
 use Rattle.diskette.specs.declared.WhichKind.the-variants.{Known, Unknown}
 use Rattle.fields.specs.Fields.{nameOf, attrOf, timeOf, dateOf, startOf, sizeOf}
 use Rattle.directory.specs.Slots.{standingOf, isPlain}
-use Rattle.directory.specs.Search.{slotFrom}
 use Rattle.sound.specs.Judged.{checkOfArea}
 use Rattle.sound.specs.declared.Verdict.{Verdict}
 use Rattle.sound.specs.declared.Verdict.the-variants.{Sound, Finding}

@@ -7,7 +7,7 @@ ghost use lib.ListN.{length};
 ghost use Rattle.diskette.specs.Images.{AreaOf};
 ghost use Rattle.sound.specs.declared.Verdict.the-variants.{Sound};
 ghost use Rattle.text.specs.Puts.{PutsIn};
-ghost use Rattle.lines.specs.Lines.{fileRoom};
+ghost use Rattle.lines.specs.Aids.Rooms.{fileRoom};
 ghost use Rattle.listing.specs.Listing.{entryText, slotText, filesText, volumeText, listingOf, listingRoom, Lists};
 
 // The lines of the plain file whose entry stands at byte a.

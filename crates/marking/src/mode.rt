@@ -9,7 +9,7 @@ use diskette::Kind;
 use search::Found;
 ghost use mathlib.Core.Path.{_≡_};
 ghost use Rattle.marking.specs.Mode.{Modes};
-ghost use Rattle.calls.specs.Ready.{OnVolume};
+ghost use Rattle.calls.specs.Aids.Ready.{OnVolume};
 
 // File mode on a volume that is ready.
 fn mode_on(img: &mut [u8], k: Kind, t: &[u8], s: &[u8], function: u32, attr: u32) -> Answer

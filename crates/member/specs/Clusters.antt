@@ -8,7 +8,7 @@ use Rattle.chains.specs.Values.{linkb}
 use Rattle.search.specs.Search.{lowest}
 use Rattle.search.specs.declared.Found.{Found}
 use Rattle.search.specs.declared.Found.the-variants.{At, Nothing}
-use Rattle.diskette.specs.Places.{clusters, lastCluster, rootEntries, rootAt}
+use Rattle.diskette.specs.Places.{clusters, lastCluster, rootEntries, rootAt, slotFrom}
 use Rattle.diskette.specs.declared.WhichKind.{WhichKind}
 use Rattle.diskette.specs.declared.WhichKind.the-variants.{Known, Unknown}
 use Rattle.values.specs.Values.{meaningOf}
@@ -17,7 +17,6 @@ use Rattle.values.specs.declared.Meaning.the-variants.{Free, Next, Aside, End, 
 use Rattle.table.specs.Entries.{tableOf}
 use Rattle.fields.specs.Fields.{startOf}
 use Rattle.directory.specs.Slots.{standingOf, isPlain}
-use Rattle.directory.specs.Search.{slotFrom}
 use Rattle.member.specs.Answers.{refusalAnswer}
 
 -- ---- what the value of a cluster means

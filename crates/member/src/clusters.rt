@@ -8,7 +8,7 @@ ghost use Prim.Native.Nat.{_+_, _-_, _*_, _≤_};
 ghost use lib.ListN.{length};
 ghost use Rattle.search.specs.Search.{lowest};
 ghost use Rattle.diskette.specs.Images.{kindOfImage};
-ghost use Rattle.diskette.specs.Kinds.{Usable};
+ghost use Rattle.diskette.specs.Aids.Usable.{Usable};
 ghost use Rattle.diskette.specs.Places.{firstData};
 ghost use Rattle.diskette.specs.declared.WhichKind.the-variants.{Known};
 ghost use Rattle.table.specs.Entries.{wordAt, tableOf};

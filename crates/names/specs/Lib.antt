@@ -2,4 +2,5 @@
 pub mod Alphabet
 pub mod Spelling
 pub mod Reading
+pub mod Aids
 pub mod Laws

@@ -3,7 +3,9 @@ ghost use mathlib.Core.Path.{_≡_};
 ghost use lib.ListN.{length};
 ghost use Rattle.names.specs.Alphabet.{within, smallLetter, among, plain, allowed, capital};
 ghost use Rattle.names.specs.Spelling.{dot, every, Parts, eleven};
-ghost use Rattle.names.specs.Reading.{before, fitting, paddedByte, nameByte, spelledAs, nameOf};
+ghost use Rattle.names.specs.Reading.{beforeFirst, fitting, nameGiven};
+ghost use Rattle.names.specs.Aids.Reading.{spelledAs};
+ghost use Rattle.names.specs.Aids.Bytes.{paddedByte, nameByte};
 
 // Whether a name fits the rules, and its eleven bytes (all spaces where it does not).
 pub struct Spelled {
@@ -88,7 +90,7 @@ fn all_allowed(s: &[u8]) -> bool
 
 // Where the first dot of s stands: its length where there is none.
 fn dot_at(s: &[u8]) -> usize
-    ensures { λ r. ⌜ r ≡ length (before dot (now (s .entry))) ⌝ }
+    ensures { λ r. ⌜ r ≡ length (beforeFirst dot (now (s .entry))) ⌝ }
 {
     let mut i: usize = 0;
     while i < s.len() {
@@ -167,7 +169,7 @@ fn in_parts(base: &[u8], ext: &[u8]) -> Spelled
 
 // The name that a caller gives.
 pub fn name_given(s: &[u8]) -> Spelled
-    ensures { λ r. ⌜ r ≡ nameOf (now (s .entry)) ⌝ }
+    ensures { λ r. ⌜ r ≡ nameGiven (now (s .entry)) ⌝ }
 {
     let at = dot_at(s);
     if at < s.len() {

@@ -7,9 +7,9 @@ use Rattle.offset.specs.declared.Moved.{Moved}
 use Rattle.offset.specs.declared.Moved.the-variants.{To, Beyond}
 
 -- a whole number as a pointer: not below 0, not above 4,294,967,295
-abbrev pub within : ℤ → Moved
-within (pos n) = cond (leb n 4294967295) (To n) Beyond
-within (negsuc n) = Beyond
+abbrev pub asPointer : ℤ → Moved
+asPointer (pos n) = cond (leb n 4294967295) (To n) Beyond
+asPointer (negsuc n) = Beyond
 
 unfoldable pub movedBy : ℕ → ℤ → Moved
-movedBy base offset = within (pos base +ℤ offset)
+movedBy base offset = asPointer (pos base +ℤ offset)

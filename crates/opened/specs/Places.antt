@@ -1,20 +1,19 @@
 -- Which places are live and which unused; which files are open.
 use Prim.Native.Nat.{ℕ, _≤_, _<_}
-use mathlib.Core.Bool.{Bool, true, false, cond, not, _&&_}
+use mathlib.Core.Bool.{Bool, true, not, _&&_}
 use mathlib.Core.List.{List}
 use mathlib.Core.Path.{_≡_}
 use lib.Dec.{eqb, leb, ltb}
-use Rattle.search.specs.Search.{lowest}
+use Rattle.search.specs.Search.{lowest, isFound}
 use Rattle.search.specs.declared.Found.{Found}
-use Rattle.search.specs.declared.Found.the-variants.{At, Nothing}
 use Rattle.directory.specs.Slots.{PlainAt, standingOf, isPlain}
-use Rattle.directory.specs.Search.{slotFrom}
+use Rattle.diskette.specs.Places.{slotFrom}
 use Rattle.opened.specs.Records.{placeCount, usedOf, slotOf, accessOf}
 
 -- ---- A handle is its place. A place is live when used, its slot holds a plain file of this volume and access is 0 to 2.
 -- The volume is an image with count slots, the first of which stands at byte root.
 
-pub record LiveAt (t : List ℕ) (h : ℕ) (l : List ℕ) (root count : ℕ) : Type 0 where
+pub record LivePlace (t : List ℕ) (h : ℕ) (l : List ℕ) (root count : ℕ) : Type 0 where
   pub counted : h < placeCount t
   pub used : usedOf t h ≡ true
   pub access : accessOf t h ≤ 2
@@ -28,30 +27,16 @@ holdsFile l root count s = ltb s count && isPlain (standingOf l (slotFrom root s
 unfoldable pub isLive : List ℕ → ℕ → List ℕ → ℕ → ℕ → Bool
 isLive t h l root count = ltb h (placeCount t) && (usedOf t h && (leb (accessOf t h) 2 && holdsFile l root count (slotOf t h)))
 
--- the slot of a live place
-unfoldable pub liveSlot : List ℕ → ℕ → List ℕ → ℕ → ℕ → Found
-liveSlot t h l root count = cond (isLive t h l root count) (At (slotOf t h)) Nothing
-
 -- ---- A file is open when a used place names its slot.
 
 pub record NamesAt (t : List ℕ) (slot p : ℕ) : Type 0 where
   pub used : usedOf t p ≡ true
   pub names : slotOf t p ≡ slot
 
-abbrev pub namesSlot : List ℕ → ℕ → ℕ → Bool
-namesSlot t slot p = usedOf t p && eqb (slotOf t p) slot
-
-abbrev pub isFound : Found → Bool
-isFound (At p) = true
-isFound Nothing = false
-
 unfoldable pub isOpen : List ℕ → ℕ → Bool
-isOpen t slot = isFound (lowest (namesSlot t slot) 0 (placeCount t))
+isOpen t slot = isFound (lowest (λ p. usedOf t p && eqb (slotOf t p) slot) 0 (placeCount t))
 
 -- ---- the lowest unused place
 
-abbrev pub unusedAt : List ℕ → ℕ → Bool
-unusedAt t p = not (usedOf t p)
-
 unfoldable pub lowestUnused : List ℕ → Found
-lowestUnused t = lowest (unusedAt t) 0 (placeCount t)
+lowestUnused t = lowest (λ p. not (usedOf t p)) 0 (placeCount t)

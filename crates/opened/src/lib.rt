@@ -6,8 +6,10 @@ ghost use mathlib.Core.Bool.{false};
 ghost use Prim.Native.Nat.{_+_, _*_, _≤_, _<_};
 ghost use lib.ListN.{length};
 ghost use Rattle.image.specs.Store.{stored};
-ghost use Rattle.opened.specs.Records.{placeCount, placeAt, usedOf, slotOf, accessOf, pointerOf, writtenOf, markBytes, numberBytes, withRecord, withPointer, withWritten, cleared};
-ghost use Rattle.opened.specs.Places.{liveSlot, namesSlot, isOpen, lowestUnused};
+ghost use Rattle.opened.specs.Records.{placeCount, placeAt, usedOf, slotOf, accessOf, pointerOf, writtenOf, withRecord, withPointer, withWritten, cleared};
+ghost use Rattle.opened.specs.Aids.Records.{markBytes, numberBytes};
+ghost use Rattle.opened.specs.Places.{isOpen, lowestUnused};
+ghost use Rattle.opened.specs.Aids.Places.{liveSlot, namesSlot};
 
 // How many places count: as many as fit the table's length, at most 16.
 pub fn place_count(t: &[u8]) -> usize

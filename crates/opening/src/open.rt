@@ -12,7 +12,7 @@ ghost use mathlib.Core.Path.{_≡_};
 ghost use lib.Dec.{ltb};
 ghost use Rattle.diskette.specs.Places.{rootEntries};
 ghost use Rattle.opening.specs.Open.{Opens};
-ghost use Rattle.calls.specs.Ready.{OnVolume};
+ghost use Rattle.calls.specs.Aids.Ready.{OnVolume};
 ghost use Rattle.calls.specs.Refusals.{readOnly};
 
 // Whether the access is refused to the file in the slot: a read-only file opens with access 0 alone.

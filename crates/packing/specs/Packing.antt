@@ -1,14 +1,8 @@
 -- "A call answers a uint64_t: the refusal number in the upper 32 bits, the value in the lower."
 use Prim.Native.Nat.{ℕ, _/_, _%_}
-use mathlib.Core.Path.{_≡_}
 
 abbrev pub upper : ℕ → ℕ
 upper answer = answer / 4294967296
 
 abbrev pub lower : ℕ → ℕ
 lower answer = answer % 4294967296
-
--- an answer that has this number and this value
-pub record Packs (number value answer : ℕ) : Type 0 where
-  pub number-is : upper answer ≡ number
-  pub value-is : lower answer ≡ value

@@ -1,6 +1,6 @@
 // The one number that a call answers.
 use calls::Answer;
-ghost use Rattle.packing.specs.Packing.{Packs};
+ghost use Rattle.packing.specs.Aids.Packing.{Packs};
 
 // The refusal number in the upper 32 bits, the value in the lower.
 pub fn pack(number: u32, value: u32) -> u64

@@ -1,5 +1,5 @@
--- A file made longer (Longer), and bytes put into it (Written); Put and the laws are for the proofs.
+-- A file made longer (Longer), and bytes put into it (Written).
 pub mod Longer
 pub mod Written
-pub mod Put
+pub mod Aids
 pub mod Laws

@@ -8,14 +8,15 @@ ghost use lib.ListN.{length};
 ghost use Rattle.image.specs.Bytes.{Bytes};
 ghost use Rattle.fields.specs.Fields.{withStart, withSize};
 ghost use Rattle.links.specs.Linked.{endOf};
-ghost use Rattle.calls.specs.Ready.{OnVolume};
-ghost use Rattle.holding.specs.Holding.{fileChain, FileIn};
-ghost use Rattle.putting.specs.Longer.{CanGrow, AddedBehind, Grows, Lengthens};
+ghost use Rattle.calls.specs.Aids.Ready.{OnVolume};
+ghost use Rattle.holding.specs.Holding.{fileChain};
+ghost use Rattle.sound.specs.Files.{IsFile};
+ghost use Rattle.putting.specs.Aids.Longer.{CanGrow, AddedBehind, Grows, Lengthens};
 
 // How many clusters the file in the slot has: a sound volume's file has exactly as many as its size needs.
 pub fn own_clusters(img: &[u8], k: Kind, slot: usize) -> usize
     requires { ⌜ OnVolume (now img) k ⌝ }
-    requires { ⌜ FileIn (now img) k slot ⌝ }
+    requires { ⌜ IsFile k (now img) slot ⌝ }
     ensures { λ r. ⌜ r ≡ length (fileChain k (now (img .entry)) slot) ⌝ }
 {
     k.needed_for(fields::size_at(img, k.slot_at(slot)))
@@ -24,7 +25,7 @@ pub fn own_clusters(img: &[u8], k: Kind, slot: usize) -> usize
 // The last of them, 0 where it has none.
 fn end_of_file(img: &[u8], k: Kind, slot: usize) -> usize
     requires { ⌜ OnVolume (now img) k ⌝ }
-    requires { ⌜ FileIn (now img) k slot ⌝ }
+    requires { ⌜ IsFile k (now img) slot ⌝ }
     ensures { λ r. ⌜ r ≡ endOf (fileChain k (now (img .entry)) slot) ⌝ }
 {
     let own = own_clusters(img, k, slot);
@@ -35,7 +36,7 @@ fn end_of_file(img: &[u8], k: Kind, slot: usize) -> usize
 // Adds n clusters behind it, the lowest free one each time, and answers the first of them.
 fn add_behind(img: &mut [u8], k: Kind, slot: usize, n: usize) -> usize
     requires { ⌜ OnVolume (now img) k ⌝ }
-    requires { ⌜ FileIn (now img) k slot ⌝ }
+    requires { ⌜ IsFile k (now img) slot ⌝ }
     requires { ⌜ Bytes (now img) ⌝ }
     ensures { λ r. ⌜ AddedBehind k (now (img .entry)) slot n r (now (img .exit)) ⌝ }
 {

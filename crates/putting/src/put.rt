@@ -5,10 +5,11 @@ ghost use Prim.Native.Nat.{_*_, _-_, _≤_, max};
 ghost use mathlib.Core.Path.{_≡_};
 ghost use lib.ListN.{length, take};
 ghost use Rattle.chains.specs.Write.{writtenImage};
-ghost use Rattle.diskette.specs.Kinds.{Usable};
+ghost use Rattle.diskette.specs.Aids.Usable.{Usable};
 ghost use Rattle.diskette.specs.Places.{firstData, clusterBytes, lastCluster};
-ghost use Rattle.contents.specs.Contents.{chainFrom, bytesPut, zerosPut};
-ghost use Rattle.putting.specs.Put.{HasRoom, CanPut};
+ghost use Rattle.contents.specs.Contents.{chainFrom};
+ghost use Rattle.contents.specs.Aids.Contents.{bytesPut, zerosPut};
+ghost use Rattle.putting.specs.Aids.Put.{HasRoom, CanPut};
 ghost use Rattle.putting.specs.Written.{writtenIn};
 
 // Puts zeros into the chain that starts at start, from byte size on up to byte pointer.

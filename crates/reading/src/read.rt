@@ -12,9 +12,10 @@ ghost use lib.ListN.{length};
 ghost use Rattle.image.specs.Store.{stored, part};
 ghost use Rattle.diskette.specs.Places.{slotAt};
 ghost use Rattle.fields.specs.Fields.{sizeOf};
-ghost use Rattle.holding.specs.Holding.{fileBytes, FileIn};
+ghost use Rattle.holding.specs.Holding.{fileBytes};
+ghost use Rattle.sound.specs.Files.{IsFile};
 ghost use Rattle.reading.specs.Read.{readCount, Reads};
-ghost use Rattle.calls.specs.Ready.{OnVolume};
+ghost use Rattle.calls.specs.Aids.Ready.{OnVolume};
 
 // How many bytes buffer and file allow.
 fn count_of(room: usize, size: u32, pointer: u32) -> u32
@@ -34,7 +35,7 @@ fn count_of(room: usize, size: u32, pointer: u32) -> u32
 // Copies n bytes of the file in the slot, from its byte pointer on, to the front of buf.
 fn copy_out(img: &[u8], k: Kind, slot: usize, pointer: u32, buf: &mut [u8], n: u32)
     requires { ⌜ OnVolume (now img) k ⌝ }
-    requires { ⌜ FileIn (now img) k slot ⌝ }
+    requires { ⌜ IsFile k (now img) slot ⌝ }
     requires { ⌜ n ≤ sizeOf (now img) (slotAt k slot) - pointer ⌝ }
     requires { ⌜ n ≤ length (now buf) ⌝ }
     ensures { λ _. ⌜ now (buf .exit) ≡ stored (now (buf .entry)) 0 (part (fileBytes k (now (img .entry)) slot) pointer n) ⌝ }

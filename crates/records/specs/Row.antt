@@ -4,9 +4,8 @@ use mathlib.Core.Bool.{Bool, false, cond, not, _&&_}
 use mathlib.Core.List.{List, [], _∷_}
 use lib.Dec.{eqb, ltb}
 use lib.ListN.{length, getD, set}
-use Rattle.search.specs.Search.{lowest}
+use Rattle.search.specs.Search.{lowest, isFound}
 use Rattle.search.specs.declared.Found.{Found}
-use Rattle.opened.specs.Places.{isFound}
 use Rattle.opened.specs.Records.{placeCount, withRecord, withWritten, cleared, usedOf, slotOf, accessOf, pointerOf, writtenOf}
 use Rattle.records.specs.declared.OpenRecord.{OpenRecord}
 

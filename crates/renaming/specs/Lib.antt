@@ -1,3 +1,4 @@
 -- A file's name changed: rename.
 pub mod Rename
+pub mod Aids
 pub mod Laws

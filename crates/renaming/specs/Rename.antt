@@ -3,11 +3,11 @@ use Prim.Native.Nat.{ℕ}
 use mathlib.Core.Bool.{not}
 use mathlib.Core.List.{List, [], _∷_}
 use mathlib.Core.Path.{_≡_}
-use Rattle.diskette.specs.Places.{rootAt, rootEntries, slotAt}
+use Rattle.diskette.specs.Places.{rootAt, rootEntries}
 use Rattle.diskette.specs.declared.Kind.{Kind}
 use Rattle.fields.specs.Fields.{withName}
 use Rattle.directory.specs.Search.{slotNamed}
-use Rattle.names.specs.Reading.{nameOf}
+use Rattle.names.specs.Reading.{nameGiven}
 use Rattle.opened.specs.Places.{isOpen}
 use Rattle.calls.specs.Outcome.{Row, Outcome, outcome, decided}
 use Rattle.calls.specs.Numbers.{ofNoKind, unsound, breaksRules, fileNotFound, accessDenied}
@@ -28,7 +28,7 @@ renameRows img t s n =
     ∷ []
 
 abbrev pub renameEffect : List ℕ → List ℕ → List ℕ → List ℕ → Outcome
-renameEffect img t s n = outcome 0 0 (withName img (addressOf img (fileSlot img s)) (nameOf n .name)) t []
+renameEffect img t s n = outcome 0 0 (withName img (addressOf img (fileSlot img s)) (nameGiven n .name)) t []
 
 unfoldable pub renameOutcome : List ℕ → List ℕ → List ℕ → List ℕ → Outcome
 renameOutcome img t s n = decided (renameRows img t s n) (renameEffect img t s n) img t []
@@ -45,6 +45,3 @@ lastRows img t k slot name =
     ∷ (readOnly img slot, accessDenied)
     ∷ (not (isNothing (slotNamed img (rootAt k) (rootEntries k) name)), accessDenied)
     ∷ []
-
-pub record RenamesSlot (img t : List ℕ) (k : Kind) (slot : ℕ) (name : List ℕ) (r : Answer) (after : List ℕ) : Type 0 where
-  pub is : outcome (r .number) (r .value) after t [] ≡ decided (lastRows img t k slot name) (outcome 0 0 (withName img (slotAt k slot) name) t []) img t []

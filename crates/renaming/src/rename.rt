@@ -12,9 +12,10 @@ ghost use mathlib.Core.Path.{_≡_};
 ghost use Rattle.diskette.specs.Places.{rootAt, rootEntries, slotAt};
 ghost use Rattle.fields.specs.Fields.{withName};
 ghost use Rattle.directory.specs.Search.{slotNamed};
-ghost use Rattle.calls.specs.Ready.{OnVolume};
+ghost use Rattle.calls.specs.Aids.Ready.{OnVolume};
 ghost use Rattle.calls.specs.Refusals.{isNothing};
-ghost use Rattle.renaming.specs.Rename.{Renames, RenamesSlot};
+ghost use Rattle.renaming.specs.Rename.{Renames};
+ghost use Rattle.renaming.specs.Aids.Rename.{RenamesSlot};
 
 // Whether a plain file has the name.
 fn is_taken(img: &[u8], k: Kind, name: [u8; 11]) -> bool

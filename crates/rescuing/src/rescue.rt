@@ -14,7 +14,8 @@ ghost use Rattle.diskette.specs.Images.{kindOfImage};
 ghost use Rattle.diskette.specs.Places.{slotAt};
 ghost use Rattle.diskette.specs.declared.WhichKind.the-variants.{Known};
 ghost use Rattle.fields.specs.Fields.{sizeOf};
-ghost use Rattle.holding.specs.Holding.{fileBytes, FileIn};
+ghost use Rattle.holding.specs.Holding.{fileBytes};
+ghost use Rattle.sound.specs.Files.{IsFile};
 ghost use Rattle.rescuing.specs.Rescue.{endsAfter, goodChain, rescueCount, Rescues};
 
 // How many bytes out and size allow.
@@ -62,7 +63,7 @@ fn ends_after(img: &[u8], last: usize, start: usize, n: usize) -> bool
 // Whether the chain of the file in the slot is as finding 5 asks. None has more clusters than the volume.
 fn has_good_chain(img: &[u8], k: Kind, slot: usize) -> bool
     requires { ⌜ kindOfImage (now img) ≡ Known k ⌝ }
-    requires { ⌜ FileIn (now img) k slot ⌝ }
+    requires { ⌜ IsFile k (now img) slot ⌝ }
     ensures { λ r. ⌜ r ≡ goodChain k (now (img .entry)) slot ⌝ }
 {
     let a = k.slot_at(slot);
@@ -81,7 +82,7 @@ fn has_good_chain(img: &[u8], k: Kind, slot: usize) -> bool
 // Copies the first n bytes of the file in the slot, whose chain is good, to the front of out.
 fn copy_out(img: &[u8], k: Kind, slot: usize, out: &mut [u8], n: u32)
     requires { ⌜ kindOfImage (now img) ≡ Known k ⌝ }
-    requires { ⌜ FileIn (now img) k slot ⌝ }
+    requires { ⌜ IsFile k (now img) slot ⌝ }
     requires { ⌜ goodChain k (now img) slot ≡ true ⌝ }
     requires { ⌜ n ≤ sizeOf (now img) (slotAt k slot) ⌝ }
     requires { ⌜ n ≤ length (now out) ⌝ }

@@ -5,7 +5,7 @@ use mathlib.Core.List.{List}
 use mathlib.Core.Logic.{_⊎_}
 use mathlib.Core.Path.{_≡_}
 use lib.ListN.{length, getD}
-use Rattle.chains.specs.Content.{clusterAt}
+use Rattle.chains.specs.Content.{clusterBegin}
 use Rattle.diskette.specs.Places.{firstData, clusterBytes, slotAt}
 use Rattle.diskette.specs.declared.Kind.{Kind}
 use Rattle.directory.specs.Entries.{SameBytes}
@@ -34,7 +34,7 @@ pub record Stands (k : Kind) (s : ℕ) (l m : List ℕ) : Type 0 where
   -- for each of its clusters the table's value (of copy 1) and the bytes
   pub values : (c : ℕ) → InChain k l s c → valueOf k m c ≡ valueOf k l c
   pub bytes : (c i : ℕ) → InChain k l s c → i < clusterBytes k
-      → let q = clusterAt (512 * firstData k) (clusterBytes k) c + i in getD m q 0 ≡ getD l q 0
+      → let q = clusterBegin (512 * firstData k) (clusterBytes k) c + i in getD m q 0 ≡ getD l q 0
   -- so it is the same file,
   pub file : (f : File) → Holds k l s f → Holds k m s f
   -- and no second one has its name

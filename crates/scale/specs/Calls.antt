@@ -16,7 +16,7 @@ use Rattle.freespace.specs.declared.FreeAnswer.{FreeAnswer}
 use Rattle.calls.specs.Outcome.{Outcome, outcome}
 use Rattle.viewing.specs.View.{viewOutcome}
 use Rattle.packing.specs.Packing.{upper, lower}
-use Rattle.scale.specs.Out.{put, words, fields}
+use Rattle.scale.specs.Out.{putOut, words, fields}
 
 -- What every call promises of its answer and of image, table and buffer after it. `out` is a buffer; a slice that a call only
 -- reads stands here as it came, and one that it does not take is [].
@@ -36,7 +36,7 @@ toldOf img o = outcome (o .number) (o .value) img (o .table) (o .buffer)
 -- "check and check_system never refuse: there the upper half is the finding (0: sound) and the lower its place",
 -- "if sound, 16 bytes: files, free, held, aside"
 unfoldable pub verdictTold : Verdict → List ℕ → Outcome
-verdictTold (Sound files free held aside) out = outcome 0 0 [] [] (put out (words (files ∷ free ∷ held ∷ aside ∷ [])))
+verdictTold (Sound files free held aside) out = outcome 0 0 [] [] (putOut out (words (files ∷ free ∷ held ∷ aside ∷ [])))
 verdictTold (Finding number place) out = outcome number place [] [] out
 
 -- "bm_check: image, out"
@@ -50,7 +50,7 @@ checkSystemCall area out = toldOf area (verdictTold (checkOfArea area) out)
 -- "16 bytes: free, clusters, 512, sectors per cluster"; "or the call refuses, it is left as it came"
 unfoldable pub spaceTold : FreeAnswer → List ℕ → Outcome
 spaceTold a out =
-    cond (eqb (a .number) 0) (outcome 0 (a .free) [] [] (put out (words (a .free ∷ a .clusters ∷ a .sector ∷ a .per ∷ []))))
+    cond (eqb (a .number) 0) (outcome 0 (a .free) [] [] (putOut out (words (a .free ∷ a .clusters ∷ a .sector ∷ a .per ∷ []))))
     (outcome (a .number) 0 [] [] out)
 
 -- "bm_free_space: image, out; value free clusters"
@@ -60,7 +60,7 @@ freeSpaceCall img out = toldOf img (spaceTold (freeSpace img) out)
 -- "1, or 0 for none", "if 1, 22 bytes as stored"
 unfoldable pub entryTaken : EntryAnswer → List ℕ → Outcome
 entryTaken e out =
-    cond (e .found) (outcome 0 1 [] [] (put out (fields (e .name) (e .attr) (e .time) (e .date) (e .start) (e .size))))
+    cond (e .found) (outcome 0 1 [] [] (putOut out (fields (e .name) (e .attr) (e .time) (e .date) (e .start) (e .size))))
     (outcome (e .number) 0 [] [] out)
 
 -- "bm_entry: image, slot, out"

@@ -18,5 +18,5 @@ unfoldable pub fields : List ℕ → ℕ → ℕ → ℕ → ℕ → ℕ → Lis
 fields name attr time date start size = name ++ (attr ∷ tailBytes time date start size)
 
 -- "Where out is shorter than what is to be put into it .. it is left as it came .. Bytes of out past what is put there stay."
-unfoldable pub put : List ℕ → List ℕ → List ℕ
-put out s = cond (ltb (length out) (length s)) out (stored out 0 s)
+unfoldable pub putOut : List ℕ → List ℕ → List ℕ
+putOut out s = cond (ltb (length out) (length s)) out (stored out 0 s)

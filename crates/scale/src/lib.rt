@@ -7,7 +7,7 @@ use freespace::FreeAnswer;
 use sound::Verdict;
 ghost use mathlib.Core.List.{[]};
 ghost use Rattle.scale.specs.Calls.{Leaves, formatCall, verdictTold, checkCall, checkSystemCall, spaceTold, freeSpaceCall, entryTaken, entryCall};
-ghost use Rattle.scale.specs.Fits.{VerdictFits, SpaceFits};
+ghost use Rattle.scale.specs.Aids.Fits.{VerdictFits, SpaceFits};
 
 // Makes a blank volume of the kind.
 #[no_mangle]

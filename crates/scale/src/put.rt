@@ -6,7 +6,7 @@ ghost use lib.ListN.{length};
 ghost use Rattle.image.specs.Store.{stored};
 ghost use Rattle.image.specs.Numbers.{digits};
 ghost use Rattle.fields.specs.Fields.{tailBytes};
-ghost use Rattle.scale.specs.Out.{put, words, fields};
+ghost use Rattle.scale.specs.Out.{putOut, words, fields};
 
 // Stores one byte.
 fn byte(out: &mut [u8], at: usize, v: u8)
@@ -26,7 +26,7 @@ fn word(out: &mut [u8], at: usize, n: usize)
 
 // Puts four words.
 pub fn four_words(out: &mut [u8], a: usize, b: usize, c: usize, d: usize)
-    ensures { λ _. ⌜ now (out .exit) ≡ put (now (out .entry)) (words (a ∷ b ∷ c ∷ d ∷ [])) ⌝ }
+    ensures { λ _. ⌜ now (out .exit) ≡ putOut (now (out .entry)) (words (a ∷ b ∷ c ∷ d ∷ [])) ⌝ }
 {
     if out.len() < 16 {
         return;
@@ -58,7 +58,7 @@ pub fn entry_fields(
     start: u16,
     size: u32,
 )
-    ensures { λ _. ⌜ now (out .exit) ≡ put (now (out .entry)) (fields name attr time date start size) ⌝ }
+    ensures { λ _. ⌜ now (out .exit) ≡ putOut (now (out .entry)) (fields name attr time date start size) ⌝ }
 {
     if out.len() < 22 {
         return;

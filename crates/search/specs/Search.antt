@@ -1,6 +1,6 @@
 -- Of the n numbers from s on: the lowest that passes a test.
 use Prim.Native.Nat.{ℕ, zero, suc, _+_, _<_}
-use mathlib.Core.Bool.{Bool, cond}
+use mathlib.Core.Bool.{Bool, cond, true, false}
 use Rattle.search.specs.declared.Found.{Found}
 use Rattle.search.specs.declared.Found.the-variants.{At, Nothing}
 
@@ -18,3 +18,7 @@ pub record LowestBelow (P : ℕ → Type 0) (count s : ℕ) : Type 0 where
 abbrev pub Answers : (ℕ → Type 0) → ℕ → Found → Type 0
 Answers P count (At s) = LowestBelow P count s
 Answers P count Nothing = (q : ℕ) → q < count → ¬ P q
+
+abbrev pub isFound : Found → Bool
+isFound (At p) = true
+isFound Nothing = false

@@ -11,7 +11,7 @@ ghost use Prim.Native.Nat.{_<_};
 ghost use mathlib.Core.Path.{_≡_};
 ghost use Rattle.diskette.specs.Places.{rootEntries};
 ghost use Rattle.opened.specs.Records.{placeCount, slotOf};
-ghost use Rattle.calls.specs.Ready.{OnVolume};
+ghost use Rattle.calls.specs.Aids.Ready.{OnVolume};
 ghost use Rattle.seeking.specs.Seek.{seekBase, Seeks};
 
 // From where the offset counts: from 0, the pointer or the size.

@@ -1,4 +1,4 @@
 -- The calls on a single open record: the calls over bytes, read through a row of records.
 pub mod Rows
-pub mod OpenAt
+pub mod Aids
 pub mod Laws

@@ -3,15 +3,15 @@
 use Prim.Native.Nat.{ℕ}
 use mathlib.Core.List.{List, [], _∷_, _++_}
 use mathlib.Core.Path.{_≡_}
-use Rattle.opened.specs.Records.{mark, numberBytes}
+use Rattle.opened.specs.Records.{recordBytes}
 use Rattle.calls.specs.Outcome.{Outcome}
 use Rattle.calls.specs.declared.Answer.{Answer}
 use Rattle.records.specs.Row.{rowOf}
 use Rattle.records.specs.declared.OpenRecord.{OpenRecord}
 
--- the bytes of a record, used or not: all its fields, where Records of `opened` has them, so that rowOf reads them again
+-- the bytes of a record, used or not, so that rowOf reads it again
 unfoldable pub placeBytes : OpenRecord → List ℕ
-placeBytes r = mark (r .used) ∷ r .access ∷ mark (r .written) ∷ 0 ∷ numberBytes (r .slot) (r .pointer)
+placeBytes r = recordBytes (r .used) (r .access) (r .slot) (r .pointer) (r .written)
 
 -- the bytes that a row says
 unfoldable pub bytesOf : List OpenRecord → List ℕ

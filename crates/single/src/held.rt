@@ -4,7 +4,7 @@ use records::OpenRecord;
 use stamps::Stamp;
 ghost use mathlib.Core.List.{[], _∷_};
 ghost use mathlib.Core.Path.{_≡_};
-ghost use Rattle.opened.specs.Records.{mark};
+ghost use Rattle.chains.specs.Sums.{bit};
 ghost use Rattle.closing.specs.Close.{closeOutcome};
 ghost use Rattle.opening.specs.Open.{openOutcome};
 ghost use Rattle.seeking.specs.Seek.{seekOutcome};
@@ -20,7 +20,7 @@ pub struct Done {
 
 // A mark as the table has it.
 fn mark_of(marked: bool) -> u8
-    ensures { λ r. ⌜ r ≡ mark marked ⌝ }
+    ensures { λ r. ⌜ r ≡ bit marked ⌝ }
 {
     if marked { 1 } else { 0 }
 }

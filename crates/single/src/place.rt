@@ -6,7 +6,7 @@ use search::Found;
 ghost use Prim.Native.Nat.{_<_};
 ghost use mathlib.Core.Path.{_≡_};
 ghost use Rattle.calls.specs.Refusals.{placeFound};
-ghost use Rattle.single.specs.OpenAt.{spareFor, OpensAt};
+ghost use Rattle.single.specs.Aids.OpenAt.{spareFor, OpensAt};
 
 // What open answers, the record it makes and where that goes: past the places that count where it was refused.
 pub struct Opened {

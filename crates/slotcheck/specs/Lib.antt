@@ -1,4 +1,3 @@
 -- Finding 4 as the code searches for it: aids to the proofs of sound, which has the definition.
-pub mod Slots
-pub mod Checksums
+pub mod Aids
 pub mod Laws

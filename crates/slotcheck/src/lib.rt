@@ -5,11 +5,12 @@ ghost use mathlib.Core.Bool.{_&&_, _||_};
 ghost use mathlib.Core.Path.{_≡_};
 ghost use Prim.Native.Nat.{_+_, _*_, _≤_};
 ghost use lib.ListN.{length};
-ghost use Rattle.chains.specs.Verdict.{first};
+ghost use Rattle.chains.specs.Aids.Verdict.{first};
 ghost use Rattle.fields.specs.Fields.{nameOf};
 ghost use Rattle.search.specs.Laws.Theory.{optional};
-ghost use Rattle.slotcheck.specs.Slots.{isLabel, isLive, isFound, neverUsedSlot, labelSlot, strange, strangeSlot, badSlotAt};
-ghost use Rattle.slotcheck.specs.Checksums.{withByte, checksum, NamesMet, NameTold, SlotTold};
+ghost use Rattle.slotcheck.specs.Aids.Slots.{isLabel, isLiveEntry, neverUsedSlot, labelSlot, strange, strangeSlot, badSlotAt};
+ghost use Rattle.search.specs.Search.{isFound};
+ghost use Rattle.slotcheck.specs.Aids.Checksums.{withByte, checksum, NamesMet, NameTold, SlotTold};
 
 fn either(a: bool, b: bool) -> bool
     ensures { λ r. ⌜ r ≡ (a || b) ⌝ }
@@ -35,7 +36,7 @@ fn stands_for_label(standing: Standing) -> bool
 }
 
 fn stands_for_live(standing: Standing) -> bool
-    ensures { λ r. ⌜ r ≡ isLive standing ⌝ }
+    ensures { λ r. ⌜ r ≡ isLiveEntry standing ⌝ }
 {
     match standing {
         Standing::NeverUsed => false,

@@ -17,3 +17,4 @@ pub mod AreaAnswer
 pub mod Judged
 pub mod Visited
 pub mod Checks
+pub mod Clusters

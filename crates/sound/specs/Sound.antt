@@ -8,7 +8,7 @@ use Rattle.chains.specs.Verdict.{None}
 use Rattle.diskette.specs.Places.{lastCluster}
 use Rattle.diskette.specs.declared.Kind.{Kind}
 use Rattle.sound.specs.Files.{valueOf, IsFile, ChainOf}
-use Rattle.sound.specs.Findings.{TablesDiffer, BadValue, BadSlot}
+use Rattle.sound.specs.Findings.{TablesDiffer, BadValue, BadSlot, BadChain, InTwoChains, Lost}
 
 -- lists s is the list of clusters of the file in slot s
 pub record SoundBy (k : Kind) (l : List ℕ) (lists : ℕ → List ℕ) : Type 0 where
@@ -21,3 +21,12 @@ pub record SoundBy (k : Kind) (l : List ℕ) (lists : ℕ → List ℕ) : Type 0
 
 abbrev pub Sound : Kind → List ℕ → Type 0
 Sound k l = (lists : ℕ → List ℕ) × SoundBy k l lists
+
+-- none of the findings 2 to 7 holds anywhere
+pub record NoFinding (k : Kind) (l : List ℕ) : Type 0 where
+  pub tables : None (TablesDiffer k l)
+  pub values : None (BadValue k l)
+  pub slots : None (BadSlot k l)
+  pub chains : None (BadChain k l)
+  pub two : None (InTwoChains k l)
+  pub lost : None (Lost k l)

@@ -7,11 +7,11 @@ use tablecheck::Census;
 ghost use mathlib.Core.Path.{_≡_};
 ghost use Prim.Native.Nat.{_+_, _*_, _≤_, _<_};
 ghost use lib.ListN.{length};
-ghost use Rattle.diskette.specs.Kinds.{Usable};
+ghost use Rattle.diskette.specs.Aids.Usable.{Usable};
 ghost use Rattle.diskette.specs.Places.{firstData};
 ghost use Rattle.table.specs.Entries.{wordAt, tableOf};
 ghost use Rattle.sound.specs.Answer.{Checked, CheckedArea};
-ghost use Rattle.sound.specs.Judged.{marksJudged, chainsJudged, judged};
+ghost use Rattle.sound.specs.Aids.Judged.{marksJudged, chainsJudged, judged};
 
 // What check answers: sound with the counts files, free, held, aside; or a finding and its place.
 pub enum Verdict {

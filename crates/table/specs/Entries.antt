@@ -1,13 +1,12 @@
--- Entries of the table: 12 bits each, two of them in three bytes. A copy of the table starts at byte base: copy 1 at byte
--- 512, copy 2 at byte second.
-use Prim.Native.Nat.{ℕ, _+_, _*_, _/_, _≤_, _<_}
+-- Entries of the table: 12 bits each, two of them in three bytes. A copy of the table starts at byte base: copy 1 at copyOne,
+-- copy 2 at byte second.
+use Prim.Native.Nat.{ℕ, _+_, _*_, _/_}
 use mathlib.Core.Bool.{cond, _&&_}
 use mathlib.Core.List.{List}
-use mathlib.Core.Path.{_≡_}
 use lib.Dec.{leb}
-use lib.ListN.{length, getD}
 use Rattle.image.specs.Store.{stored}
 use Rattle.image.specs.Numbers.{number, digits}
+use Rattle.diskette.specs.Places.{copyOne}
 use Rattle.values.specs.Bits.{even, taken, kept}
 
 -- "Entry n is the 16-bit little-endian word at byte n times 3 divided by 2, rounded down"
@@ -24,20 +23,11 @@ setAt base l n v = stored l (wordAt base n) (digits (kept (even n) (number l (wo
 
 -- entry n: that of copy 1
 abbrev pub entryOf : List ℕ → ℕ → ℕ
-entryOf l n = entryAt 512 l n
+entryOf l n = entryAt copyOne l n
 
 -- l with v stored as entry n "in both copies"
 unfoldable pub setBoth : ℕ → List ℕ → ℕ → ℕ → List ℕ
-setBoth second l n v = setAt second (setAt 512 l n v) n v
-
--- each copy holds the whole word of entry n: copy 1 before copy 2, copy 2 before the end
-pub record Reaches (second : ℕ) (l : List ℕ) (n : ℕ) : Type 0 where
-  pub low : wordAt 512 n + 2 ≤ second
-  pub high : wordAt second n + 2 ≤ length l
-
--- the copies, of size bytes each, are the same
-abbrev pub Agree : ℕ → ℕ → List ℕ → Type 0
-Agree second size l = (j : ℕ) → j < size → getD l (512 + j) 0 ≡ getD l (second + j) 0
+setBoth second l n v = setAt second (setAt copyOne l n v) n v
 
 -- the table as a function: the entry of each cluster, and 0 where there is no cluster
 unfoldable pub tableOf : ℕ → List ℕ → ℕ → ℕ

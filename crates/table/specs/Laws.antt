@@ -2,4 +2,3 @@
 pub mod OneCopy
 pub mod Copies
 pub mod View
-pub mod Counts

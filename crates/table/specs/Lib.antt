@@ -1,4 +1,4 @@
--- The table's entries: where they stand, how many there are of a sort. Read Entries and Counts.
+-- The table's entries: where they stand.
 pub mod Entries
-pub mod Counts
+pub mod Aids
 pub mod Laws

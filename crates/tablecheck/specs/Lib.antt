@@ -1,4 +1,3 @@
 -- Findings 2 and 3 as the code searches for them: aids to the proofs of sound, which has the definitions.
-pub mod Copies
-pub mod Values
+pub mod Aids
 pub mod Laws

@@ -4,11 +4,11 @@ use values::Meaning;
 ghost use mathlib.Core.Path.{_≡_};
 ghost use Prim.Native.Nat.{_+_, _≤_, _<_};
 ghost use lib.ListN.{length};
-ghost use Rattle.chains.specs.Verdict.{first};
+ghost use Rattle.chains.specs.Aids.Verdict.{first};
 ghost use Rattle.search.specs.Laws.Theory.{optional};
 ghost use Rattle.table.specs.Entries.{wordAt};
-ghost use Rattle.tablecheck.specs.Copies.{differsAt, FourAlike, Alike};
-ghost use Rattle.tablecheck.specs.Values.{censusOf};
+ghost use Rattle.tablecheck.specs.Aids.Copies.{differsAt, FourAlike, Alike};
+ghost use Rattle.tablecheck.specs.Aids.Values.{censusOf};
 
 // The lowest cluster with a value that means nothing; or how many clusters are free and how many set aside.
 pub enum Census {

@@ -5,13 +5,13 @@ use mathlib.Core.List.{List, [], _∷_, _++_}
 use lib.Dec.{ltb}
 
 -- the sign of a digit: 0 to 9, then A to F
-unfoldable pub digit : ℕ → ℕ
-digit d = cond (ltb d 10) (0x30 + d) (0x41 + (d - 10))
+unfoldable pub digitSign : ℕ → ℕ
+digitSign d = cond (ltb d 10) (0x30 + d) (0x41 + (d - 10))
 
 -- the last w digits of n in a base, with 0 before them where n has fewer
 unfoldable pub inDigits : ℕ → ℕ → ℕ → List ℕ
 inDigits base zero n = []
-inDigits base (suc w) n = inDigits base w (n / base) ++ (digit (n % base) ∷ [])
+inDigits base (suc w) n = inDigits base w (n / base) ++ (digitSign (n % base) ∷ [])
 
 -- how many decimal digits n has: 0 has one. (n turns suffice.)
 unfoldable pub widthIn : ℕ → ℕ → ℕ

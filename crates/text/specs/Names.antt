@@ -8,13 +8,13 @@ use Rattle.names.specs.Alphabet.{plain}
 use Rattle.names.specs.Spelling.{dot, space, every}
 
 -- nothing but spaces
-unfoldable pub blank : List ℕ → Bool
-blank s = every (λ (c : ℕ). eqb c space) s
+unfoldable pub onlySpaces : List ℕ → Bool
+onlySpaces s = every (λ (c : ℕ). eqb c space) s
 
 -- trailing spaces are dropped
 unfoldable pub trimmed : List ℕ → List ℕ
 trimmed [] = []
-trimmed (c ∷ cs) = cond (blank (c ∷ cs)) [] (c ∷ trimmed cs)
+trimmed (c ∷ cs) = cond (onlySpaces (c ∷ cs)) [] (c ∷ trimmed cs)
 
 -- any other name byte but capitals, digits and the signs prints `?`
 unfoldable pub shown : ℕ → ℕ
@@ -26,7 +26,7 @@ partText s = map shown (trimmed s)
 
 -- the dot stands only before an extension
 unfoldable pub extText : List ℕ → List ℕ
-extText s = cond (blank s) [] (dot ∷ partText s)
+extText s = cond (onlySpaces s) [] (dot ∷ partText s)
 
 -- name 0-7, extension 8-10
 unfoldable pub nameText : List ℕ → List ℕ

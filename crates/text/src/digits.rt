@@ -3,12 +3,12 @@ ghost use mathlib.Core.Path.{_≡_};
 ghost use Prim.Native.Nat.{_+_, _≤_, _<_};
 ghost use lib.ListN.{length};
 ghost use Rattle.text.specs.Puts.{PutsIn};
-ghost use Rattle.text.specs.Digits.{digit, inDigits, width, decimal, hex};
+ghost use Rattle.text.specs.Digits.{digitSign, inDigits, width, decimal, hex};
 
 // The sign of a digit.
 fn sign(d: usize) -> u8
     requires { ⌜ d < 16 ⌝ }
-    ensures { λ r. ⌜ r ≡ digit d ⌝ }
+    ensures { λ r. ⌜ r ≡ digitSign d ⌝ }
 {
     let small = d as u8;
     if small < 10 {

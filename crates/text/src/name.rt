@@ -3,11 +3,11 @@ ghost use mathlib.Core.Path.{_≡_};
 ghost use Prim.Native.Nat.{_+_, _≤_};
 ghost use lib.ListN.{length};
 ghost use Rattle.text.specs.Puts.{PutsIn};
-ghost use Rattle.text.specs.Names.{blank, shown, partText, extText, nameText};
+ghost use Rattle.text.specs.Names.{onlySpaces, shown, partText, extText, nameText};
 
 // Whether a part of a name holds nothing but spaces.
 fn only_spaces(part: &[u8]) -> bool
-    ensures { λ r. ⌜ r ≡ blank (now (part .entry)) ⌝ }
+    ensures { λ r. ⌜ r ≡ onlySpaces (now (part .entry)) ⌝ }
 {
     let mut i: usize = 0;
     while i < part.len() {

@@ -1,22 +1,22 @@
 -- "View takes a name and an offset and gives back the part of the image from that byte to the end of its cluster or file,
 -- whichever is first; an empty part at or past the end or on any refusal. A second call on the same inputs answers its
 -- refusal number, or 0."
-use Prim.Native.Nat.{ℕ, _+_, _-_, _*_, _%_, _≤_, min}
+use Prim.Native.Nat.{ℕ, _-_, _*_, _%_, min}
 use mathlib.Core.List.{List, [], _∷_}
 use mathlib.Core.Path.{_≡_}
-use lib.ListN.{length}
 use Rattle.image.specs.Store.{part}
-use Rattle.contents.specs.Contents.{placeOf}
-use Rattle.diskette.specs.Places.{firstData, clusterBytes, lastCluster, slotAt}
+use Rattle.chains.specs.Content.{byteAt}
+use Rattle.diskette.specs.Places.{firstData, clusterBytes, slotAt}
 use Rattle.diskette.specs.declared.Kind.{Kind}
-use Rattle.fields.specs.Fields.{startOf, sizeOf}
+use Rattle.fields.specs.Fields.{sizeOf}
 use Rattle.calls.specs.Outcome.{Row, Outcome, outcome, decided}
 use Rattle.calls.specs.Numbers.{ofNoKind, unsound, breaksRules, fileNotFound}
 use Rattle.calls.specs.Refusals.{theKind, notOfKind, notSound, badName, noFile, fileSlot}
+use Rattle.holding.specs.Holding.{fileChain}
 
 -- where byte offset of the file in a slot lies in the image
 abbrev pub viewAt : Kind → List ℕ → ℕ → ℕ → ℕ
-viewAt k img slot offset = placeOf (512 * firstData k) (clusterBytes k) (lastCluster k) img (startOf img (slotAt k slot)) offset
+viewAt k img slot offset = byteAt (512 * firstData k) (clusterBytes k) (fileChain k img slot) offset
 
 -- how many bytes there are from it on to the end of its cluster of cb bytes or of its file, whichever is first; none at or past the end
 abbrev pub viewCount : ℕ → ℕ → ℕ → ℕ
@@ -45,15 +45,3 @@ pub record Views (img s : List ℕ) (offset : ℕ) (seen : List ℕ) : Type 0 wh
 -- what the second call promises: the number it answers
 pub record ViewNumbers (img s : List ℕ) (offset number : ℕ) : Type 0 where
   pub is : number ≡ viewOutcome img s offset .number
-
--- ---- an aid to the proofs: the number, and bytes of the image from at on
-
-pub record Sees (img s : List ℕ) (offset number at bytes : ℕ) : Type 0 where
-  pub is : outcome number 0 img [] (part img at bytes) ≡ viewOutcome img s offset
-  pub within : at + bytes ≤ length img
-
--- the same of the file in a slot
-pub record SeesFile (img : List ℕ) (k : Kind) (slot offset number at bytes : ℕ) : Type 0 where
-  pub number-is : number ≡ 0
-  pub part-is : part img at bytes ≡ viewPart k img slot offset
-  pub inside : at + bytes ≤ length img

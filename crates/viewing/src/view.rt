@@ -7,9 +7,10 @@ use diskette::Kind;
 use search::Found;
 ghost use Prim.Native.Nat.{_<_};
 ghost use mathlib.Core.Path.{_≡_};
-ghost use Rattle.calls.specs.Ready.{OnVolume};
-ghost use Rattle.holding.specs.Holding.{FileIn};
-ghost use Rattle.viewing.specs.View.{viewCount, Views, ViewNumbers, Sees, SeesFile};
+ghost use Rattle.calls.specs.Aids.Ready.{OnVolume};
+ghost use Rattle.sound.specs.Files.{IsFile};
+ghost use Rattle.viewing.specs.View.{viewCount, Views, ViewNumbers};
+ghost use Rattle.viewing.specs.Aids.View.{Sees, SeesFile};
 
 // A refusal's number, or 0 and the bytes of the image from at on.
 pub struct Seen {
@@ -32,7 +33,7 @@ fn bytes_from(cb: usize, size: u32, offset: u32) -> usize
 // The bytes of the file in the slot, from its byte offset on.
 fn see_file(img: &[u8], k: Kind, slot: usize, offset: u32) -> Seen
     requires { ⌜ OnVolume (now img) k ⌝ }
-    requires { ⌜ FileIn (now img) k slot ⌝ }
+    requires { ⌜ IsFile k (now img) slot ⌝ }
     ensures { λ r. ⌜ SeesFile (now (img .entry)) k slot offset (r .number) (r .at) (r .bytes) ⌝ }
 {
     let a = k.slot_at(slot);

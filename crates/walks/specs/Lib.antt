@@ -1,3 +1,3 @@
 -- The walk along one chain, as the code does it: aids to the proofs of sound, which has the definitions.
-pub mod Walks
+pub mod Aids
 pub mod Laws

@@ -6,7 +6,7 @@ ghost use mathlib.Core.Path.{_≡_};
 ghost use Prim.Native.Nat.{_+_, _-_, _≤_, _<_};
 ghost use lib.ListN.{length};
 ghost use Rattle.table.specs.Entries.{wordAt, tableOf};
-ghost use Rattle.walks.specs.Walks.{ValueIs, LeadsTo, Tails, Walked, leftStored, Visited};
+ghost use Rattle.walks.specs.Aids.Walks.{ValueIs, LeadsTo, Tails, Walked, leftStored, Visited};
 
 // The value of cluster c, which has 12 bits.
 pub fn value_of(img: &[u8], last: usize, c: usize) -> u16

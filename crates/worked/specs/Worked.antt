@@ -6,7 +6,7 @@ use mathlib.Core.Path.{_≡_}
 use lib.Dec.{eqb}
 use lib.IntN.{ℤ, negsuc}
 use Rattle.image.specs.Store.{part}
-use Rattle.chains.specs.Content.{clusterAt}
+use Rattle.chains.specs.Content.{clusterBegin}
 use Rattle.chains.specs.Sizes.{clustersFor}
 use Rattle.diskette.specs.Images.{OfKind}
 use Rattle.diskette.specs.Kinds.{kindFE, kindFD}
@@ -18,7 +18,7 @@ use Rattle.stamps.specs.declared.Stamp.{Stamp}
 use Rattle.stamps.specs.declared.Packed.{Packed}
 use Rattle.stamps.specs.declared.Packed.the-variants.{Words, OutOfRange}
 use Rattle.sound.specs.Sound.{Sound}
-use Rattle.opened.specs.Places.{LiveAt}
+use Rattle.opened.specs.Places.{LivePlace}
 use Rattle.opened.specs.Records.{pointerOf}
 use Rattle.calls.specs.Outcome.{Outcome}
 use Rattle.calls.specs.Refusals.{stampNumber}
@@ -48,7 +48,7 @@ sixBytes = 0xFD ∷ 0xFF ∷ 0xFF ∷ 0x03 ∷ 0x40 ∷ 0x00 ∷ []
 -- ---- P3 to P5: the sector of the byte at which cluster n begins, for every call
 
 abbrev pub sectorAt : Kind → ℕ → ℕ
-sectorAt k n = clusterAt (512 * firstData k) (clusterBytes k) n / 512
+sectorAt k n = clusterBegin (512 * firstData k) (clusterBytes k) n / 512
 
 -- ---- P6 and P7: a stamp's words
 
@@ -72,7 +72,7 @@ pub record Scene : Type 0 where
   pub handle : ℕ
   pub of-kind : OfKind image kind
   pub sound : Sound kind image
-  pub live : LiveAt table handle image (rootAt kind) (rootEntries kind)
+  pub live : LivePlace table handle image (rootAt kind) (rootEntries kind)
   pub pointer : pointerOf table handle ≡ 10
 
 abbrev pub callAnswer : Outcome → Answer

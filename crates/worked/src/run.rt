@@ -7,7 +7,7 @@ use stamps::Packed;
 use stamps::Stamp;
 ghost use Prim.Native.Nat.{_≤_};
 ghost use mathlib.Core.Path.{_≡_};
-ghost use Rattle.diskette.specs.Kinds.{Usable};
+ghost use Rattle.diskette.specs.Aids.Usable.{Usable};
 ghost use Rattle.diskette.specs.Places.{lastCluster, sectorOf};
 
 // P1 and P2: entries of a table that starts at byte 0.

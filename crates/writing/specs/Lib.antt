@@ -1,3 +1,4 @@
--- Bytes put into files: write. Read Longer, then Write; the laws, and Put, are for the proofs.
+-- Bytes put into files: write. Read the crate putting's Longer and Written, then Write.
 pub mod Write
+pub mod Aids
 pub mod Laws

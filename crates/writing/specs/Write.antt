@@ -3,23 +3,32 @@
 -- size becomes the larger of old size and pointer plus count, and each new cluster is the lowest free. Bytes past the size
 -- stay. Size and start are stored at once (group's rule)."
 -- "A read or write that ends well moves the pointer by the count."
-use Prim.Native.Nat.{ℕ, _+_}
+use Prim.Native.Nat.{ℕ, _+_, _-_, _*_, min}
 use mathlib.Core.Bool.{cond}
 use mathlib.Core.List.{List, [], _∷_}
 use mathlib.Core.Path.{_≡_}
 use lib.Dec.{eqb}
 use lib.ListN.{length, take}
-use Rattle.chains.specs.Write.{accepted}
 use Rattle.diskette.specs.declared.Kind.{Kind}
+use Rattle.diskette.specs.Places.{clusterBytes}
+use Rattle.sound.specs.Counts.{freeOf}
 use Rattle.opened.specs.Records.{slotOf, accessOf, pointerOf, withPointer, withWritten}
 use Rattle.calls.specs.Outcome.{Row, Outcome, outcome, decided}
 use Rattle.calls.specs.Numbers.{ofNoKind, unsound, invalidHandle, accessDenied}
 use Rattle.calls.specs.Refusals.{theKind, notOfKind, notSound, notLive}
 use Rattle.calls.specs.declared.Answer.{Answer}
-use Rattle.putting.specs.Longer.{roomOf}
+use Rattle.holding.specs.Holding.{fileChain}
 use Rattle.putting.specs.Written.{writtenIn}
 
--- "the smaller of the length and room less pointer"
+-- "Write has room for (own clusters + free) times cluster bytes"
+unfoldable pub roomOf : Kind → List ℕ → ℕ → ℕ
+roomOf k img slot = (length (fileChain k img slot) + freeOf k img) * clusterBytes k
+
+-- "the smaller of the length and room less pointer; 0 when the pointer is at or past the room"
+unfoldable pub accepted : ℕ → ℕ → ℕ → ℕ
+accepted room pos n = min n (room - pos)
+
+-- so many of n bytes are written into the file in the slot
 abbrev pub writeCount : Kind → List ℕ → ℕ → ℕ → ℕ → ℕ
 writeCount k img slot pointer n = accepted (roomOf k img slot) pointer n
 
@@ -48,8 +57,3 @@ writeOutcome img t h bs = decided (writeRows img t h) (writeEffect img t h bs) i
 -- what the call promises: its answer r, the image and the table after
 pub record Writes (img t : List ℕ) (h : ℕ) (bs : List ℕ) (r : Answer) (after table : List ℕ) : Type 0 where
   pub is : outcome (r .number) (r .value) after table [] ≡ writeOutcome img t h bs
-
--- ---- an aid to the proofs: the effect, of the file in a slot
-
-pub record WritesAt (k : Kind) (img t : List ℕ) (slot h : ℕ) (bs : List ℕ) (r : Answer) (after table : List ℕ) : Type 0 where
-  pub is : outcome (r .number) (r .value) after table [] ≡ writeAt k img t slot h bs

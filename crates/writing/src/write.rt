@@ -8,18 +8,17 @@ use diskette::Kind;
 use search::Found;
 ghost use Prim.Native.Nat.{_+_, _<_};
 ghost use mathlib.Core.Path.{_≡_};
-ghost use Rattle.chains.specs.Write.{accepted};
 ghost use Rattle.opened.specs.Records.{placeCount, withPointer, withWritten};
 ghost use Rattle.sound.specs.Counts.{freeOf};
-ghost use Rattle.calls.specs.Ready.{OnVolume};
-ghost use Rattle.holding.specs.Holding.{FileIn};
-ghost use Rattle.putting.specs.Longer.{roomOf};
-ghost use Rattle.writing.specs.Write.{Writes, WritesAt};
+ghost use Rattle.calls.specs.Aids.Ready.{OnVolume};
+ghost use Rattle.sound.specs.Files.{IsFile};
+ghost use Rattle.writing.specs.Write.{Writes, accepted, roomOf};
+ghost use Rattle.writing.specs.Aids.Write.{WritesAt};
 
 // The bytes for which the file in the slot has room, where so many clusters are free.
 fn room_for(img: &[u8], k: Kind, slot: usize, free: usize) -> usize
     requires { ⌜ OnVolume (now img) k ⌝ }
-    requires { ⌜ FileIn (now img) k slot ⌝ }
+    requires { ⌜ IsFile k (now img) slot ⌝ }
     requires { ⌜ free ≡ freeOf k (now img) ⌝ }
     ensures { λ r. ⌜ r ≡ roomOf k (now (img .entry)) slot ⌝ }
 {
@@ -60,7 +59,7 @@ fn write_at(
     bytes: &[u8],
 ) -> Answer
     requires { ⌜ OnVolume (now img) k ⌝ }
-    requires { ⌜ FileIn (now img) k slot ⌝ }
+    requires { ⌜ IsFile k (now img) slot ⌝ }
     requires { ⌜ free ≡ freeOf k (now img) ⌝ }
     requires { ⌜ place < placeCount (now t) ⌝ }
     ensures { λ r. ⌜ WritesAt k (now (img .entry)) (now (t .entry)) slot place (now (bytes .entry)) r (now (img .exit)) (now (t .exit)) ⌝ }

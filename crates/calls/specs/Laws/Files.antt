@@ -12,16 +12,18 @@ use Rattle.search.specs.declared.Found.{Found}
 use Rattle.search.specs.declared.Found.the-variants.{At, Nothing}
 use Rattle.fields.specs.Fields.{attrOf}
 use Rattle.directory.specs.Slots.{hasBit}
-use Rattle.directory.specs.Search.{namedSlot, slotNamed}
-use Rattle.names.specs.Reading.{nameOf}
+use Rattle.directory.specs.Search.{slotNamed}
+use Rattle.directory.specs.Aids.Search.{namedSlot}
+use Rattle.names.specs.Reading.{nameGiven}
 use Rattle.names.specs.declared.Spelled.{Spelled}
 use Rattle.opened.specs.Records.{placeCount, slotOf}
-use Rattle.opened.specs.Places.{isLive, liveSlot, unusedAt, lowestUnused}
+use Rattle.opened.specs.Places.{isLive, lowestUnused}
+use Rattle.opened.specs.Aids.Places.{liveSlot, unusedAt}
 use Rattle.opened.specs.Laws.Places.{live-slot-is, live-slot-none, live-is}
 use Rattle.calls.specs.Outcome.{Row}
 use Rattle.calls.specs.Numbers.{tooManyOpen, invalidHandle}
 use Rattle.calls.specs.Refusals.{fileFound, readOnly, notLive, noPlace}
-use Rattle.calls.specs.Ready.{OnVolume}
+use Rattle.calls.specs.Aids.Ready.{OnVolume}
 use Rattle.calls.specs.Laws.Ready.{on-kind, on-usable, on-area, volume-past}
 use Rattle.calls.specs.Laws.Rows.{Stops, stops-at, stops-past}
 
@@ -71,7 +73,7 @@ module _ (img : List ℕ) (k : Kind) (v : OnVolume img k) where
   slot-within slot a h e = let b : 512 * firstData k ≤ length img = on-area img k v in omega arith
 
   -- a file looked for by the name that a caller gave
-  pub found-is : (s : List ℕ) (g : Spelled) → g ≡ nameOf s → (f : Found) → f ≡ slotNamed img (rootAt k) (rootEntries k) (g .name) → fileFound img s ≡ f
+  pub found-is : (s : List ℕ) (g : Spelled) → g ≡ nameGiven s → (f : Found) → f ≡ slotNamed img (rootAt k) (rootEntries k) (g .name) → fileFound img s ≡ f
   unfolding fileFound
   found-is s g e f q = rw (on-kind img k v, ← e, q)
 

@@ -9,12 +9,12 @@ use Rattle.diskette.specs.declared.Kind.{Kind}
 use Rattle.search.specs.declared.Found.{Found}
 use Rattle.search.specs.declared.Found.the-variants.{At, Nothing}
 use Rattle.directory.specs.Search.{slotNamed}
-use Rattle.names.specs.Reading.{nameOf}
+use Rattle.names.specs.Reading.{nameGiven}
 use Rattle.names.specs.declared.Spelled.{Spelled}
 use Rattle.calls.specs.Outcome.{Row}
 use Rattle.calls.specs.Numbers.{breaksRules, fileNotFound}
 use Rattle.calls.specs.Refusals.{notOfKind, notSound, badName, fileFound, noFile, fileSlot}
-use Rattle.calls.specs.Ready.{OnVolume}
+use Rattle.calls.specs.Aids.Ready.{OnVolume}
 use Rattle.calls.specs.Laws.Ready.{known-passed, sound-passed, volume-past}
 use Rattle.calls.specs.Laws.Rows.{Stops, stops-at, stops-past}
 use Rattle.calls.specs.Laws.Files.{found-is}
@@ -26,7 +26,7 @@ pub record FileNamed (img s : List ℕ) (slot : ℕ) : Type 0 where
   pub good : badName s ≡ false
   pub found : fileFound img s ≡ At slot
 
-module _ (s : List ℕ) (g : Spelled) (given : g ≡ nameOf s) where
+module _ (s : List ℕ) (g : Spelled) (given : g ≡ nameGiven s) where
   -- 42
   pub name-stops : not (g .fits) ≡ true → (rows : List Row) → Stops ((badName s, breaksRules) ∷ rows) breaksRules
   name-stops h rows = stops-at (badName s) breaksRules rows (rw (← given) h) refl

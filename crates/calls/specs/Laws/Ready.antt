@@ -6,7 +6,7 @@ use mathlib.Core.List.{List, _∷_}
 use mathlib.Core.Path.{_≡_, refl, sym, ap, _∙_, subst}
 use lib.ListN.{length}
 use Rattle.diskette.specs.Images.{kindOfImage, OfKind}
-use Rattle.diskette.specs.Kinds.{Usable}
+use Rattle.diskette.specs.Aids.Usable.{Usable}
 use Rattle.diskette.specs.Places.{firstData}
 use Rattle.diskette.specs.Laws.Images.{image-of-kind, image-usable, image-has-area}
 use Rattle.diskette.specs.declared.Kind.{Kind}
@@ -14,20 +14,21 @@ use Rattle.diskette.specs.declared.WhichKind.{WhichKind}
 use Rattle.diskette.specs.declared.WhichKind.the-variants.{Known, Unknown}
 use Rattle.sound.specs.Answer.{AnswersBy, Checked}
 use Rattle.sound.specs.Findings.{TablesDiffer, BadValue, BadSlot, BadChain, InTwoChains, Lost}
-use Rattle.sound.specs.FromFinding.{Counted, FromLost, FromTwo, FromChains, FromSlots, FromValues}
+use Rattle.sound.specs.Aids.FromFinding.{Counted, FromLost, FromTwo, FromChains, FromSlots, FromValues}
 use Rattle.sound.specs.Laws.Answer.{check-answers}
 use Rattle.chains.specs.Verdict.{OrElse}
 use lib.Dec.{ltb}
 use mathlib.Core.Logic.{inl, inr}
 use Rattle.sound.specs.Counts.{freeOf}
-use Rattle.sound.specs.Judged.{checkOf, isSound, isSoundVerdict}
+use Rattle.sound.specs.Judged.{checkOf, isSound}
+use Rattle.sound.specs.Aids.Judged.{isSoundVerdict}
 use Rattle.sound.specs.Laws.OneAnswer.{checked-is}
 use Rattle.sound.specs.declared.Verdict.{Verdict}
 use Rattle.sound.specs.declared.Verdict.the-variants.{Sound, Finding}
 use Rattle.calls.specs.Outcome.{Row}
 use Rattle.calls.specs.Numbers.{ofNoKind, unsound}
 use Rattle.calls.specs.Refusals.{notOfKind, notSound, isUnknown, kindFound, theKind}
-use Rattle.calls.specs.Ready.{readyBy, readyOf, OnVolume}
+use Rattle.calls.specs.Aids.Ready.{readyBy, readyOf, OnVolume}
 use Rattle.calls.specs.Laws.Rows.{Stops, stops-at, stops-past}
 use Rattle.calls.specs.declared.Ready.{Ready}
 use Rattle.calls.specs.declared.Ready.the-variants.{Refused, Volume}

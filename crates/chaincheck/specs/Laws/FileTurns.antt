@@ -7,12 +7,13 @@ use mathlib.Core.Path.{_≡_, refl, sym, ap, subst, _∙_}
 use lib.ListN.{length}
 use mir.Syntax.{w64}
 use mir.Val.{Fits}
-use Rattle.chains.specs.Check.{ownsb}
-use Rattle.chains.specs.Holders.{nobody}
-use Rattle.chains.specs.Marks.{marks}
-use Rattle.chains.specs.Sizes.{Geometry, clustersFor}
+use Rattle.chains.specs.Aids.Check.{ownsb}
+use Rattle.chains.specs.Aids.Holders.{nobody}
+use Rattle.chains.specs.Aids.Marks.{marks}
+use Rattle.chains.specs.Sizes.{clustersFor}
+use Rattle.chains.specs.Aids.Sizes.{Geometry}
 use Rattle.chains.specs.Sums.{sum, tally}
-use Rattle.chains.specs.Verdict.{first}
+use Rattle.chains.specs.Aids.Verdict.{first}
 use Rattle.chains.specs.Laws.Check.{says-owned}
 use Rattle.chains.specs.Laws.Chain.{chain-length}
 use Rattle.chains.specs.Laws.Holders.{file-allows, nobody-owns}
@@ -24,12 +25,12 @@ use Rattle.chains.specs.Laws.TallyTurns.{tally-hit, tally-miss, tally-end}
 use Rattle.chains.specs.Laws.Tests.{says-true, true-says}
 use Rattle.table.specs.Entries.{tableOf}
 use Rattle.fields.specs.Fields.{startOf, sizeOf}
-use Rattle.directory.specs.Search.{slotFrom}
+use Rattle.diskette.specs.Places.{slotFrom}
 use Rattle.directory.specs.Slots.{standingOf, isPlain}
-use Rattle.walks.specs.Walks.{Tails}
-use Rattle.chaincheck.specs.Held.{plainSlot, heldBy}
-use Rattle.chaincheck.specs.Entries.{holderAt, badChainSlot, chainsOf}
-use Rattle.chaincheck.specs.Visits.{chainsFound, slotBy, slotFound, chainAt, SlotMarked, markedUnlessBad, SlotVisited, Underway, FilesVisited}
+use Rattle.walks.specs.Aids.Walks.{Tails}
+use Rattle.chaincheck.specs.Aids.Held.{plainSlot, heldSlot}
+use Rattle.chaincheck.specs.Aids.Entries.{holderAt, badChainSlot, chainsOf}
+use Rattle.chaincheck.specs.Aids.Visits.{chainsFound, slotBy, slotFound, chainAt, SlotMarked, markedUnlessBad, SlotVisited, Underway, FilesVisited}
 use Rattle.chaincheck.specs.Laws.SlotTurns.{holder-none, holder-file}
 use Rattle.chaincheck.specs.declared.Slot.{Slot}
 use Rattle.chaincheck.specs.declared.Slot.the-variants.{NoFile, Bad, Clusters}
@@ -116,8 +117,8 @@ module _ (last cb : ℕ) (l : List ℕ) (root s : ℕ) (low : last ≤ 4079) (wi
   unfolding badChainSlot
   bad-said = bad-by p o n nobody-good ∙ ap isBad slot-is
 
-  held-said : isBad g ≡ false → heldBy cb l root s ≡ holds g
-  unfolding heldBy plainSlot
+  held-said : isBad g ≡ false → heldSlot cb l root s ≡ holds g
+  unfolding heldSlot plainSlot
   held-said h = held-by p o n (ap isBad slot-is ∙ h) ∙ ap holds slot-is
 
   few-said : holds g ≤ 4096
@@ -148,7 +149,7 @@ module _ (last cb : ℕ) (l : List ℕ) (root count : ℕ) (m₀ : List ℕ) (s 
       let e : s ≡ count = omega (arith, u .within) in
       let x = first-end (badChainSlot last cb l root) count s (first (badChainSlot last cb l root) count 0) h (u .none-bad) in
       let y = tally-end (plainSlot l root) count s files (tally (plainSlot l root) count 0) h (u .files-are) in
-      let z : held ≡ sum count (heldBy cb l root) = u .held-is ∙ ap (λ (k : ℕ). sum k (heldBy cb l root)) e in
+      let z : held ≡ sum count (heldSlot cb l root) = u .held-is ∙ ap (λ (k : ℕ). sum k (heldSlot cb l root)) e in
       record {
         is = rw (sym x, sym y, sym z);
         marks-are = marks-end (chainAt last cb l) (slotFrom root) count s m (marks m₀ (chainsOf last cb l root count)) h (u .marks-are);
@@ -177,7 +178,7 @@ module _ (last cb : ℕ) (l : List ℕ) (root count : ℕ) (m₀ : List ℕ) (s 
       files-are = w;
       held-is =
           let e : s + 1 ≡ suc s = omega arith in
-          let q : sum (suc s) (heldBy cb l root) ≡ sum s (heldBy cb l root) + heldBy cb l root s = unfold sum in refl in
+          let q : sum (suc s) (heldSlot cb l root) ≡ sum s (heldSlot cb l root) + heldSlot cb l root s = unfold sum in refl in
           rw e (omega (arith, z, q, u .held-is, held-said last cb l root s low wide g (v .is) b));
       marks-are = marks-turn (chainAt last cb l) (slotFrom root) count s m m′ (marks m₀ (chainsOf last cb l root count)) h (x .marks-are) (u .marks-are);
       tails = x .tails;

@@ -7,9 +7,9 @@ use mathlib.Core.Option.{Option}
 use mathlib.Core.Path.{_≡_, refl, sym, ap}
 use lib.ListN.{getD}
 use borrow.Author.Tests.{eq-eqb, ne-eqb}
-use Rattle.chains.specs.Check.{inTwo, lost}
-use Rattle.chains.specs.Values.{endb, linkb}
-use Rattle.chains.specs.Verdict.{first}
+use Rattle.chains.specs.Aids.Check.{inTwo, lost}
+use Rattle.chains.specs.Values.{linkb, endb}
+use Rattle.chains.specs.Aids.Verdict.{first}
 use Rattle.search.specs.Laws.Theory.{optional}
 use Rattle.search.specs.declared.Found.the-variants.{At}
 use Rattle.values.specs.Values.{meaningOf}

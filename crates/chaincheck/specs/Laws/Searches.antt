@@ -3,7 +3,7 @@ use Prim.Native.Nat.{ℕ, _+_, _-_, _≤_, _<_}
 use mathlib.Core.Bool.{Bool, true, false}
 use mathlib.Core.Option.{Option}
 use mathlib.Core.Path.{_≡_, sym, _∙_}
-use Rattle.chains.specs.Verdict.{first}
+use Rattle.chains.specs.Aids.Verdict.{first}
 use Rattle.chains.specs.Laws.SearchTurns.{first-hit, first-miss, first-end}
 use Rattle.search.specs.Laws.Theory.{optional}
 use Rattle.search.specs.declared.Found.the-variants.{At, Nothing}

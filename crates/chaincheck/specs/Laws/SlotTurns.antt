@@ -7,11 +7,12 @@ use mathlib.Core.Logic.{_≢_}
 use mathlib.Core.Path.{_≡_, refl, sym, ap, subst, _∙_}
 use lib.ListN.{length}
 use borrow.Author.Tests.{eq-eqb}
-use Rattle.chains.specs.Chain.{Chain}
-use Rattle.chains.specs.Check.{chainOf, ownsb}
-use Rattle.chains.specs.Holders.{Holder, Owns, nobody, fileHolder}
-use Rattle.chains.specs.Marks.{marks}
-use Rattle.chains.specs.Sizes.{Geometry, clustersFor, fits}
+use Rattle.chains.specs.Aids.Chain.{Chain}
+use Rattle.chains.specs.Aids.Check.{chainOf, ownsb}
+use Rattle.chains.specs.Aids.Holders.{Holder, Owns, nobody, fileHolder}
+use Rattle.chains.specs.Aids.Marks.{marks}
+use Rattle.chains.specs.Sizes.{clustersFor}
+use Rattle.chains.specs.Aids.Sizes.{fits, Geometry}
 use Rattle.chains.specs.Laws.Chain.{chain-same}
 use Rattle.chains.specs.Laws.Check.{says-owned}
 use Rattle.chains.specs.Laws.Sizes.{fits-exact}
@@ -22,11 +23,11 @@ use Rattle.fields.specs.Fields.{startOf, sizeOf}
 use Rattle.directory.specs.Slots.{standingOf, isPlain}
 use Rattle.directory.specs.declared.Standing.{Standing}
 use Rattle.directory.specs.declared.Standing.the-variants.{NeverUsed, Erased, Label, Plain}
-use Rattle.walks.specs.Walks.{Tails, Chained, visitedBy, Visited}
+use Rattle.walks.specs.Aids.Walks.{Tails, Chained, visitedBy, Visited}
 use Rattle.walks.specs.declared.Length.{Length}
 use Rattle.walks.specs.declared.Length.the-variants.{Of, NoEnd}
-use Rattle.chaincheck.specs.Entries.{holderBy, holderAt}
-use Rattle.chaincheck.specs.Visits.{slotFound, chainAt, SlotVisited}
+use Rattle.chaincheck.specs.Aids.Entries.{holderBy, holderAt}
+use Rattle.chaincheck.specs.Aids.Visits.{slotFound, chainAt, SlotVisited}
 use Rattle.chaincheck.specs.declared.Slot.the-variants.{NoFile, Bad, Clusters}
 
 -- ---- who holds the chain

@@ -1,15 +1,16 @@
 -- A chain is one list, without repetition, no longer than the volume; and a table that agrees on its clusters has it too.
-use Prim.Native.Nat.{ℕ, _-_, _≤_, _<_}
+use Prim.Native.Nat.{ℕ, zero, suc, _+_, _-_, _≤_, _<_}
 use native.Mathlib.Omega.{arith}
 use native.Mathlib.Decide.{ℕ-discrete}
 use mathlib.Core.Path.{_≡_, refl, sym, ap, _∙_, subst}
 use mathlib.Core.Logic.{inl, inr}
 use mathlib.Core.List.{List, [], _∷_}
-use lib.ListN.{length}
-use Rattle.chains.specs.Lists.{Once, _∈_, occ}
-use Rattle.chains.specs.Sizes.{Geometry}
+use lib.ListN.{length, getD}
+use Rattle.chains.specs.Lists.{_∈_}
+use Rattle.chains.specs.Aids.Lists.{occ, Once}
+use Rattle.chains.specs.Aids.Sizes.{Geometry}
 use Rattle.chains.specs.Values.{Link, Used}
-use Rattle.chains.specs.Chain.{After, Chain, Leads}
+use Rattle.chains.specs.Aids.Chain.{Leads, After, Chain}
 use Rattle.chains.specs.Laws.Lists.{hit-cases, occ-mem}
 use Rattle.chains.specs.Laws.Sums.{pigeon}
 
@@ -90,3 +91,16 @@ after-frame G f g c cs h p = rw (h c (inl refl)) (leads-frame G f g (f c) cs (λ
 pub chain-frame : (G : Geometry) (f g : ℕ → ℕ) (c : ℕ) (cs : List ℕ) → ((a : ℕ) → a ∈ cs → g a ≡ f a) → Chain (G .last) f c cs → Chain (G .last) g c cs
 chain-frame G f g c [] h p = p
 chain-frame G f g c (x ∷ xs) h p = leads-frame G f g c (x ∷ xs) h p
+
+-- ---- each cluster but the last names the next
+
+pub one-more : (i : ℕ) → i + 1 ≡ suc i
+one-more i = omega arith
+
+pub leads-next : (last : ℕ) (f : ℕ → ℕ) (v : ℕ) (cs : List ℕ) → Leads last f v cs → (i : ℕ) → i + 1 < length cs → f (getD cs i 0) ≡ getD cs (i + 1) 0
+leads-next last f v [] p i h = absurd (omega arith)
+leads-next last f v (d ∷ []) p i h = absurd (omega arith)
+leads-next last f v (d ∷ (e ∷ es)) p zero h = p .2 .0
+leads-next last f v (d ∷ (e ∷ es)) p (suc i) h =
+    leads-next last f (f d) (e ∷ es) (p .2) i (omega arith)
+    ∙ ap (λ (x : ℕ). getD (e ∷ es) x 0) (one-more i) ∙ sym (ap (λ (x : ℕ). getD (d ∷ (e ∷ es)) x 0) (one-more (suc i)))

@@ -9,12 +9,15 @@ use mathlib.Core.List.{List, [], _++_}
 use lib.ListN.{length, take, length-append}
 use lib.Seq.{length-take-le}
 use Rattle.chains.specs.Put.{put}
-use Rattle.chains.specs.Lists.{Once, occ, startOf}
-use Rattle.chains.specs.Sizes.{Geometry, clustersFor}
-use Rattle.chains.specs.Holders.{Holder, Owns, Sound, fileHolder}
-use Rattle.chains.specs.Replace.{Replaced}
-use Rattle.chains.specs.Free.{Takable, freeClusters}
-use Rattle.chains.specs.Growth.{extended, lacking, longerChain, longerTable, released}
+use Rattle.chains.specs.Lists.{headOf}
+use Rattle.chains.specs.Aids.Lists.{occ, Once}
+use Rattle.chains.specs.Sizes.{clustersFor, lacking}
+use Rattle.chains.specs.Aids.Sizes.{Geometry}
+use Rattle.chains.specs.Aids.Holders.{Holder, Owns, FitTogether, fileHolder}
+use Rattle.chains.specs.Aids.Replace.{Replaced}
+use Rattle.chains.specs.Free.{freeClusters}
+use Rattle.chains.specs.Aids.Free.{Takable}
+use Rattle.chains.specs.Aids.Growth.{extended, longerChain, longerTable, released}
 use Rattle.chains.specs.Laws.Lists.{dec-mem, mem-append, mem-left, mem-right, occ-append, occ-not}
 use Rattle.chains.specs.Laws.Sizes.{clusters-hold, clusters-least, fits-empty, fits-grows}
 use Rattle.chains.specs.Laws.Values.{free-no-use}
@@ -23,9 +26,9 @@ use Rattle.chains.specs.Laws.Replace.{replace}
 use Rattle.chains.specs.Laws.Free.{lowest-takable}
 use Rattle.chains.specs.Laws.Growth.{extended-chain, extended-out, released-in, released-out}
 
-module _ (G : Geometry) (f : ℕ → ℕ) (h : ℕ → Holder) (χ : ℕ → List ℕ) (v : Sound (G .last) f h χ) (i : ℕ) where
+module _ (G : Geometry) (f : ℕ → ℕ) (h : ℕ → Holder) (χ : ℕ → List ℕ) (v : FitTogether (G .last) f h χ) (i : ℕ) where
   -- the chain grows by any clusters that may be taken
-  pub grows : (new : List ℕ) → Takable (G .last) f new → (holder : Holder) → holder .start ≡ startOf (χ i ++ new) → holder .allows (length (χ i) + length new) ≡ true
+  pub grows : (new : List ℕ) → Takable (G .last) f new → (holder : Holder) → holder .start ≡ headOf (χ i ++ new) → holder .allows (length (χ i) + length new) ≡ true
       → Replaced (G .last) f (extended f (χ i) new) holder (χ i) (χ i ++ new)
   grows new t holder st fit = record {
     owns = record {
@@ -55,7 +58,7 @@ module _ (G : Geometry) (f : ℕ → ℕ) (h : ℕ → Holder) (χ : ℕ → Lis
   }
 
   -- the holder becomes a file without bytes
-  pub emptied : Sound (G .last) (released f (χ i)) (put h i (fileHolder (G .cb) 0 0)) (put χ i [])
+  pub emptied : FitTogether (G .last) (released f (χ i)) (put h i (fileHolder (G .cb) 0 0)) (put χ i [])
   emptied = replace G f (released f (χ i)) h χ v i (fileHolder (G .cb) 0 0) [] (gives-back (fileHolder (G .cb) 0 0) (record { chain = refl; long = fits-empty (G .cb) (G .wide) }))
 
   -- the holder changes and keeps its clusters
@@ -64,7 +67,7 @@ module _ (G : Geometry) (f : ℕ → ℕ) (h : ℕ → Holder) (χ : ℕ → Lis
 
 -- ---- a file of sz bytes gets the size n, and the lowest free clusters that it lacks
 
-module _ (G : Geometry) (f : ℕ → ℕ) (h : ℕ → Holder) (χ : ℕ → List ℕ) (v : Sound (G .last) f h χ) (i st sz : ℕ) (is : h i ≡ fileHolder (G .cb) st sz) (n : ℕ) (le : sz ≤ n)
+module _ (G : Geometry) (f : ℕ → ℕ) (h : ℕ → Holder) (χ : ℕ → List ℕ) (v : FitTogether (G .last) f h χ) (i st sz : ℕ) (is : h i ≡ fileHolder (G .cb) st sz) (n : ℕ) (le : sz ≤ n)
     (room : n ≤ (length (χ i) + length (freeClusters (G .last) f)) * G .cb) where
   abbrev chain′ : List ℕ
   chain′ = longerChain (G .last) (G .cb) f (χ i) n
@@ -79,9 +82,9 @@ module _ (G : Geometry) (f : ℕ → ℕ) (h : ℕ → Holder) (χ : ℕ → Lis
       let k : lacking (G .cb) (χ i) n ≤ length (freeClusters (G .last) f) = omega (arith, clusters-least (G .cb) (G .wide) n (length (χ i) + length (freeClusters (G .last) f)) room) in
       omega (arith, length-take-le (lacking (G .cb) (χ i) n) (freeClusters (G .last) f) k)
 
-  pub file-grows : Replaced (G .last) f (longerTable (G .last) (G .cb) f (χ i) n) (fileHolder (G .cb) (startOf chain′) n) (χ i) chain′
+  pub file-grows : Replaced (G .last) f (longerTable (G .last) (G .cb) f (χ i) n) (fileHolder (G .cb) (headOf chain′) n) (χ i) chain′
   unfolding longerChain longerTable
-  file-grows = grows G f h χ v i new (lowest-takable G f (lacking (G .cb) (χ i) n)) (fileHolder (G .cb) (startOf (χ i ++ new)) n) refl
+  file-grows = grows G f h χ v i new (lowest-takable G f (lacking (G .cb) (χ i) n)) (fileHolder (G .cb) (headOf (χ i ++ new)) n) refl
       (rw new-length (fits-grows (G .cb) (G .wide) sz (length (χ i)) n (file-allows (G .last) (G .cb) f (h i) (χ i) st sz is (v .owns i)) le))
 
   pub longer-length : length chain′ ≡ max (length (χ i)) (clustersFor (G .cb) n)

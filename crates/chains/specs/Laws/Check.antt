@@ -8,16 +8,17 @@ use mathlib.Core.Option.{Option, none, some}
 use mathlib.Core.List.{List, [], _∷_}
 use lib.Dec.{ltb}
 use lib.ListN.{length, getD}
-use Rattle.chains.specs.Tests.{Says, aye, nay}
-use Rattle.chains.specs.Lists.{InTwoOf, Once, _∈_, joined}
-use Rattle.chains.specs.Sizes.{Geometry}
+use Rattle.chains.specs.Aids.Tests.{Says, aye, nay}
+use Rattle.chains.specs.Lists.{_∈_}
+use Rattle.chains.specs.Aids.Lists.{Once, joined, InTwoOf}
+use Rattle.chains.specs.Aids.Sizes.{Geometry}
 use Rattle.chains.specs.Values.{Link}
-use Rattle.chains.specs.Walk.{walk}
-use Rattle.chains.specs.Holders.{Holder, Owns}
-use Rattle.chains.specs.Marks.{marksOf}
-use Rattle.chains.specs.Verdict.{Found, first}
-use Rattle.chains.specs.Findings.{BadValue, InChain, InTwo, Lost, holdersOf}
-use Rattle.chains.specs.Check.{badValue, chainMarks, chainOf, inTwo, lost, ownsb}
+use Rattle.chains.specs.Aids.Walk.{walk}
+use Rattle.chains.specs.Aids.Holders.{Holder, Owns}
+use Rattle.chains.specs.Aids.Marks.{marksOf}
+use Rattle.chains.specs.Aids.Verdict.{Found, first}
+use Rattle.chains.specs.Aids.Findings.{BadValue, InChain, InTwo, Lost, holdersOf}
+use Rattle.chains.specs.Aids.Check.{badValue, chainMarks, chainOf, inTwo, lost, ownsb}
 use Rattle.chains.specs.Laws.Tests.{clash, says-and, says-eq, says-map, says-not, says-or}
 use Rattle.chains.specs.Laws.Lists.{joined-mem, mem-joined}
 use Rattle.chains.specs.Laws.Values.{says-end, says-link, says-valid}

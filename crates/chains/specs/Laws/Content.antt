@@ -8,16 +8,18 @@ use mathlib.Core.Logic.{inl, inr}
 use mathlib.Core.List.{List, [], _∷_, _++_}
 use lib.ListN.{length, getD, drop, length-append, length-drop, List·getD-append}
 use lib.Seq.{getD-take, getD-drop, getD-append-add, length-take-le}
-use Rattle.chains.specs.Lists.{Once, _∈_}
-use Rattle.chains.specs.Sizes.{Geometry}
+use Rattle.chains.specs.Lists.{_∈_}
+use Rattle.chains.specs.Aids.Lists.{Once}
+use Rattle.chains.specs.Aids.Sizes.{Geometry}
 use Rattle.chains.specs.Values.{Link}
-use Rattle.chains.specs.Content.{Room, byteAt, chainBytes, clusterAt, clusterBytes, content}
+use Rattle.chains.specs.Content.{byteAt, chainBytes, clusterBegin, bytesOfCluster, content}
+use Rattle.chains.specs.Aids.Content.{Room}
 use Rattle.chains.specs.Laws.Lists.{index-mem, index-same}
 
 module _ (base cb : ℕ) (wide : 0 < cb) where
   -- bytes of clusters that lie at one place are the same byte
-  pub cluster-same : (c d x y : ℕ) → 2 ≤ c → 2 ≤ d → x < cb → y < cb → clusterAt base cb c + x ≡ clusterAt base cb d + y → (c ≡ d) × (x ≡ y)
-  unfolding clusterAt
+  pub cluster-same : (c d x y : ℕ) → 2 ≤ c → 2 ≤ d → x < cb → y < cb → clusterBegin base cb c + x ≡ clusterBegin base cb d + y → (c ≡ d) × (x ≡ y)
+  unfolding clusterBegin
   cluster-same c d x y k l i j e =
       let q : (c - 2) * cb + x ≡ (d - 2) * cb + y = omega arith in
       let a : c - 2 ≡ d - 2 =
@@ -49,15 +51,15 @@ module _ (base cb : ℕ) (wide : 0 < cb) where
 
   -- ---- the bytes of a cluster, of a chain, of a file, one by one
 
-  cluster-bytes-length : (img : List ℕ) (c : ℕ) → clusterAt base cb c + cb ≤ length img → length (clusterBytes base cb img c) ≡ cb
-  unfolding clusterBytes
-  cluster-bytes-length img c h = length-take-le cb (drop (clusterAt base cb c) img) (omega (arith, length-drop (clusterAt base cb c) img))
+  cluster-bytes-length : (img : List ℕ) (c : ℕ) → clusterBegin base cb c + cb ≤ length img → length (bytesOfCluster base cb img c) ≡ cb
+  unfolding bytesOfCluster
+  cluster-bytes-length img c h = length-take-le cb (drop (clusterBegin base cb c) img) (omega (arith, length-drop (clusterBegin base cb c) img))
 
-  cluster-bytes-at : (img : List ℕ) (c i : ℕ) → i < cb → getD (clusterBytes base cb img c) i 0 ≡ getD img (clusterAt base cb c + i) 0
-  unfolding clusterBytes
-  cluster-bytes-at img c i l = getD-take cb (drop (clusterAt base cb c) img) i 0 l ∙ getD-drop (clusterAt base cb c) img i 0
+  cluster-bytes-at : (img : List ℕ) (c i : ℕ) → i < cb → getD (bytesOfCluster base cb img c) i 0 ≡ getD img (clusterBegin base cb c + i) 0
+  unfolding bytesOfCluster
+  cluster-bytes-at img c i l = getD-take cb (drop (clusterBegin base cb c) img) i 0 l ∙ getD-drop (clusterBegin base cb c) img i 0
 
-  byte-first : (c : ℕ) (cs : List ℕ) (p : ℕ) → p < cb → byteAt base cb (c ∷ cs) p ≡ clusterAt base cb c + p
+  byte-first : (c : ℕ) (cs : List ℕ) (p : ℕ) → p < cb → byteAt base cb (c ∷ cs) p ≡ clusterBegin base cb c + p
   unfolding byteAt
   byte-first c cs p l = rw (div-eq-of-lt l, mod-eq-of-lt l)
 
@@ -71,20 +73,20 @@ module _ (base cb : ℕ) (wide : 0 < cb) where
   unfolding chainBytes
   chain-bytes-length img [] r = omega arith
   chain-bytes-length img (c ∷ cs) r =
-      omega (arith, length-append (clusterBytes base cb img c) (chainBytes base cb img cs), cluster-bytes-length img c (r c (inl refl) .1), chain-bytes-length img cs (λ a m. r a (inr m)))
+      omega (arith, length-append (bytesOfCluster base cb img c) (chainBytes base cb img cs), cluster-bytes-length img c (r c (inl refl) .1), chain-bytes-length img cs (λ a m. r a (inr m)))
 
   pub chain-bytes-at : (img cs : List ℕ) → Room base cb img cs → (p : ℕ) → p < length cs * cb → getD (chainBytes base cb img cs) p 0 ≡ getD img (byteAt base cb cs p) 0
   unfolding chainBytes
   chain-bytes-at img [] r p l = absurd (omega arith)
   chain-bytes-at img (c ∷ cs) r p l = elim (decLt p cb) [
     | yes h ↦
-        List·getD-append (clusterBytes base cb img c) (chainBytes base cb img cs) 0 p (omega (arith, cluster-bytes-length img c (r c (inl refl) .1)))
+        List·getD-append (bytesOfCluster base cb img c) (chainBytes base cb img cs) 0 p (omega (arith, cluster-bytes-length img c (r c (inl refl) .1)))
         ∙ cluster-bytes-at img c p h ∙ ap (λ (x : ℕ). getD img x 0) (sym (byte-first c cs p h))
     | no n ↦
-        let q : p ≡ length (clusterBytes base cb img c) + (p - cb) = omega (arith, cluster-bytes-length img c (r c (inl refl) .1)) in
+        let q : p ≡ length (bytesOfCluster base cb img c) + (p - cb) = omega (arith, cluster-bytes-length img c (r c (inl refl) .1)) in
         let z : p ≡ (p - cb) + cb = omega arith in
-        ap (λ (x : ℕ). getD (clusterBytes base cb img c ++ chainBytes base cb img cs) x 0) q
-        ∙ getD-append-add (clusterBytes base cb img c) (chainBytes base cb img cs) (p - cb) 0
+        ap (λ (x : ℕ). getD (bytesOfCluster base cb img c ++ chainBytes base cb img cs) x 0) q
+        ∙ getD-append-add (bytesOfCluster base cb img c) (chainBytes base cb img cs) (p - cb) 0
         ∙ chain-bytes-at img cs (λ a m. r a (inr m)) (p - cb) (omega arith)
         ∙ ap (λ (x : ℕ). getD img x 0) (sym (byte-next c cs (p - cb)) ∙ ap (byteAt base cb (c ∷ cs)) (sym z))
   ]
@@ -94,14 +96,14 @@ module _ (base cb : ℕ) (wide : 0 < cb) where
   byte-inside img cs r p l = omega (arith, r (getD cs (p / cb) 0) (index-mem cs (p / cb) (index-lt cs p l)) .1, mod-lt p wide)
 
   -- the places lie in the clusters 2 .. last
-  pub cluster-high : (G : Geometry) (c : ℕ) → Link (G .last) c → clusterAt base cb c + cb ≤ base + (G .last - 1) * cb
-  unfolding clusterAt
+  pub cluster-high : (G : Geometry) (c : ℕ) → Link (G .last) c → clusterBegin base cb c + cb ≤ base + (G .last - 1) * cb
+  unfolding clusterBegin
   cluster-high G c l =
       let e : (c - 2) + 1 ≤ G .last - 1 = omega arith in
       omega (arith, mul-le-mul-right cb e)
 
   pub byte-low : (cs : List ℕ) (p : ℕ) → base ≤ byteAt base cb cs p
-  unfolding byteAt clusterAt
+  unfolding byteAt clusterBegin
   byte-low cs p = omega arith
 
   pub content-length : (img cs : List ℕ) (size : ℕ) → Room base cb img cs → size ≤ length cs * cb → length (content base cb img cs size) ≡ size

@@ -7,19 +7,21 @@ use mathlib.Core.Bool.{true}
 use mathlib.Core.List.{List, [], _∷_}
 use lib.ListN.{length}
 use borrow.Author.Tests.{eqb-true}
-use Rattle.chains.specs.Tests.{bit}
-use Rattle.chains.specs.Lists.{_∈_, joined, occ}
-use Rattle.chains.specs.Sums.{sum, sumClusters, sumOver}
-use Rattle.chains.specs.Sizes.{Geometry, clustersFor}
+use Rattle.chains.specs.Lists.{_∈_}
+use Rattle.chains.specs.Aids.Lists.{occ, joined}
+use Rattle.chains.specs.Sums.{sum, bit}
+use Rattle.chains.specs.Aids.Sums.{sumOver, sumClusters}
+use Rattle.chains.specs.Sizes.{clustersFor}
+use Rattle.chains.specs.Aids.Sizes.{Geometry}
 use Rattle.chains.specs.Values.{Link, Used, Valid, aside, asideCount, asideb, free, freeCount, freeb, used}
-use Rattle.chains.specs.Holders.{Holder, Names, Sound, fileHolder, nobody}
+use Rattle.chains.specs.Aids.Holders.{Holder, NamesAll, FitTogether, fileHolder, nobody}
 use Rattle.chains.specs.Laws.Lists.{joined-mem, mem-joined, mem-occ, occ-not}
 use Rattle.chains.specs.Laws.Sums.{joined-length, occ-clusters, sum-add, sum-cong, sum-one}
 use Rattle.chains.specs.Laws.Sizes.{clusters-zero, fits-exact}
 use Rattle.chains.specs.Laws.Values.{aside-one, aside-sum, free-no-aside, free-no-use, free-none, free-one, free-sum, used-no-aside, used-no-free}
 use Rattle.chains.specs.Laws.Holders.{in-range, in-use, joined-once}
 
-module _ (G : Geometry) (f : ℕ → ℕ) (h : ℕ → Holder) (χ : ℕ → List ℕ) (v : Sound (G .last) f h χ) (is : List ℕ) (l : Names χ is) where
+module _ (G : Geometry) (f : ℕ → ℕ) (h : ℕ → Holder) (χ : ℕ → List ℕ) (v : FitTogether (G .last) f h χ) (is : List ℕ) (l : NamesAll χ is) where
   in-one : (c : ℕ) → Link (G .last) c → Used (G .last) (f c) → occ c (joined χ is) ≡ 1
   in-one c i u =
       let r = v .cover c i u in
@@ -48,7 +50,7 @@ module _ (G : Geometry) (f : ℕ → ℕ) (h : ℕ → Holder) (χ : ℕ → Lis
       omega (arith, e, sum-one (G .last - 1), sum-add (G .last - 1) a (λ i. t i + b i), sum-add (G .last - 1) t b, o, joined-length χ is, free-sum (G .last) f, aside-sum (G .last) f)
 
 -- "Held is the sum over files of size divided by cluster bytes, rounded up": where every length is what the size asks for, the sum of the lengths is that sum
-pub held-sizes : (last cb : ℕ) (f : ℕ → ℕ) (h : ℕ → Holder) (χ : ℕ → List ℕ) → Sound last f h χ → (size : ℕ → ℕ) (is : List ℕ)
+pub held-sizes : (last cb : ℕ) (f : ℕ → ℕ) (h : ℕ → Holder) (χ : ℕ → List ℕ) → FitTogether last f h χ → (size : ℕ → ℕ) (is : List ℕ)
     → ((i k : ℕ) → i ∈ is → h i .allows k ≡ true → k ≡ clustersFor cb (size i)) → sumOver is (λ i. length (χ i)) ≡ sumOver is (λ i. clustersFor cb (size i))
 unfolding sumOver
 held-sizes last cb f h χ v size [] e = refl

@@ -6,12 +6,14 @@ use mathlib.Core.Bool.{Bool}
 use mathlib.Core.Option.{Option}
 use mathlib.Core.List.{List, []}
 use lib.Dec.{ltb}
-use Rattle.chains.specs.Lists.{Once, _∈_, joined}
-use Rattle.chains.specs.Sizes.{Geometry}
-use Rattle.chains.specs.Holders.{Holder, Owns, Sound, nobody}
-use Rattle.chains.specs.Verdict.{Found, None}
-use Rattle.chains.specs.Findings.{BadChain, BadValue, FromChains, FromLost, FromTwo, InChain, InTwo, Lost, Voice, holdersOf}
-use Rattle.chains.specs.Check.{chainMarks, chainOf, checkChains, checkLost, checkTwo, inTwo, lost}
+use Rattle.chains.specs.Lists.{_∈_}
+use Rattle.chains.specs.Aids.Lists.{Once, joined}
+use Rattle.chains.specs.Aids.Sizes.{Geometry}
+use Rattle.chains.specs.Aids.Holders.{Holder, Owns, FitTogether, nobody}
+use Rattle.chains.specs.Verdict.{None}
+use Rattle.chains.specs.Aids.Verdict.{Found}
+use Rattle.chains.specs.Aids.Findings.{BadChain, BadValue, FromChains, FromLost, FromTwo, InChain, InTwo, Lost, Voice, holdersOf}
+use Rattle.chains.specs.Aids.Check.{chainMarks, chainOf, checkChains, checkLost, checkTwo, inTwo, lost}
 use Rattle.chains.specs.Laws.Tests.{says-dec}
 use Rattle.chains.specs.Laws.Lists.{dec-mem, joined-mem, mem-joined}
 use Rattle.chains.specs.Laws.Values.{says-valid}
@@ -51,7 +53,7 @@ module _ {P A : Type 0} (before : P → P → Bool) (G : Geometry) (f : ℕ → 
     outside : (i : ℕ) → ¬ (i ∈ is) → χ i ≡ []
     outside i n = rw (out i n) (sym (owns-chain-of G f nobody [] (nobody-owns G f)))
 
-    pub none-sound : None (BadValue (G .last) f) → None (BadChain (G .last) f h es) → None (InTwo (G .last) f h is) → None (Lost (G .last) f h is) → Sound (G .last) f h χ
+    pub none-sound : None (BadValue (G .last) f) → None (BadChain (G .last) f h es) → None (InTwo (G .last) f h is) → None (Lost (G .last) f h is) → FitTogether (G .last) f h χ
     none-sound n3 n5 n6 n7 = record {
       valid = λ c l. elim (says-dec (says-valid (G .last) (f c))) [ yes x ↦ x | no x ↦ absurd (n3 c (l, x)) ];
       owns = whole;
@@ -76,6 +78,6 @@ module _ {P A : Type 0} (before : P → P → Bool) (G : Geometry) (f : ℕ → 
 
     -- ---- and sound is fine
 
-    module _ (χ′ : ℕ → List ℕ) (v : Sound (G .last) f h χ′) where
+    module _ (χ′ : ℕ → List ℕ) (v : FitTogether (G .last) f h χ′) where
       of : (i c : ℕ) → InChain (G .last) f h i c → c ∈ χ′ i
       of i c r = subst (λ (ds : List ℕ). c ∈ ds) (owns-same G f (h i) (r .0) (χ′ i) (r .1) (v .owns i)) (r .2)

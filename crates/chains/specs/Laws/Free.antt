@@ -8,11 +8,14 @@ use mathlib.Core.List.{List, [], _∷_}
 use lib.ListN.{length, take}
 use borrow.Author.Tests.{eq-eqb, ne-eqb}
 use Rattle.chains.specs.Put.{put}
-use Rattle.chains.specs.Lists.{Once, _∈_, occ}
+use Rattle.chains.specs.Lists.{_∈_}
+use Rattle.chains.specs.Aids.Lists.{occ, Once}
 use Rattle.chains.specs.Sums.{tally}
-use Rattle.chains.specs.Sizes.{Geometry}
-use Rattle.chains.specs.Values.{Link, freeAt, freeCount}
-use Rattle.chains.specs.Free.{Takable, freeClusters, freeFrom}
+use Rattle.chains.specs.Aids.Sizes.{Geometry}
+use Rattle.chains.specs.Values.{Link, freeCount}
+use Rattle.chains.specs.Aids.Values.{freeAt}
+use Rattle.chains.specs.Free.{freeClusters, freeFrom}
+use Rattle.chains.specs.Aids.Free.{Takable}
 use Rattle.chains.specs.Laws.Put.{put-other, put-same}
 use Rattle.chains.specs.Laws.Lists.{hit-cases, mem-take, occ-not, occ-take}
 use Rattle.chains.specs.Laws.Values.{free-none, free-one}
@@ -77,7 +80,7 @@ from-length f (suc n) c = elim (ℕ-discrete (f c) 0) [
 ]
 
 pub free-length : (G : Geometry) (f : ℕ → ℕ) → length (freeClusters (G .last) f) ≡ freeCount (G .last) f
-unfolding freeClusters freeCount
+unfolding freeClusters freeCount freeAt
 free-length G f = from-length f (G .last - 1) 2
 
 -- ---- the lowest free cluster is the head, and taking it leaves the rest

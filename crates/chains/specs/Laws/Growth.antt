@@ -5,11 +5,12 @@ use mathlib.Core.Path.{_≡_, refl, _∙_}
 use mathlib.Core.Logic.{inl, inr}
 use mathlib.Core.List.{List, [], _∷_, _++_, append-nil}
 use Rattle.chains.specs.Put.{put}
-use Rattle.chains.specs.Lists.{Once, _∈_, lastOf, startOf}
-use Rattle.chains.specs.Sizes.{Geometry}
+use Rattle.chains.specs.Lists.{_∈_, lastOf, headOf}
+use Rattle.chains.specs.Aids.Lists.{Once}
+use Rattle.chains.specs.Aids.Sizes.{Geometry}
 use Rattle.chains.specs.Values.{Link}
-use Rattle.chains.specs.Chain.{After, Chain}
-use Rattle.chains.specs.Growth.{extended, laid, released}
+use Rattle.chains.specs.Aids.Chain.{After, Chain}
+use Rattle.chains.specs.Aids.Growth.{extended, laid, released}
 use Rattle.chains.specs.Laws.Put.{put-cases, put-other, put-same}
 use Rattle.chains.specs.Laws.Lists.{last-mem, mem-left, mem-right, once-head, once-tail}
 use Rattle.chains.specs.Laws.Chain.{after-frame}
@@ -56,7 +57,7 @@ extended-out f (c ∷ cs) (n ∷ ns) a p q = laid-other f (lastOf c cs) (n ∷ n
 ])
 
 pub extended-chain : (G : Geometry) (f : ℕ → ℕ) (c : ℕ) (cs new : List ℕ) → Chain (G .last) f c cs → ((a : ℕ) → a ∈ new → Link (G .last) a) → Once (cs ++ new)
-    → Chain (G .last) (extended f cs new) (startOf (cs ++ new)) (cs ++ new)
+    → Chain (G .last) (extended f cs new) (headOf (cs ++ new)) (cs ++ new)
 unfolding extended
 extended-chain G f c [] [] p r o = refl
 extended-chain G f c [] (n ∷ ns) p r o = (refl, r n (inl refl), laid-after G f n ns (λ a m. r a (inr m)) o)

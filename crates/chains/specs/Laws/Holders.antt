@@ -7,10 +7,12 @@ use mathlib.Core.Bool.{true}
 use mathlib.Core.List.{List, [], _∷_}
 use lib.ListN.{length}
 use borrow.Author.Tests.{eq-eqb}
-use Rattle.chains.specs.Lists.{Once, _∈_, joined, occ}
-use Rattle.chains.specs.Sizes.{Geometry, clustersFor, fits}
+use Rattle.chains.specs.Lists.{_∈_}
+use Rattle.chains.specs.Aids.Lists.{occ, Once, joined}
+use Rattle.chains.specs.Sizes.{clustersFor}
+use Rattle.chains.specs.Aids.Sizes.{fits, Geometry}
 use Rattle.chains.specs.Values.{Link, Used}
-use Rattle.chains.specs.Holders.{Holder, Names, Owns, Sound, fileHolder, nobody}
+use Rattle.chains.specs.Aids.Holders.{Holder, NamesAll, Owns, FitTogether, fileHolder, nobody}
 use Rattle.chains.specs.Laws.Lists.{dec-mem, hit-same, mem-joined, mem-occ, occ-append, occ-not}
 use Rattle.chains.specs.Laws.Sizes.{clusters-hold, fits-least}
 use Rattle.chains.specs.Laws.Chain.{chain-mem, chain-once, chain-same}
@@ -37,7 +39,7 @@ file-fits G f h cs st sz is o =
 
 -- ---- the lists of a sound family
 
-module _ (G : Geometry) (f : ℕ → ℕ) (h : ℕ → Holder) (χ : ℕ → List ℕ) (v : Sound (G .last) f h χ) where
+module _ (G : Geometry) (f : ℕ → ℕ) (h : ℕ → Holder) (χ : ℕ → List ℕ) (v : FitTogether (G .last) f h χ) where
   pub once : (i : ℕ) → Once (χ i)
   once i c = chain-once G f (h i .start) (χ i) (v .owns i .chain) c
 
@@ -65,5 +67,5 @@ module _ (G : Geometry) (f : ℕ → ℕ) (h : ℕ → Holder) (χ : ℕ → Lis
   pub sound-listed : (is : List ℕ) → ((i : ℕ) → ¬ (i ∈ is) → h i ≡ nobody) → (i c : ℕ) → c ∈ χ i → i ∈ is
   sound-listed is out i c m = elim (dec-mem i is) [ yes q ↦ q | no k ↦ absurd (rw (owns-nobody G f (h i) (χ i) (out i k) (v .owns i)) at m) ]
 
-  pub sound-names : (is : List ℕ) → ((i : ℕ) → ¬ (i ∈ is) → h i ≡ nobody) → Once is → Names χ is
+  pub sound-names : (is : List ℕ) → ((i : ℕ) → ¬ (i ∈ is) → h i ≡ nobody) → Once is → NamesAll χ is
   sound-names is out e = record { each = e; all = sound-listed is out }

@@ -7,8 +7,9 @@ use mathlib.Core.Logic.{_≢_, _⊎_, inl, inr}
 use mathlib.Core.List.{List, [], _∷_, _++_}
 use lib.ListN.{length, getD, take}
 use borrow.Author.Tests.{eq-eqb, ne-eqb}
-use Rattle.chains.specs.Tests.{bit}
-use Rattle.chains.specs.Lists.{Once, _∈_, hit, joined, lastOf, occ}
+use Rattle.chains.specs.Sums.{bit}
+use Rattle.chains.specs.Lists.{_∈_, lastOf}
+use Rattle.chains.specs.Aids.Lists.{hit, occ, Once, joined}
 
 pub hit-same : (a x : ℕ) → a ≡ x → hit a x ≡ 1
 unfolding hit

@@ -6,8 +6,9 @@ use mathlib.Core.Logic.{_↔_, inl, inr}
 use mathlib.Core.List.{List, [], _∷_, _++_}
 use lib.ListN.{length, getD, set, replicate, length-set, length-replicate, getD-replicate}
 use lib.Seq.{getD-set-same, getD-set-other, set-getD}
-use Rattle.chains.specs.Lists.{InTwoOf, Once, _∈_, hit, joined, occ}
-use Rattle.chains.specs.Marks.{mark, marks, marksOf}
+use Rattle.chains.specs.Lists.{_∈_}
+use Rattle.chains.specs.Aids.Lists.{hit, occ, Once, joined, InTwoOf}
+use Rattle.chains.specs.Aids.Marks.{mark, marks, marksOf}
 use Rattle.chains.specs.Laws.Lists.{dec-mem, hit-cases, hit-same, joined-mem, mem-joined, mem-occ, occ-append, occ-mem, occ-not, once-head, once-tail}
 
 pub mark-length : (m : List ℕ) (c : ℕ) → length (mark m c) ≡ length m

@@ -5,18 +5,18 @@ use mathlib.Core.Logic.{_≢_, inl, inr}
 use mathlib.Core.List.{List}
 use Rattle.chains.specs.Put.{put}
 use Rattle.chains.specs.Lists.{_∈_}
-use Rattle.chains.specs.Sizes.{Geometry}
+use Rattle.chains.specs.Aids.Sizes.{Geometry}
 use Rattle.chains.specs.Values.{Link, Used, Valid, free, used}
-use Rattle.chains.specs.Chain.{Chain}
-use Rattle.chains.specs.Holders.{Holder, Sound}
-use Rattle.chains.specs.Replace.{Replaced}
+use Rattle.chains.specs.Aids.Chain.{Chain}
+use Rattle.chains.specs.Aids.Holders.{Holder, FitTogether}
+use Rattle.chains.specs.Aids.Replace.{Replaced}
 use Rattle.chains.specs.Laws.Put.{put-cases, put-other, put-same}
 use Rattle.chains.specs.Laws.Lists.{dec-mem}
 use Rattle.chains.specs.Laws.Values.{free-no-use}
 use Rattle.chains.specs.Laws.Chain.{chain-frame, chain-mem}
 use Rattle.chains.specs.Laws.Holders.{in-range, in-use}
 
-module _ (G : Geometry) (f g : ℕ → ℕ) (h : ℕ → Holder) (χ : ℕ → List ℕ) (v : Sound (G .last) f h χ) (i : ℕ) (new : Holder) (ds : List ℕ) (r : Replaced (G .last) f g new (χ i) ds) where
+module _ (G : Geometry) (f g : ℕ → ℕ) (h : ℕ → Holder) (χ : ℕ → List ℕ) (v : FitTogether (G .last) f h χ) (i : ℕ) (new : Holder) (ds : List ℕ) (r : Replaced (G .last) f g new (χ i) ds) where
   -- a chain of another holder has no cluster of the new list
   pub foreign : (t c : ℕ) → t ≢ i → c ∈ χ t → ¬ (c ∈ ds)
   foreign t c n m d = elim (r .taken c d) [
@@ -63,7 +63,7 @@ module _ (G : Geometry) (f g : ℕ → ℕ) (h : ℕ → Holder) (χ : ℕ → L
   ]
 
   -- the new family may be any that is new at i and as before elsewhere
-  pub replaced : (h′ : ℕ → Holder) → h′ i ≡ new → ((t : ℕ) → t ≢ i → h′ t ≡ h t) → Sound (G .last) g h′ (put χ i ds)
+  pub replaced : (h′ : ℕ → Holder) → h′ i ≡ new → ((t : ℕ) → t ≢ i → h′ t ≡ h t) → FitTogether (G .last) g h′ (put χ i ds)
   replaced h′ here there = record {
     valid = new-valid;
     owns = λ t. elim (put-cases χ i ds t) [
@@ -74,5 +74,5 @@ module _ (G : Geometry) (f g : ℕ → ℕ) (h : ℕ → Holder) (χ : ℕ → L
     cover = new-cover;
   }
 
-  pub replace : Sound (G .last) g (put h i new) (put χ i ds)
+  pub replace : FitTogether (G .last) g (put h i new) (put χ i ds)
   replace = replaced (put h i new) (put-same h i new i refl) (λ t n. put-other h i new t n)

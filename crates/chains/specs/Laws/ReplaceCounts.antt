@@ -5,20 +5,21 @@ use mathlib.Core.Path.{_≡_, sym, ap, _∙_}
 use mathlib.Core.Logic.{inl, inr}
 use mathlib.Core.List.{List}
 use lib.ListN.{length}
-use Rattle.chains.specs.Tests.{bit}
-use Rattle.chains.specs.Lists.{_∈_, occ}
-use Rattle.chains.specs.Sums.{sum, sumClusters}
-use Rattle.chains.specs.Sizes.{Geometry}
+use Rattle.chains.specs.Lists.{_∈_}
+use Rattle.chains.specs.Aids.Lists.{occ}
+use Rattle.chains.specs.Sums.{sum, bit}
+use Rattle.chains.specs.Aids.Sums.{sumClusters}
+use Rattle.chains.specs.Aids.Sizes.{Geometry}
 use Rattle.chains.specs.Values.{Link, Used, asideCount, asideb, freeCount, freeb}
-use Rattle.chains.specs.Holders.{Holder, Sound}
-use Rattle.chains.specs.Replace.{Replaced}
+use Rattle.chains.specs.Aids.Holders.{Holder, FitTogether}
+use Rattle.chains.specs.Aids.Replace.{Replaced}
 use Rattle.chains.specs.Laws.Lists.{dec-mem, mem-occ, occ-not}
 use Rattle.chains.specs.Laws.Sums.{occ-clusters, sum-add, sum-cong}
 use Rattle.chains.specs.Laws.Values.{aside-sum, free-no-aside, free-one, free-sum, used-no-aside, used-no-free}
 use Rattle.chains.specs.Laws.Chain.{chain-mem, chain-once}
 use Rattle.chains.specs.Laws.Holders.{in-range, in-use, once}
 
-module _ (G : Geometry) (f g : ℕ → ℕ) (h : ℕ → Holder) (χ : ℕ → List ℕ) (v : Sound (G .last) f h χ) (i : ℕ) (new : Holder) (ds : List ℕ) (r : Replaced (G .last) f g new (χ i) ds) where
+module _ (G : Geometry) (f g : ℕ → ℕ) (h : ℕ → Holder) (χ : ℕ → List ℕ) (v : FitTogether (G .last) f h χ) (i : ℕ) (new : Holder) (ds : List ℕ) (r : Replaced (G .last) f g new (χ i) ds) where
   was : (c : ℕ) → c ∈ χ i → Used (G .last) (f c)
   was c m = in-use G f h χ v i c m
 

@@ -3,10 +3,10 @@ use Prim.Native.Nat.{ℕ, suc, _+_, _-_, _≤_, _<_}
 use native.Mathlib.Omega.{arith}
 use mathlib.Core.Path.{_≡_, refl, sym, ap, _∙_}
 use mathlib.Core.List.{List, [], _∷_}
-use Rattle.chains.specs.Lists.{joined}
-use Rattle.chains.specs.Marks.{marks}
-use Rattle.chains.specs.Findings.{holdersOf}
-use Rattle.chains.specs.Rows.{rows}
+use Rattle.chains.specs.Aids.Lists.{joined}
+use Rattle.chains.specs.Aids.Marks.{marks}
+use Rattle.chains.specs.Aids.Findings.{holdersOf}
+use Rattle.chains.specs.Aids.Rows.{rows}
 use Rattle.chains.specs.Laws.Follow.{marks-joined}
 
 rows-one : (way : ℕ → ℕ) (end s : ℕ) → s < end → holdersOf (rows way s (end - s)) ≡ way s ∷ holdersOf (rows way (s + 1) (end - (s + 1)))

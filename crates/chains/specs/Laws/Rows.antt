@@ -6,14 +6,16 @@ use mathlib.Core.Path.{_≡_, refl, sym, ap, _∙_, subst}
 use mathlib.Core.Logic.{inl, inr}
 use mathlib.Core.Bool.{not}
 use lib.Dec.{ltb}
-use Rattle.chains.specs.Lists.{Once, _∈_, occ}
-use Rattle.chains.specs.Sums.{sum, sumOver}
-use Rattle.chains.specs.Sizes.{Geometry}
-use Rattle.chains.specs.Holders.{Holder, Owns}
-use Rattle.chains.specs.Verdict.{Found, first}
-use Rattle.chains.specs.Findings.{BadChain, holdersOf}
-use Rattle.chains.specs.Check.{ownsb}
-use Rattle.chains.specs.Rows.{rows}
+use Rattle.chains.specs.Lists.{_∈_}
+use Rattle.chains.specs.Aids.Lists.{occ, Once}
+use Rattle.chains.specs.Sums.{sum}
+use Rattle.chains.specs.Aids.Sums.{sumOver}
+use Rattle.chains.specs.Aids.Sizes.{Geometry}
+use Rattle.chains.specs.Aids.Holders.{Holder, Owns}
+use Rattle.chains.specs.Aids.Verdict.{Found, first}
+use Rattle.chains.specs.Aids.Findings.{BadChain, holdersOf}
+use Rattle.chains.specs.Aids.Check.{ownsb}
+use Rattle.chains.specs.Aids.Rows.{rows}
 use Rattle.chains.specs.Laws.Tests.{says-map, says-not}
 use Rattle.chains.specs.Laws.Lists.{hit-cases, occ-not}
 use Rattle.chains.specs.Laws.Sums.{sum-cong, sum-first}

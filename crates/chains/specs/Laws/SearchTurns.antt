@@ -2,12 +2,11 @@
 use Prim.Native.Nat.{ℕ, suc, _+_, _-_, _≤_, _<_}
 use native.Mathlib.Omega.{arith}
 use mathlib.Core.Path.{_≡_, refl, sym, _∙_}
-use mathlib.Core.Bool.{Bool, true, false}
+use mathlib.Core.Bool.{Bool, true, false, cond}
 use mathlib.Core.Option.{Option, none, some}
-use Rattle.chains.specs.Tests.{pick}
-use Rattle.chains.specs.Verdict.{first}
+use Rattle.chains.specs.Aids.Verdict.{first}
 
-first-one : (t : ℕ → Bool) (end c : ℕ) → c < end → first t (end - c) c ≡ pick (t c) (some c) (first t (end - (c + 1)) (c + 1))
+first-one : (t : ℕ → Bool) (end c : ℕ) → c < end → first t (end - c) c ≡ cond (t c) (some c) (first t (end - (c + 1)) (c + 1))
 unfolding first
 first-one t end c l =
     let z : end - c ≡ suc (end - (c + 1)) = omega arith in

@@ -6,7 +6,8 @@ use native.Mathlib.Decide.{ℕ-discrete}
 use mathlib.Core.Path.{_≡_, sym, ap}
 use mathlib.Core.Bool.{true}
 use borrow.Author.Tests.{eqb-true, eq-eqb}
-use Rattle.chains.specs.Sizes.{clustersFor, fits}
+use Rattle.chains.specs.Sizes.{clustersFor}
+use Rattle.chains.specs.Aids.Sizes.{fits}
 
 pub clusters-least : (cb : ℕ) → 0 < cb → (n k : ℕ) → n ≤ k * cb → clustersFor cb n ≤ k
 unfolding clustersFor

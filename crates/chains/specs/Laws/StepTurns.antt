@@ -2,7 +2,7 @@
 use Prim.Native.Nat.{ℕ, suc, _-_, _≤_, _<_}
 use native.Mathlib.Omega.{arith}
 use mathlib.Core.Path.{_≡_, refl, sym, ap, _∙_}
-use Rattle.chains.specs.Steps.{followed}
+use Rattle.chains.specs.Aids.Steps.{followed}
 
 down : (k : ℕ) → 0 < k → k ≡ suc (k - 1)
 down k h = omega arith

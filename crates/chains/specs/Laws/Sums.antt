@@ -6,10 +6,11 @@ use mathlib.Core.Logic.{inl, inr}
 use mathlib.Core.Bool.{Bool}
 use mathlib.Core.List.{List, [], _∷_}
 use lib.ListN.{length, length-append}
-use Rattle.chains.specs.Tests.{bit}
-use Rattle.chains.specs.Lists.{Once, _∈_, hit, joined, occ}
-use Rattle.chains.specs.Sums.{sum, sumClusters, sumOver, tally}
-use Rattle.chains.specs.Sizes.{Geometry}
+use Rattle.chains.specs.Lists.{_∈_}
+use Rattle.chains.specs.Aids.Lists.{hit, occ, Once, joined}
+use Rattle.chains.specs.Sums.{sum, tally, bit}
+use Rattle.chains.specs.Aids.Sums.{sumOver, sumClusters}
+use Rattle.chains.specs.Aids.Sizes.{Geometry}
 use Rattle.chains.specs.Values.{Link}
 use Rattle.chains.specs.Laws.Lists.{hit-cases, hit-other, hit-same}
 

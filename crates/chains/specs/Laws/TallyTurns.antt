@@ -3,8 +3,7 @@ use Prim.Native.Nat.{ℕ, suc, _+_, _-_, _≤_, _<_}
 use native.Mathlib.Omega.{arith}
 use mathlib.Core.Path.{_≡_, refl, sym, ap}
 use mathlib.Core.Bool.{Bool, true, false}
-use Rattle.chains.specs.Tests.{bit}
-use Rattle.chains.specs.Sums.{tally}
+use Rattle.chains.specs.Sums.{tally, bit}
 
 tally-one : (t : ℕ → Bool) (end c : ℕ) → c < end → tally t (end - c) c ≡ bit (t c) + tally t (end - (c + 1)) (c + 1)
 unfolding tally

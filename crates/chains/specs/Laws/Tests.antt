@@ -7,7 +7,7 @@ use mathlib.Core.Logic.{_⊎_, inl, inr}
 use mathlib.Core.Bool.{Bool, true, false, _&&_, _||_, not}
 use lib.Dec.{leb, eqb}
 use borrow.Author.Tests.{le-leb, lt-leb, eq-eqb, ne-eqb}
-use Rattle.chains.specs.Tests.{Says, aye, nay}
+use Rattle.chains.specs.Aids.Tests.{Says, aye, nay}
 
 pub says-le : (m n : ℕ) → Says (leb m n) (m ≤ n)
 says-le m n = elim (decLe m n) [ yes h ↦ aye (le-leb m n h) h | no h ↦ nay (lt-leb m n (omega arith)) h ]

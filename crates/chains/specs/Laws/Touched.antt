@@ -8,11 +8,12 @@ use mathlib.Core.List.{List}
 use lib.ListN.{length, getD}
 use lib.Seq.{ext-getD}
 use Rattle.chains.specs.Lists.{_∈_}
-use Rattle.chains.specs.Sizes.{Geometry}
+use Rattle.chains.specs.Aids.Sizes.{Geometry}
 use Rattle.chains.specs.Values.{Link}
-use Rattle.chains.specs.Holders.{Holder, Sound}
-use Rattle.chains.specs.Replace.{Replaced}
-use Rattle.chains.specs.Content.{InCluster, Room, Touches, byteAt, clusterAt, content}
+use Rattle.chains.specs.Aids.Holders.{Holder, FitTogether}
+use Rattle.chains.specs.Aids.Replace.{Replaced}
+use Rattle.chains.specs.Content.{byteAt, clusterBegin, content}
+use Rattle.chains.specs.Aids.Content.{Room, InCluster, Touches}
 use Rattle.chains.specs.Write.{poured}
 use Rattle.chains.specs.Laws.Lists.{index-mem}
 use Rattle.chains.specs.Laws.Holders.{in-range}
@@ -34,11 +35,11 @@ content-same base cb wide img now cs n r len same full =
     ∙ sym (content-at base cb wide img cs n r full i (omega arith)))
   where
     at : (i : ℕ) → i < length cs * cb → getD now (byteAt base cb cs i) 0 ≡ getD img (byteAt base cb cs i) 0
-    at i l = same (getD cs (i / cb) 0) (clusterAt base cb (getD cs (i / cb) 0) + i % cb) (index-mem cs (i / cb) (div-lt-iff-lt-mul wide .1 l)) (omega arith, omega (arith, mod-lt i wide))
+    at i l = same (getD cs (i / cb) 0) (clusterBegin base cb (getD cs (i / cb) 0) + i % cb) (index-mem cs (i / cb) (div-lt-iff-lt-mul wide .1 l)) (omega arith, omega (arith, mod-lt i wide))
 
 -- the companion of replace: one holder is replaced, and the image changes in its new clusters alone
-pub others-keep : (G : Geometry) (base : ℕ) (f g : ℕ → ℕ) (h : ℕ → Holder) (χ : ℕ → List ℕ) (v : Sound (G .last) f h χ) (i : ℕ) (new : Holder) (ds : List ℕ) → Replaced (G .last) f g new (χ i) ds
-    → (img now : List ℕ) → ((c : ℕ) → Link (G .last) c → clusterAt base (G .cb) c + G .cb ≤ length img) → Touches (G .last) base (G .cb) img now ds
+pub others-keep : (G : Geometry) (base : ℕ) (f g : ℕ → ℕ) (h : ℕ → Holder) (χ : ℕ → List ℕ) (v : FitTogether (G .last) f h χ) (i : ℕ) (new : Holder) (ds : List ℕ) → Replaced (G .last) f g new (χ i) ds
+    → (img now : List ℕ) → ((c : ℕ) → Link (G .last) c → clusterBegin base (G .cb) c + G .cb ≤ length img) → Touches (G .last) base (G .cb) img now ds
     → (t n : ℕ) → t ≢ i → n ≤ length (χ t) * G .cb → content base (G .cb) now (χ t) n ≡ content base (G .cb) img (χ t) n
 others-keep G base f g h χ v i new ds r img now whole e t n ne full =
     content-same base (G .cb) (G .wide) img now (χ t) n (λ c m. (range c m .0, whole c (range c m))) (e .size)
@@ -66,6 +67,6 @@ poured-touches last base cb wide img cs r pos bs n full = record {
   rest = λ c q l no k. poured-out base cb wide img cs pos bs n q (λ i j e.
       let d = getD cs ((pos + i) / cb) 0 in
       let m : d ∈ cs = index-mem cs ((pos + i) / cb) (div-lt-iff-lt-mul wide .1 (omega arith)) in
-      let z : clusterAt base cb c + (q - clusterAt base cb c) ≡ clusterAt base cb d + (pos + i) % cb = omega arith in
-      no (rw (cluster-same base cb wide c d (q - clusterAt base cb c) ((pos + i) % cb) (l .0) (r d m) (omega arith) (mod-lt (pos + i) wide) z .0) m));
+      let z : clusterBegin base cb c + (q - clusterBegin base cb c) ≡ clusterBegin base cb d + (pos + i) % cb = omega arith in
+      no (rw (cluster-same base cb wide c d (q - clusterBegin base cb c) ((pos + i) % cb) (l .0) (r d m) (omega arith) (mod-lt (pos + i) wide) z .0) m));
 }

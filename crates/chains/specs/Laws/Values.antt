@@ -4,10 +4,12 @@ use native.Mathlib.Omega.{arith}
 use mathlib.Core.Path.{_≡_, ap}
 use mathlib.Core.Logic.{_≢_, _⊎_, inl, inr}
 use mathlib.Core.Bool.{false, _||_}
-use Rattle.chains.specs.Tests.{Says, bit}
-use Rattle.chains.specs.Sums.{sumClusters}
-use Rattle.chains.specs.Sizes.{Geometry}
-use Rattle.chains.specs.Values.{Aside, End, Link, Used, Valid, aside, asideAt, asideCount, asideb, endb, free, freeAt, freeCount, freeb, linkb, used}
+use Rattle.chains.specs.Aids.Tests.{Says}
+use Rattle.chains.specs.Sums.{bit}
+use Rattle.chains.specs.Aids.Sums.{sumClusters}
+use Rattle.chains.specs.Aids.Sizes.{Geometry}
+use Rattle.chains.specs.Values.{Aside, End, Link, Used, Valid, aside, asideCount, asideb, free, freeCount, freeb, linkb, used, endb}
+use Rattle.chains.specs.Aids.Values.{freeAt, asideAt}
 use Rattle.chains.specs.Laws.Tests.{false-says, says-and, says-eq, says-le, says-map, says-or, true-says}
 use Rattle.chains.specs.Laws.Sums.{tally-sum}
 

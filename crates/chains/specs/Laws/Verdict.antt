@@ -4,12 +4,13 @@ use native.Mathlib.Omega.{arith}
 use native.Mathlib.Decide.{decLe}
 use mathlib.Core.Path.{_≡_, refl, sym, ap, _∙_}
 use mathlib.Core.Logic.{inl, inr}
-use mathlib.Core.Bool.{Bool, true, false}
+use mathlib.Core.Bool.{Bool, true, false, cond}
 use mathlib.Core.Option.{Option, none, some}
 use lib.Dec.{ltb}
 use borrow.Author.Tests.{ltb-true, ltb-false, lt-ltb, le-ltb}
-use Rattle.chains.specs.Tests.{Says, pick}
-use Rattle.chains.specs.Verdict.{Found, Lowest, None, OrElse, Orders, first, found, nowhere, orElse}
+use Rattle.chains.specs.Aids.Tests.{Says}
+use Rattle.chains.specs.Verdict.{Lowest, None, OrElse}
+use Rattle.chains.specs.Aids.Verdict.{Orders, orElse, Found, found, nowhere, first}
 use Rattle.chains.specs.Laws.Tests.{by-test, says-false, says-true}
 
 pub lowest-same : {P : Type 0} (before : P → P → Bool) → Orders before → (B : P → Type 0) (p q : P) → Lowest before B p → Lowest before B q → p ≡ q
@@ -54,7 +55,7 @@ first-is t (suc n) c = go (t c) refl (first-is t n (suc c))
     below : (q : ℕ) → t c ≡ false → c ≤ q → ¬ (suc c ≤ q) → t q ≡ false
     below q e k l = ap t (omega arith) ∙ e
 
-    go : (b : Bool) → t c ≡ b → FirstIs t n (suc c) (first t n (suc c)) → FirstIs t (suc n) c (pick (t c) (some c) (first t n (suc c)))
+    go : (b : Bool) → t c ≡ b → FirstIs t n (suc c) (first t n (suc c)) → FirstIs t (suc n) c (cond (t c) (some c) (first t n (suc c)))
     go true e r = here c (rw e refl) (omega arith) (omega arith) e (λ q k l. absurd (omega arith))
     go false e (here p o k l y h) = here p (rw e o) (omega arith) (omega arith) y (λ q i j. elim (decLe (suc c) q) [ yes a ↦ h q a j | no a ↦ below q e i a ])
     go false e (gone o h) = gone (rw e o) (λ q i j. elim (decLe (suc c) q) [ yes a ↦ h q a (omega arith) | no a ↦ below q e i a ])

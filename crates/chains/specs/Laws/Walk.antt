@@ -8,10 +8,10 @@ use mathlib.Core.List.{List, [], _∷_}
 use lib.Dec.{eqb}
 use lib.ListN.{length}
 use borrow.Author.Tests.{eqb-true, eq-eqb, ne-eqb}
-use Rattle.chains.specs.Sizes.{Geometry}
-use Rattle.chains.specs.Values.{Link, endb, linkb}
-use Rattle.chains.specs.Chain.{After, Chain, Leads}
-use Rattle.chains.specs.Walk.{onto, trail, walk}
+use Rattle.chains.specs.Aids.Sizes.{Geometry}
+use Rattle.chains.specs.Values.{Link, linkb, endb}
+use Rattle.chains.specs.Aids.Chain.{Leads, After, Chain}
+use Rattle.chains.specs.Aids.Walk.{onto, trail, walk}
 use Rattle.chains.specs.Laws.Tests.{says-true, true-says}
 use Rattle.chains.specs.Laws.Values.{link-no-end, says-end, says-link}
 use Rattle.chains.specs.Laws.Chain.{chain-length}

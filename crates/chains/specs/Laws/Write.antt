@@ -1,22 +1,24 @@
 -- A write: the table, the holders and the bytes of every file after it.
 use Prim.Native.Nat.{ℕ, _+_, _-_, _*_, _≤_, _<_, max}
 use native.Mathlib.Omega.{arith}
-use native.Mathlib.Nat.{mul-le-mul-right}
 use mathlib.Core.Path.{_≡_, refl, sym, ap, ap₂, _∙_}
 use mathlib.Core.Logic.{_≢_}
 use mathlib.Core.List.{List, [], _∷_, _++_, append-nil, append-assoc}
 use lib.ListN.{length, take, replicate, length-replicate}
 use lib.Seq.{take-append-le}
 use Rattle.chains.specs.Put.{put}
-use Rattle.chains.specs.Lists.{Once, _∈_, startOf}
-use Rattle.chains.specs.Sizes.{Geometry, clustersFor}
+use Rattle.chains.specs.Lists.{_∈_, headOf}
+use Rattle.chains.specs.Aids.Lists.{Once}
+use Rattle.chains.specs.Sizes.{clustersFor, lacking}
+use Rattle.chains.specs.Aids.Sizes.{Geometry}
 use Rattle.chains.specs.Values.{Link}
-use Rattle.chains.specs.Holders.{Holder, Owns, Sound, fileHolder}
-use Rattle.chains.specs.Replace.{Replaced}
+use Rattle.chains.specs.Aids.Holders.{Holder, FitTogether, fileHolder}
+use Rattle.chains.specs.Aids.Replace.{Replaced}
 use Rattle.chains.specs.Free.{freeClusters}
-use Rattle.chains.specs.Growth.{extended, lacking, longerChain, longerTable}
-use Rattle.chains.specs.Content.{Room, Touches, chainBytes, clusterAt, clusterBytes, content}
-use Rattle.chains.specs.Write.{accepted, filledImage, roomFor, splice, written, writtenImage}
+use Rattle.chains.specs.Aids.Growth.{extended, longerChain, longerTable}
+use Rattle.chains.specs.Content.{chainBytes, clusterBegin, bytesOfCluster, content}
+use Rattle.chains.specs.Aids.Content.{Room, Touches}
+use Rattle.chains.specs.Write.{filledImage, splice, written, writtenImage}
 use Rattle.chains.specs.Laws.Sizes.{clusters-least}
 use Rattle.chains.specs.Laws.Chain.{chain-mem, chain-once}
 use Rattle.chains.specs.Laws.Holders.{file-fits, in-range}
@@ -30,7 +32,7 @@ use Rattle.chains.specs.Laws.Poured.{content-poured, poured-length}
 chain-bytes-append : (base cb : ℕ) (img cs ds : List ℕ) → chainBytes base cb img (cs ++ ds) ≡ chainBytes base cb img cs ++ chainBytes base cb img ds
 unfolding chainBytes
 chain-bytes-append base cb img [] ds = refl
-chain-bytes-append base cb img (c ∷ cs) ds = ap (λ (r : List ℕ). clusterBytes base cb img c ++ r) (chain-bytes-append base cb img cs ds) ∙ sym (append-assoc (clusterBytes base cb img c) _ _)
+chain-bytes-append base cb img (c ∷ cs) ds = ap (λ (r : List ℕ). bytesOfCluster base cb img c ++ r) (chain-bytes-append base cb img cs ds) ∙ sym (append-assoc (bytesOfCluster base cb img c) _ _)
 
 pub content-more : (base cb : ℕ) → 0 < cb → (img cs ds : List ℕ) (n : ℕ) → Room base cb img cs → n ≤ length cs * cb
     → content base cb img (cs ++ ds) n ≡ content base cb img cs n
@@ -38,9 +40,9 @@ unfolding content
 content-more base cb p img cs ds n r l =
     ap (take n) (chain-bytes-append base cb img cs ds) ∙ take-append-le n (chainBytes base cb img cs) (chainBytes base cb img ds) (omega (arith, chain-bytes-length base cb p img cs r))
 
-module _ (G : Geometry) (base : ℕ) (f : ℕ → ℕ) (h : ℕ → Holder) (χ : ℕ → List ℕ) (v : Sound (G .last) f h χ)
-    (img : List ℕ) (whole : (c : ℕ) → Link (G .last) c → clusterAt base (G .cb) c + G .cb ≤ length img) (i st sz : ℕ) (is : h i ≡ fileHolder (G .cb) st sz) (pos : ℕ) (bs : List ℕ)
-    (fit : max sz (pos + length bs) ≤ roomFor (G .last) (G .cb) f (χ i)) where
+module _ (G : Geometry) (base : ℕ) (f : ℕ → ℕ) (h : ℕ → Holder) (χ : ℕ → List ℕ) (v : FitTogether (G .last) f h χ)
+    (img : List ℕ) (whole : (c : ℕ) → Link (G .last) c → clusterBegin base (G .cb) c + G .cb ≤ length img) (i st sz : ℕ) (is : h i ≡ fileHolder (G .cb) st sz) (pos : ℕ) (bs : List ℕ)
+    (room : max sz (pos + length bs) ≤ (length (χ i) + length (freeClusters (G .last) f)) * G .cb) where
   abbrev size′ : ℕ
   size′ = max sz (pos + length bs)
 
@@ -50,15 +52,11 @@ module _ (G : Geometry) (base : ℕ) (f : ℕ → ℕ) (h : ℕ → Holder) (χ 
   abbrev image′ : List ℕ
   image′ = writtenImage base (G .cb) img chain′ sz pos bs
 
-  room : size′ ≤ (length (χ i) + length (freeClusters (G .last) f)) * G .cb
-  unfolding roomFor
-  room = fit
-
-  pub write-replaces : Replaced (G .last) f (longerTable (G .last) (G .cb) f (χ i) size′) (fileHolder (G .cb) (startOf chain′) size′) (χ i) chain′
+  pub write-replaces : Replaced (G .last) f (longerTable (G .last) (G .cb) f (χ i) size′) (fileHolder (G .cb) (headOf chain′) size′) (χ i) chain′
   write-replaces = file-grows G f h χ v i st sz is size′ (omega arith) room
 
-  pub write-sound : Sound (G .last) (longerTable (G .last) (G .cb) f (χ i) size′) (put h i (fileHolder (G .cb) (startOf chain′) size′)) (put χ i chain′)
-  write-sound = replace G f (longerTable (G .last) (G .cb) f (χ i) size′) h χ v i (fileHolder (G .cb) (startOf chain′) size′) chain′ write-replaces
+  pub write-sound : FitTogether (G .last) (longerTable (G .last) (G .cb) f (χ i) size′) (put h i (fileHolder (G .cb) (headOf chain′) size′)) (put χ i chain′)
+  write-sound = replace G f (longerTable (G .last) (G .cb) f (χ i) size′) h χ v i (fileHolder (G .cb) (headOf chain′) size′) chain′ write-replaces
 
   in-new : (c : ℕ) → c ∈ chain′ → Link (G .last) c
   in-new c m = chain-mem G _ _ chain′ (write-replaces .owns .chain) c m .0
@@ -110,22 +108,7 @@ module _ (G : Geometry) (base : ℕ) (f : ℕ → ℕ) (h : ℕ → Holder) (χ 
 
   -- any other holder's bytes, as many as its chain holds
   pub write-others : (t n : ℕ) → t ≢ i → n ≤ length (χ t) * G .cb → content base (G .cb) image′ (χ t) n ≡ content base (G .cb) img (χ t) n
-  write-others t n ne full = others-keep G base f (longerTable (G .last) (G .cb) f (χ i) size′) h χ v i (fileHolder (G .cb) (startOf chain′) size′) chain′ write-replaces img image′ whole write-touches t n ne full
-
--- ---- how much a write takes
-
--- what is accepted has room, if the file had
-pub accepted-fits : (room sz pos n : ℕ) → sz ≤ room → 0 < accepted room pos n → max sz (pos + accepted room pos n) ≤ room
-unfolding accepted
-accepted-fits room sz pos n h p = omega arith
-
--- a file has room for its own bytes
-pub room-own : (G : Geometry) (f : ℕ → ℕ) (h : Holder) (cs : List ℕ) (st sz : ℕ) → h ≡ fileHolder (G .cb) st sz → Owns (G .last) f h cs → sz ≤ roomFor (G .last) (G .cb) f cs
-unfolding roomFor
-room-own G f h cs st sz is o = omega (arith, file-fits G f h cs st sz is o, mul-le-mul-right (G .cb) (more (length cs) (length (freeClusters (G .last) f))))
-  where
-    more : (a b : ℕ) → a ≤ a + b
-    more a b = omega arith
+  write-others t n ne full = others-keep G base f (longerTable (G .last) (G .cb) f (χ i) size′) h χ v i (fileHolder (G .cb) (headOf chain′) size′) chain′ write-replaces img image′ whole write-touches t n ne full
 
 -- who lacks no cluster keeps its chain, and the table stays
 pub lacks-none : (last cb : ℕ) (f : ℕ → ℕ) (cs : List ℕ) (n : ℕ) → n ≤ length cs * cb → 0 < cb → (longerChain last cb f cs n ≡ cs) × (longerTable last cb f cs n ≡ f)

@@ -6,8 +6,8 @@ use mathlib.Core.List.{List}
 use mathlib.Core.Logic.{_≢_, inl, inr}
 use mathlib.Core.Path.{_≡_, refl, sym, ap, _∙_, subst}
 use lib.ListN.{length, getD}
-use Rattle.chains.specs.Content.{clusterAt, content}
-use Rattle.chains.specs.Holders as Theory
+use Rattle.chains.specs.Content.{clusterBegin, content}
+use Rattle.chains.specs.Aids.Holders.{FitTogether, Owns}
 use Rattle.chains.specs.Put.{put}
 use Rattle.chains.specs.Values.{Link}
 use Rattle.chains.specs.Verdict.{None}
@@ -16,20 +16,20 @@ use Rattle.chains.specs.Laws.Holders.{file-fits}
 use Rattle.chains.specs.Laws.Put.{put-other, put-same}
 use Rattle.chains.specs.Laws.Tests.{says-true, true-says}
 use Rattle.chains.specs.Laws.Touched.{others-keep}
-use Rattle.contents.specs.Contents.{Area}
+use Rattle.contents.specs.Aids.Contents.{Area}
 use Rattle.diskette.specs.Images.{kindOfImage, OfKind}
-use Rattle.diskette.specs.Kinds.{Usable}
+use Rattle.diskette.specs.Aids.Usable.{Usable}
 use Rattle.diskette.specs.Laws.Images.{image-of-kind}
 use Rattle.diskette.specs.Places.{firstData, clusterBytes, lastCluster, rootEntries, slotAt}
 use Rattle.diskette.specs.declared.Kind.{Kind}
 use Rattle.diskette.specs.declared.WhichKind.the-variants.{Known}
-use Rattle.directory.specs.Entries.{SameFields}
+use Rattle.directory.specs.Aids.Entries.{SameFields}
 use Rattle.fields.specs.Fields.{nameOf, attrOf, startOf, sizeOf}
 use Rattle.directory.specs.Slots.{NeverUsedAt, LiveAt, LabelAt, PlainAt}
 use Rattle.directory.specs.Laws.Entries.{same-fields}
 use Rattle.sound.specs.Files.{valueOf, IsFile, ChainOf}
 use Rattle.sound.specs.Findings.{TablesDiffer, StrangeEntry, BadSlot}
-use Rattle.sound.specs.Holders.{rootHolders, rootChains}
+use Rattle.sound.specs.Aids.Holders.{rootHolders, rootChains}
 use Rattle.sound.specs.Sound.{Sound}
 use Rattle.sound.specs.Laws.Chains.{file-owns-chain}
 use Rattle.sound.specs.Laws.Change.{slot-replaced}
@@ -39,11 +39,11 @@ use Rattle.sound.specs.Laws.Holders.{root-holder, plain-holder, holder-as}
 use Rattle.sound.specs.Laws.IsSound.{known-says}
 use Rattle.sound.specs.Laws.Sound.{sound-theory, chain-only}
 use Rattle.sound.specs.Laws.Theory.{theory-sound}
-use Rattle.calls.specs.Ready.{OnVolume}
+use Rattle.calls.specs.Aids.Ready.{OnVolume}
 use Rattle.calls.specs.Laws.Ready.{on-usable, on-of-kind, on-area}
 use Rattle.holding.specs.Laws.Clusters.{on-clusters}
 use Rattle.changes.specs.Files.{File, Holds}
-use Rattle.changes.specs.Changed.{GoodSlot, SlotChanged}
+use Rattle.changes.specs.Aids.Changed.{GoodSlot, SlotChanged}
 
 module _ (k : Kind) (l : List ℕ) (v : OnVolume l k) where
   u : Usable k
@@ -52,7 +52,7 @@ module _ (k : Kind) (l : List ℕ) (v : OnVolume l k) where
   pub on-sound : Sound k l
   on-sound = says-true (known-says l k (v .known)) (v .sound)
 
-  pub on-theory : Theory.Sound (lastCluster k) (valueOf k l) (rootHolders k l) (rootChains k l)
+  pub on-theory : FitTogether (lastCluster k) (valueOf k l) (rootHolders k l) (rootChains k l)
   on-theory = sound-theory k u l (on-sound .0) (on-sound .1)
 
   slot-in : (t : ℕ) → t < rootEntries k → slotAt k t + 32 ≤ length l
@@ -127,7 +127,7 @@ module _ (k : Kind) (l : List ℕ) (v : OnVolume l k) where
       ]
     ]
 
-    pub changed-theory : Theory.Sound (lastCluster k) (valueOf k m) (rootHolders k m) (put (rootChains k l) (slotAt k s) ds)
+    pub changed-theory : FitTogether (lastCluster k) (valueOf k m) (rootHolders k m) (put (rootChains k l) (slotAt k s) ds)
     changed-theory = slot-replaced k u l m (rootChains k l) on-theory s (c .slot) ds (c .chain) (λ t h n. holder-as (clusterBytes k) m l (slotAt k t) (slotAt k t) (same-slot t h n))
 
     kind-still : kindOfImage m ≡ Known k
@@ -143,14 +143,14 @@ module _ (k : Kind) (l : List ℕ) (v : OnVolume l k) where
     -- ---- every other file is as it was
 
     pub other-none : (t : ℕ) → t ≢ s → ¬ IsFile k l t → ¬ IsFile k m t
-    other-none t n free x = free (x .0, plain-as t (x .0) n (x .1))
+    other-none t n free x = free (record { below = x .below; plain = plain-as t (x .below) n (x .plain) })
 
     module _ (t : ℕ) (n : t ≢ s) (i : IsFile k l t) where
       apart-slots : slotAt k t ≢ slotAt k s
       apart-slots e = n (omega arith)
 
       other-file : IsFile k m t
-      other-file = (i .0, plain-to t (i .0) n (i .1))
+      other-file = record { below = i .below; plain = plain-to t (i .below) n (i .plain) }
 
       -- the chain of any file of the volume before
       abbrev cs : List ℕ
@@ -162,26 +162,26 @@ module _ (k : Kind) (l : List ℕ) (v : OnVolume l k) where
       own-after : ChainOf k m t cs
       own-after =
           file-owns-chain k u m (rootHolders k m) (root-holder k m) t cs other-file .0
-          (subst (Theory.Owns (lastCluster k) (valueOf k m) (rootHolders k m (slotAt k t))) (put-other (rootChains k l) (slotAt k s) ds (slotAt k t) apart-slots) (changed-theory .owns (slotAt k t)))
+          (subst (Owns (lastCluster k) (valueOf k m) (rootHolders k m (slotAt k t))) (put-other (rootChains k l) (slotAt k s) ds (slotAt k t) apart-slots) (changed-theory .owns (slotAt k t)))
 
-      whole : (d : ℕ) → Link (lastCluster k) d → clusterAt (512 * firstData k) (clusterBytes k) d + clusterBytes k ≤ length l
+      whole : (d : ℕ) → Link (lastCluster k) d → clusterBegin (512 * firstData k) (clusterBytes k) d + clusterBytes k ≤ length l
       whole d h = omega (arith, on-clusters l k v .clusters, cluster-high (512 * firstData k) (clusterBytes k) (on-clusters l k v .wide) (geometry k u) d h)
 
       room : sizeOf l (slotAt k t) ≤ length cs * clusterBytes k
       room = file-fits (geometry k u) (valueOf k l) (rootHolders k l (slotAt k t)) cs (startOf l (slotAt k t)) (sizeOf l (slotAt k t))
-          (root-holder k l t (i .0) ∙ plain-holder (clusterBytes k) l (slotAt k t) (i .1)) (on-theory .owns (slotAt k t))
+          (root-holder k l t (i .below) ∙ plain-holder (clusterBytes k) l (slotAt k t) (i .plain)) (on-theory .owns (slotAt k t))
 
       same-content : content (512 * firstData k) (clusterBytes k) m cs (sizeOf m (slotAt k t)) ≡ content (512 * firstData k) (clusterBytes k) l cs (sizeOf l (slotAt k t))
       same-content =
-          ap (content (512 * firstData k) (clusterBytes k) m cs) (same-slot t (i .0) n .size)
+          ap (content (512 * firstData k) (clusterBytes k) m cs) (same-slot t (i .below) n .size)
           ∙ others-keep (geometry k u) (512 * firstData k) (valueOf k l) (valueOf k m) (rootHolders k l) (rootChains k l) on-theory (slotAt k s) _ ds (c .chain) l m whole (c .clusters)
           (slotAt k t) (sizeOf l (slotAt k t)) apart-slots room
 
       pub other-holds : (f : File) → Holds k l t f → Holds k m t f
       other-holds f x = record {
         is-file = other-file;
-        name = same-slot t (i .0) n .name ∙ x .name;
-        attr = same-slot t (i .0) n .attr ∙ x .attr;
+        name = same-slot t (i .below) n .name ∙ x .name;
+        attr = same-slot t (i .below) n .attr ∙ x .attr;
         bytes = (
           cs,
           own-after,

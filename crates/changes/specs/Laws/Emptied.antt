@@ -6,32 +6,32 @@ use lib.ListN.{length}
 use Rattle.image.specs.Bytes.{Bytes}
 use Rattle.image.specs.Store.{stored}
 use Rattle.image.specs.Laws.Store.{bytes-stored}
-use Rattle.chains.specs.Content.{Touches}
-use Rattle.chains.specs.Growth.{released}
-use Rattle.chains.specs.Holders.{Owns}
+use Rattle.chains.specs.Aids.Content.{Touches}
+use Rattle.chains.specs.Aids.Growth.{released}
+use Rattle.chains.specs.Aids.Holders.{Owns}
 use Rattle.chains.specs.Lists.{_∈_}
 use Rattle.chains.specs.Values.{Link}
 use Rattle.chains.specs.Laws.Chain.{chain-mem}
 use Rattle.chains.specs.Laws.Changes.{gives-back}
-use Rattle.diskette.specs.Kinds.{Usable}
+use Rattle.diskette.specs.Aids.Usable.{Usable}
 use Rattle.diskette.specs.Places.{firstData, clusterBytes, copyTwo, lastCluster, rootEntries, slotAt}
 use Rattle.diskette.specs.declared.Kind.{Kind}
 use Rattle.fields.specs.Fields.{startOf}
 use Rattle.directory.specs.Slots.{PlainAt}
-use Rattle.links.specs.Leaves.{Leaves, Holds}
+use Rattle.links.specs.Aids.Leaves.{SameButEntries, HasTable}
 use Rattle.links.specs.Laws.Freed.{table-freed}
 use Rattle.links.specs.Laws.Leaves.{leaves-freed}
-use Rattle.chaincheck.specs.Entries.{holderAt}
-use Rattle.sound.specs.Files.{valueOf}
-use Rattle.sound.specs.Holders.{rootHolders, rootChains}
+use Rattle.chaincheck.specs.Aids.Entries.{holderAt}
+use Rattle.sound.specs.Files.{valueOf, IsFile}
+use Rattle.sound.specs.Aids.Holders.{rootHolders, rootChains}
 use Rattle.sound.specs.Laws.Geometry.{geometry}
-use Rattle.calls.specs.Ready.{OnVolume}
+use Rattle.calls.specs.Aids.Ready.{OnVolume}
 use Rattle.calls.specs.Laws.Ready.{on-usable}
-use Rattle.holding.specs.Holding.{fileChain, FileIn}
+use Rattle.holding.specs.Holding.{fileChain}
 use Rattle.holding.specs.Laws.Chain.{file-chain}
 use Rattle.holding.specs.Laws.Clusters.{copies-reach}
 use Rattle.freeing.specs.Freed.{chainFreed}
-use Rattle.changes.specs.Changed.{Framed, GoodSlot, SlotChanged}
+use Rattle.changes.specs.Aids.Changed.{Framed, GoodSlot, SlotChanged}
 use Rattle.changes.specs.Laws.Changed.{on-theory}
 use Rattle.changes.specs.Laws.Frames.{frame-same, frame-then, entry-frame, entry-table, entry-touches, links-frame, links-touch}
 use Rattle.changes.specs.Laws.Root.{root-file, root-none}
@@ -49,14 +49,14 @@ module _ (k : Kind) (l : List ℕ) (v : OnVolume l k) (b : Bytes l) (s : ℕ) wh
 
   -- ---- a file's clusters freed
 
-  module _ (i : FileIn l k s) where
+  module _ (i : IsFile k l s) where
     in-reach : (c : ℕ) → c ∈ fileChain k l s → Link (lastCluster k) c
     in-reach c m = chain-mem (geometry k u) (valueOf k l) (startOf l (slotAt k s)) (fileChain k l s) (file-chain l k v s i) c m .0
 
-    holds : Holds (copyTwo k) (lastCluster k) l
+    holds : HasTable (copyTwo k) (lastCluster k) l
     holds = record { small = u .below-aside; bytes = b; reaches = copies-reach l k v (copyTwo k) (lastCluster k) refl refl }
 
-    leaves : Leaves (copyTwo k) (lastCluster k) l (chainFreed k l s)
+    leaves : SameButEntries (copyTwo k) (lastCluster k) l (chainFreed k l s)
     unfolding chainFreed
     leaves = leaves-freed (copyTwo k) (lastCluster k) (fileChain k l s) l (holds .reaches) in-reach
 

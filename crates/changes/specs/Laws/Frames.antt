@@ -8,18 +8,20 @@ use mathlib.Core.Path.{_≡_, refl, sym, _∙_}
 use lib.ListN.{length, getD}
 use Rattle.image.specs.Store.{stored}
 use Rattle.image.specs.Laws.Store.{length-stored, stored-outside}
-use Rattle.chains.specs.Content.{Touches, clusterAt}
+use Rattle.chains.specs.Content.{clusterBegin}
+use Rattle.chains.specs.Aids.Content.{Touches}
 use Rattle.chains.specs.Write.{poured}
 use Rattle.chains.specs.Laws.Poured.{poured-length}
 use Rattle.contents.specs.Laws.Kept.{poured-before}
-use Rattle.diskette.specs.Kinds.{Usable}
+use Rattle.diskette.specs.Aids.Usable.{Usable}
 use Rattle.diskette.specs.Places.{firstData, clusterBytes, copyTwo, lastCluster, rootEntries, slotAt}
 use Rattle.diskette.specs.declared.Kind.{Kind}
-use Rattle.table.specs.Entries.{wordAt, Agree}
+use Rattle.table.specs.Entries.{wordAt}
+use Rattle.table.specs.Aids.Copies.{Agree}
 use Rattle.table.specs.Laws.View.{table-beside, agree-beside}
-use Rattle.links.specs.Leaves.{Leaves}
+use Rattle.links.specs.Aids.Leaves.{SameButEntries}
 use Rattle.sound.specs.Files.{valueOf}
-use Rattle.changes.specs.Changed.{Framed}
+use Rattle.changes.specs.Aids.Changed.{Framed}
 
 module _ (k : Kind) (u : Usable k) (s : ℕ) where
   pub frame-same : (l : List ℕ) → Framed k l l s
@@ -57,12 +59,12 @@ module _ (k : Kind) (u : Usable k) (s : ℕ) where
     entry-table = table-beside (lastCluster k) l p bs (inr (omega (arith, u .reaches)))
 
     pub entry-touches : (ds : List ℕ) → Touches (lastCluster k) (512 * firstData k) (clusterBytes k) l (stored l p bs) ds
-    unfolding clusterAt
+    unfolding clusterBegin
     entry-touches ds = record { size = length-stored l p bs; rest = λ c q h n i. stored-outside l p bs q (inr (omega (arith, i .0))) }
 
   -- ---- other entries of clusters, in both copies
 
-  module _ (l m : List ℕ) (x : Leaves (copyTwo k) (lastCluster k) l m) where
+  module _ (l m : List ℕ) (x : SameButEntries (copyTwo k) (lastCluster k) l m) where
     pub links-frame : Framed k l m s
     links-frame = record {
       long = x .long;
@@ -72,7 +74,7 @@ module _ (k : Kind) (u : Usable k) (s : ℕ) where
     }
 
     pub links-touch : (ds : List ℕ) → Touches (lastCluster k) (512 * firstData k) (clusterBytes k) l m ds
-    unfolding clusterAt
+    unfolding clusterBegin
     links-touch ds = record { size = x .long; rest = λ c q h n i. x .beside q (inr (omega (arith, u .reaches, i .0))) (inr (omega (arith, u .reaches, i .0))) }
 
   -- ---- bytes along a chain

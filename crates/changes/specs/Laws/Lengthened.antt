@@ -9,39 +9,40 @@ use Rattle.image.specs.Bytes.{Bytes}
 use Rattle.image.specs.Numbers.{digits}
 use Rattle.image.specs.Laws.Numbers.{length-digits, bytes-digits}
 use Rattle.image.specs.Laws.Store.{length-stored, bytes-stored}
-use Rattle.chains.specs.Content.{Touches, content}
-use Rattle.chains.specs.Lists.{_∈_}
-use Rattle.chains.specs.Lists as lists
+use Rattle.chains.specs.Content.{content}
+use Rattle.chains.specs.Aids.Content.{Touches}
+use Rattle.chains.specs.Lists.{_∈_, headOf}
 use Rattle.chains.specs.Values.{Link}
 use Rattle.chains.specs.Laws.Chain.{chain-mem}
 use Rattle.chains.specs.Laws.Content.{cluster-high}
 use Rattle.chains.specs.Laws.Touched.{content-same, touched-twice}
-use Rattle.contents.specs.Contents.{Area}
-use Rattle.diskette.specs.Kinds.{Usable}
+use Rattle.contents.specs.Aids.Contents.{Area}
+use Rattle.diskette.specs.Aids.Usable.{Usable}
 use Rattle.diskette.specs.Places.{firstData, clusterBytes, copyTwo, lastCluster, slotAt}
 use Rattle.diskette.specs.declared.Kind.{Kind}
-use Rattle.directory.specs.Entries.{SameFields, Untouched}
+use Rattle.directory.specs.Aids.Entries.{SameFields, Untouched}
 use Rattle.fields.specs.Fields.{nameOf, attrOf, startOf, sizeOf, withStart, withSize}
 use Rattle.directory.specs.Laws.Entries.{same-fields, word-leaves, long-leaves, word-back, long-back}
-use Rattle.links.specs.Leaves.{Leaves}
-use Rattle.sound.specs.Files.{valueOf}
+use Rattle.links.specs.Aids.Leaves.{SameButEntries}
+use Rattle.sound.specs.Files.{valueOf, IsFile}
 use Rattle.sound.specs.Laws.Geometry.{geometry}
-use Rattle.calls.specs.Ready.{OnVolume}
+use Rattle.calls.specs.Aids.Ready.{OnVolume}
 use Rattle.calls.specs.Laws.Ready.{on-usable}
-use Rattle.holding.specs.Holding.{fileChain, FileIn}
+use Rattle.holding.specs.Holding.{fileChain}
 use Rattle.holding.specs.Laws.Clusters.{on-clusters}
 use Rattle.holding.specs.Laws.Chain.{file-chain, file-holds, file-within}
-use Rattle.putting.specs.Longer.{chainAfter, withClusters, lengthened, CanGrow}
+use Rattle.putting.specs.Longer.{chainAfter, withClusters, lengthened}
+use Rattle.putting.specs.Aids.Longer.{CanGrow}
 use Rattle.putting.specs.Laws.Longer.{linked-leaves, start-small}
 use Rattle.putting.specs.Laws.Room.{room-fits}
-use Rattle.changes.specs.Changed.{Framed}
+use Rattle.changes.specs.Aids.Changed.{Framed}
 use Rattle.changes.specs.Laws.Frames.{entry-frame, entry-touches, frame-then, links-frame, links-touch}
 
 module _ (k : Kind) (l : List ℕ) (s size : ℕ) (g : CanGrow k l s size) where
   v : OnVolume l k
   v = g .on
 
-  i : FileIn l k s
+  i : IsFile k l s
   i = g .file
 
   u : Usable k
@@ -51,7 +52,7 @@ module _ (k : Kind) (l : List ℕ) (s size : ℕ) (g : CanGrow k l s size) where
   a = slotAt k s
 
   abbrev start : ℕ
-  start = lists.startOf (chainAfter k l s size)
+  start = headOf (chainAfter k l s size)
 
   -- the image with the clusters linked; with the start stored; with the size stored
   abbrev one : List ℕ
@@ -63,7 +64,7 @@ module _ (k : Kind) (l : List ℕ) (s size : ℕ) (g : CanGrow k l s size) where
   abbrev long : List ℕ
   long = lengthened k l s size
 
-  leaves : Leaves (copyTwo k) (lastCluster k) l one
+  leaves : SameButEntries (copyTwo k) (lastCluster k) l one
   leaves = linked-leaves k l s size g
 
   -- ---- what stays

@@ -11,33 +11,32 @@ use Rattle.image.specs.Bytes.{Bytes}
 use Rattle.image.specs.Numbers.{digits}
 use Rattle.image.specs.Laws.Store.{part-at}
 use Rattle.chains.specs.Content.{content}
-use Rattle.chains.specs.Holders.{Holder, Owns, fileHolder, none-of-it}
+use Rattle.chains.specs.Aids.Holders.{Holder, Owns, fileHolder}
 use Rattle.chains.specs.Laws.Sizes.{fits-empty}
 use Rattle.chains.specs.Laws.Tests.{clash}
 use Rattle.diskette.specs.Places.{clusterBytes, lastCluster, rootAt, rootEntries, slotAt}
 use Rattle.diskette.specs.declared.Kind.{Kind}
 use Rattle.search.specs.Search.{LowestBelow, Answers}
 use Rattle.search.specs.declared.Found.the-variants.{At, Nothing}
-use Rattle.directory.specs.Entries as Entries
+use Rattle.directory.specs.Entries.{HasFields}
 use Rattle.fields.specs.Fields.{nameOf, attrOf, startOf, sizeOf, tailBytes, entryBytes, withEntry}
-use Rattle.directory.specs.Search.{lowestOpenSlot, slotNamed}
-use Rattle.directory.specs.Slots.{hasBit, NeverUsedAt, OpenAt, PlainAt}
+use Rattle.directory.specs.Search.{lowestVacant, slotNamed}
+use Rattle.directory.specs.Slots.{hasBit, NeverUsedAt, VacantAt, PlainAt}
 use Rattle.directory.specs.Laws.Entries.{fresh}
 use Rattle.fields.specs.Laws.Fields.{length-entry, bytes-entry}
-use Rattle.directory.specs.Laws.Search.{open-slot-answers, slot-named-answers}
-use Rattle.names.specs.Reading as Given
+use Rattle.directory.specs.Laws.Search.{vacant-slot-answers, slot-named-answers}
+use Rattle.names.specs.Reading.{nameGiven}
 use Rattle.names.specs.Spelling.{Proper}
 use Rattle.names.specs.Laws.Proper.{proper}
-use Rattle.sound.specs.Files.{valueOf}
+use Rattle.sound.specs.Files.{valueOf, none-of-it, IsFile}
 use Rattle.sound.specs.Laws.Geometry.{geometry}
 use Rattle.sound.specs.Laws.Holders.{plain-holder}
 use Rattle.calls.specs.Refusals.{badAttr}
-use Rattle.calls.specs.Ready.{OnVolume}
+use Rattle.calls.specs.Aids.Ready.{OnVolume}
 use Rattle.calls.specs.Laws.Files.{root-within, slot-within}
 use Rattle.calls.specs.Laws.Ready.{on-usable}
-use Rattle.holding.specs.Holding.{FileIn}
 use Rattle.freeing.specs.Freed.{chainFreed}
-use Rattle.changes.specs.Changed.{SlotChanged}
+use Rattle.changes.specs.Aids.Changed.{SlotChanged}
 use Rattle.changes.specs.Files.{file, Holds}
 use Rattle.changes.specs.Laws.Emptied.{Emptied, file-emptied, none-emptied, entry-emptied, emptied-changed}
 use Rattle.changes.specs.Laws.Given.{GoodAttr, good-attr}
@@ -55,9 +54,9 @@ word-low w =
     let f : w / 256 % 256 ≡ w % 65536 / 256 % 256 = omega arith in
     rw (e, f)
 
-module _ (k : Kind) (l : List ℕ) (v : OnVolume l k) (b : Bytes l) (given : List ℕ) (fits : Given.nameOf given .fits ≡ true) (attr : ℕ) (allowed : badAttr attr ≡ false) (time date : ℕ) (s : ℕ) where
+module _ (k : Kind) (l : List ℕ) (v : OnVolume l k) (b : Bytes l) (given : List ℕ) (fits : nameGiven given .fits ≡ true) (attr : ℕ) (allowed : badAttr attr ≡ false) (time date : ℕ) (s : ℕ) where
   abbrev name : List ℕ
-  name = Given.nameOf given .name
+  name = nameGiven given .name
 
   abbrev a : ℕ
   a = slotAt k s
@@ -85,8 +84,8 @@ module _ (k : Kind) (l : List ℕ) (v : OnVolume l k) (b : Bytes l) (given : Lis
     unfolding entryBytes tailBytes
     same-entry = rw (word-low time, word-low date)
 
-    fields : Entries.Holds m a name attr (time % 65536) (date % 65536) 0 0
-    fields = subst (λ (y : List ℕ). Entries.Holds y a name attr (time % 65536) (date % 65536) 0 0) same-entry
+    fields : HasFields m a name attr (time % 65536) (date % 65536) 0 0
+    fields = subst (λ (y : List ℕ). HasFields y a name attr (time % 65536) (date % 65536) 0 0) same-entry
         (fresh name attr (time % 65536) (date % 65536) 0 0 (good-name .long) n a (omega (arith, x .frame .long, slot-within l k v s a within refl)) (omega arith) (omega arith) (omega arith) (omega arith))
 
     first : getD m a 0 ≡ getD name 0 0
@@ -119,7 +118,7 @@ module _ (k : Kind) (l : List ℕ) (v : OnVolume l k) (b : Bytes l) (given : Lis
     made-holds : Holds k m s (file name attr [])
     unfolding content
     made-holds = record {
-      is-file = (within, plain);
+      is-file = record { below = within; plain = plain };
       name = fields .name;
       attr = fields .attr;
       bytes = ([], none-of-it (fields .size) (fields .start) refl, rw (fields .size) refl);
@@ -132,7 +131,7 @@ module _ (k : Kind) (l : List ℕ) (v : OnVolume l k) (b : Bytes l) (given : Lis
     named = subst (Answers (λ (t : ℕ). PlainAt l (slotAt k t) × (nameOf l (slotAt k t) ≡ name)) (rootEntries k)) found
         (slot-named-answers l (rootAt k) (rootEntries k) (root-within l k v (rootAt k) (rootEntries k) refl refl) name (good-name .long))
 
-    old : FileIn l k s
+    old : IsFile k l s
     old = record { below = named .below; plain = named .passes .0 }
 
     freed : Emptied k l (chainFreed k l s) s
@@ -149,13 +148,13 @@ module _ (k : Kind) (l : List ℕ) (v : OnVolume l k) (b : Bytes l) (given : Lis
 
   -- ---- a new file takes the lowest open slot
 
-  module _ (none : slotNamed l (rootAt k) (rootEntries k) name ≡ Nothing) (lowest : lowestOpenSlot l (rootAt k) (rootEntries k) ≡ At s) where
+  module _ (none : slotNamed l (rootAt k) (rootEntries k) name ≡ Nothing) (lowest : lowestVacant l (rootAt k) (rootEntries k) ≡ At s) where
     nowhere : (t : ℕ) → t < rootEntries k → ¬ (PlainAt l (slotAt k t) × (nameOf l (slotAt k t) ≡ name))
     nowhere = subst (Answers (λ (t : ℕ). PlainAt l (slotAt k t) × (nameOf l (slotAt k t) ≡ name)) (rootEntries k)) none
         (slot-named-answers l (rootAt k) (rootEntries k) (root-within l k v (rootAt k) (rootEntries k) refl refl) name (good-name .long))
 
-    vacant : LowestBelow (λ (t : ℕ). OpenAt l (slotAt k t)) (rootEntries k) s
-    vacant = subst (Answers (λ (t : ℕ). OpenAt l (slotAt k t)) (rootEntries k)) lowest (open-slot-answers l (rootAt k) (rootEntries k))
+    vacant : LowestBelow (λ (t : ℕ). VacantAt l (slotAt k t)) (rootEntries k) s
+    vacant = subst (Answers (λ (t : ℕ). VacantAt l (slotAt k t)) (rootEntries k)) lowest (vacant-slot-answers l (rootAt k) (rootEntries k))
 
     unowned : Emptied k l l s
     unowned = none-emptied k l v b s (vacant .below) (λ p. elim (vacant .passes) [ inl e ↦ p .0 .1 e | inr e ↦ p .0 .0 e ])

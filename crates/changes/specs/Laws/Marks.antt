@@ -15,50 +15,50 @@ use Rattle.image.specs.Numbers.{digits}
 use Rattle.image.specs.Store.{stored}
 use Rattle.image.specs.Laws.Numbers.{length-digits, bytes-digits}
 use Rattle.image.specs.Laws.Store.{bytes-one, bytes-stored, stored-inside}
-use Rattle.chains.specs.Content.{Touches, Room, content}
-use Rattle.chains.specs.Holders.{Holder, Owns, fileHolder}
+use Rattle.chains.specs.Content.{content}
+use Rattle.chains.specs.Aids.Content.{Room, Touches}
+use Rattle.chains.specs.Aids.Holders.{Holder, Owns, fileHolder}
 use Rattle.chains.specs.Lists.{_∈_}
-use Rattle.chains.specs.Replace.{Replaced}
+use Rattle.chains.specs.Aids.Replace.{Replaced}
 use Rattle.chains.specs.Values.{Link}
 use Rattle.chains.specs.Laws.Chain.{chain-mem}
 use Rattle.chains.specs.Laws.Changes.{keeps}
-use Rattle.chains.specs.Laws.Clusters.{file-owns}
+use Rattle.sound.specs.Laws.Clusters.{file-owns}
 use Rattle.chains.specs.Laws.Content.{cluster-high}
 use Rattle.chains.specs.Laws.Holders.{file-fits}
 use Rattle.chains.specs.Laws.Tests.{clash}
 use Rattle.chains.specs.Laws.Touched.{content-same, touched-twice}
-use Rattle.diskette.specs.Kinds.{Usable}
+use Rattle.diskette.specs.Aids.Usable.{Usable}
 use Rattle.diskette.specs.Places.{firstData, clusterBytes, lastCluster, rootAt, rootEntries, slotAt}
 use Rattle.diskette.specs.declared.Kind.{Kind}
-use Rattle.directory.specs.Entries.{Untouched}
+use Rattle.directory.specs.Aids.Entries.{Untouched}
 use Rattle.fields.specs.Fields.{nameOf, attrOf, startOf, sizeOf, withName, withAttr}
 use Rattle.directory.specs.Search.{slotNamed}
 use Rattle.directory.specs.Slots.{hasBit, NeverUsedAt, PlainAt}
 use Rattle.directory.specs.Laws.Entries.{untouched, byte-leaves, word-leaves, byte-back, run-back}
 use Rattle.directory.specs.Laws.Search.{slot-named-answers}
-use Rattle.names.specs.Reading as Given
+use Rattle.names.specs.Reading.{nameGiven}
 use Rattle.names.specs.Spelling.{Proper}
 use Rattle.names.specs.Laws.Proper.{proper}
 use Rattle.search.specs.Search.{Answers}
 use Rattle.search.specs.declared.Found.the-variants.{Nothing}
-use Rattle.chaincheck.specs.Entries.{holderAt}
-use Rattle.sound.specs.Files.{valueOf, ChainOf}
+use Rattle.chaincheck.specs.Aids.Entries.{holderAt}
+use Rattle.sound.specs.Files.{valueOf, ChainOf, IsFile}
 use Rattle.sound.specs.Findings.{StrangeEntry}
-use Rattle.sound.specs.Holders.{rootHolders, rootChains}
+use Rattle.sound.specs.Aids.Holders.{rootHolders, rootChains}
 use Rattle.sound.specs.Laws.Geometry.{geometry}
 use Rattle.sound.specs.Laws.Holders.{root-holder, plain-holder}
-use Rattle.calls.specs.Ready.{OnVolume}
+use Rattle.calls.specs.Aids.Ready.{OnVolume}
 use Rattle.calls.specs.Refusals.{badAttr}
 use Rattle.calls.specs.Laws.Attribute.{attr-fits}
 use Rattle.calls.specs.Laws.Files.{root-within}
 use Rattle.calls.specs.Laws.Ready.{on-usable}
 use Rattle.closing.specs.Close.{archived, stamped}
 use Rattle.closing.specs.Laws.Close.{archived-fits}
-use Rattle.holding.specs.Holding.{FileIn}
 use Rattle.holding.specs.Laws.Chain.{file-within}
 use Rattle.holding.specs.Laws.Clusters.{on-clusters}
 use Rattle.changes.specs.Files.{File, file, Holds}
-use Rattle.changes.specs.Changed.{Framed, SlotChanged}
+use Rattle.changes.specs.Aids.Changed.{Framed, SlotChanged}
 use Rattle.changes.specs.Laws.Changed.{on-sound, on-theory}
 use Rattle.changes.specs.Laws.Frames.{frame-then, entry-frame, entry-table, entry-touches}
 
@@ -160,7 +160,7 @@ pub record Marked (k : Kind) (l m : List ℕ) (s attr : ℕ) : Type 0 where
   pub start : startOf m (slotAt k s) ≡ startOf l (slotAt k s)
   pub size : sizeOf m (slotAt k s) ≡ sizeOf l (slotAt k s)
 
-module _ (k : Kind) (l : List ℕ) (v : OnVolume l k) (s : ℕ) (i : FileIn l k s) where
+module _ (k : Kind) (l : List ℕ) (v : OnVolume l k) (s : ℕ) (i : IsFile k l s) where
   u : Usable k
   u = on-usable l k v
 
@@ -244,7 +244,7 @@ module _ (k : Kind) (l : List ℕ) (v : OnVolume l k) (s : ℕ) (i : FileIn l k 
 
     pub entry-holds : (g : File) → Holds k l s g → (name : List ℕ) (attr : ℕ) → nameOf m a ≡ name → attrOf m a ≡ attr → Holds k m s (file name attr (g .bytes))
     entry-holds g h name attr e d = record {
-      is-file = (i .below, f .plain);
+      is-file = record { below = i .below; plain = f .plain };
       name = e;
       attr = d;
       bytes = (h .bytes .0, chain-stays (h .bytes .0) (h .bytes .1), same-content (h .bytes .0) (h .bytes .1) ∙ h .bytes .2);
@@ -255,9 +255,9 @@ module _ (k : Kind) (l : List ℕ) (v : OnVolume l k) (s : ℕ) (i : FileIn l k 
 
   -- ---- rename
 
-  module _ (given : List ℕ) (fits : Given.nameOf given .fits ≡ true) where
+  module _ (given : List ℕ) (fits : nameGiven given .fits ≡ true) where
     abbrev name : List ℕ
-    name = Given.nameOf given .name
+    name = nameGiven given .name
 
     abbrev renamed : List ℕ
     renamed = withName l a name

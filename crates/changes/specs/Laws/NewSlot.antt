@@ -9,12 +9,12 @@ use Rattle.diskette.specs.Places.{rootAt, rootEntries, slotAt}
 use Rattle.diskette.specs.declared.Kind.{Kind}
 use Rattle.search.specs.Laws.Below.{only-answer}
 use Rattle.search.specs.declared.Found.the-variants.{At, Nothing}
-use Rattle.fields.specs.Fields as fields
-use Rattle.directory.specs.Search.{lowestOpenSlot, slotNamed}
-use Rattle.directory.specs.Slots.{NeverUsedAt, OpenAt, PlainAt}
-use Rattle.directory.specs.Laws.Search.{open-slot-answers, slot-named-answers}
-use Rattle.names.specs.Reading.{nameOf}
-use Rattle.calls.specs.Ready.{OnVolume}
+use Rattle.fields.specs.Fields.{nameOf}
+use Rattle.directory.specs.Search.{lowestVacant, slotNamed}
+use Rattle.directory.specs.Slots.{NeverUsedAt, VacantAt, PlainAt}
+use Rattle.directory.specs.Laws.Search.{vacant-slot-answers, slot-named-answers}
+use Rattle.names.specs.Reading.{nameGiven}
+use Rattle.calls.specs.Aids.Ready.{OnVolume}
 use Rattle.calls.specs.Refusals.{fileFound, slotForNew}
 use Rattle.calls.specs.Laws.Files.{root-within}
 use Rattle.calls.specs.Laws.Ready.{on-kind}
@@ -22,26 +22,26 @@ use Rattle.changes.specs.Files.{File, Files, Shows, ShowsAt}
 
 module _ (k : Kind) (l : List ℕ) (v : OnVolume l k) (fs : Files) (shows : Shows k l fs) where
   -- no file that is shown has the name
-  pub none-of-name : (s : List ℕ) → length (nameOf s .name) ≡ 11 → ((t : ℕ) (f : File) → fs t ≡ some f → f .name ≢ nameOf s .name) → fileFound l s ≡ Nothing
+  pub none-of-name : (s : List ℕ) → length (nameGiven s .name) ≡ 11 → ((t : ℕ) (f : File) → fs t ≡ some f → f .name ≢ nameGiven s .name) → fileFound l s ≡ Nothing
   unfolding fileFound
   none-of-name s long other = rw (on-kind l k v)
-      (only-answer _ (rootEntries k) (slotNamed l (rootAt k) (rootEntries k) (nameOf s .name)) Nothing
-      (slot-named-answers l (rootAt k) (rootEntries k) (root-within l k v (rootAt k) (rootEntries k) refl refl) (nameOf s .name) long)
+      (only-answer _ (rootEntries k) (slotNamed l (rootAt k) (rootEntries k) (nameGiven s .name)) Nothing
+      (slot-named-answers l (rootAt k) (rootEntries k) (root-within l k v (rootAt k) (rootEntries k) refl refl) (nameGiven s .name) long)
       (λ q h x. clash q h x (fs q) refl (shows q)))
     where
-      clash : (q : ℕ) → q < rootEntries k → PlainAt l (slotAt k q) × (fields.nameOf l (slotAt k q) ≡ nameOf s .name) → (o : Option File) → fs q ≡ o → ShowsAt k l q o → ⊥
-      clash q h x none e y = y (h, x .0)
+      clash : (q : ℕ) → q < rootEntries k → PlainAt l (slotAt k q) × (nameOf l (slotAt k q) ≡ nameGiven s .name) → (o : Option File) → fs q ≡ o → ShowsAt k l q o → ⊥
+      clash q h x none e y = y (record { below = h; plain = x .0 })
       clash q h x (some f) e y = other q f e (sym (y .name) ∙ x .1)
 
   -- files below slot n, and n was never used
-  pub lowest-open : (n : ℕ) → n < rootEntries k → ((t : ℕ) → t < n → (f : File) × (fs t ≡ some f)) → NeverUsedAt l (slotAt k n) → slotForNew l ≡ At n
+  pub lowest-vacant : (n : ℕ) → n < rootEntries k → ((t : ℕ) → t < n → (f : File) × (fs t ≡ some f)) → NeverUsedAt l (slotAt k n) → slotForNew l ≡ At n
   unfolding slotForNew
-  lowest-open n h below never = rw (on-kind l k v)
-      (only-answer (λ (s : ℕ). OpenAt l (slotAt k s)) (rootEntries k) (lowestOpenSlot l (rootAt k) (rootEntries k)) (At n) (open-slot-answers l (rootAt k) (rootEntries k))
+  lowest-vacant n h below never = rw (on-kind l k v)
+      (only-answer (λ (s : ℕ). VacantAt l (slotAt k s)) (rootEntries k) (lowestVacant l (rootAt k) (rootEntries k)) (At n) (vacant-slot-answers l (rootAt k) (rootEntries k))
       (record {
         below = h;
         passes = inr never;
         none-lower = λ q i either.
             let x = subst (ShowsAt k l q) (below q i .1) (shows q) in
-            elim either [ inl e ↦ x .is-file .1 .0 .1 e | inr e ↦ x .is-file .1 .0 .0 e ];
+            elim either [ inl e ↦ x .is-file .plain .0 .1 e | inr e ↦ x .is-file .plain .0 .0 e ];
       }))

@@ -7,13 +7,13 @@ use lib.ListN.{length, getD, replicate}
 use Rattle.image.specs.Bytes.{Bytes}
 use Rattle.chains.specs.Write.{filledImage, writtenImage}
 use Rattle.contents.specs.Laws.Kept.{bytes-poured, bytes-zeros, poured-before, poured-table}
-use Rattle.diskette.specs.Kinds.{Usable}
+use Rattle.diskette.specs.Aids.Usable.{Usable}
 use Rattle.diskette.specs.Places.{firstData, clusterBytes, lastCluster, rootEntries, slotAt}
 use Rattle.diskette.specs.declared.Kind.{Kind}
-use Rattle.directory.specs.Entries.{SameFields}
+use Rattle.directory.specs.Aids.Entries.{SameFields}
 use Rattle.directory.specs.Laws.Entries.{same-fields}
 use Rattle.sound.specs.Files.{valueOf}
-use Rattle.changes.specs.Changed.{Framed}
+use Rattle.changes.specs.Aids.Changed.{Framed}
 use Rattle.changes.specs.Laws.Frames.{data-frame, frame-then}
 
 module _ (k : Kind) (u : Usable k) (l cs : List ℕ) (size pointer : ℕ) (bs : List ℕ) where

@@ -12,12 +12,12 @@ use Rattle.diskette.specs.declared.Kind.{Kind}
 use Rattle.fields.specs.Fields.{nameOf, attrOf}
 use Rattle.directory.specs.Slots.{PlainAt}
 use Rattle.sound.specs.Findings.{BadSlot}
-use Rattle.calls.specs.Ready.{OnVolume}
-use Rattle.holding.specs.Holding.{FileIn}
-use Rattle.changes.specs.Changed.{GoodSlot}
+use Rattle.calls.specs.Aids.Ready.{OnVolume}
+use Rattle.sound.specs.Files.{IsFile}
+use Rattle.changes.specs.Aids.Changed.{GoodSlot}
 use Rattle.changes.specs.Laws.Changed.{on-sound}
 
-module _ (k : Kind) (l m : List ℕ) (s : ℕ) (v : OnVolume l k) (i : FileIn l k s) (first : getD m (slotAt k s) 0 ≡ getD l (slotAt k s) 0)
+module _ (k : Kind) (l m : List ℕ) (s : ℕ) (v : OnVolume l k) (i : IsFile k l s) (first : getD m (slotAt k s) 0 ≡ getD l (slotAt k s) 0)
     (name : nameOf m (slotAt k s) ≡ nameOf l (slotAt k s)) (attr : attrOf m (slotAt k s) ≡ attrOf l (slotAt k s)) where
   pub same-plain : PlainAt m (slotAt k s)
   same-plain = ((λ e. i .plain .0 .0 (sym first ∙ e), λ e. i .plain .0 .1 (sym first ∙ e)), rw attr (i .plain .1))

@@ -9,11 +9,11 @@ use Rattle.diskette.specs.Places.{rootEntries, slotAt}
 use Rattle.diskette.specs.declared.Kind.{Kind}
 use Rattle.fields.specs.Fields.{nameOf}
 use Rattle.directory.specs.Slots.{NeverUsedAt, PlainAt}
-use Rattle.calls.specs.Ready.{OnVolume}
-use Rattle.holding.specs.Holding.{FileIn}
+use Rattle.calls.specs.Aids.Ready.{OnVolume}
+use Rattle.sound.specs.Files.{IsFile}
 use Rattle.changes.specs.Laws.Changed.{on-sound}
 
-module _ (k : Kind) (l : List ℕ) (v : OnVolume l k) (s : ℕ) (i : FileIn l k s) where
+module _ (k : Kind) (l : List ℕ) (v : OnVolume l k) (s : ℕ) (i : IsFile k l s) where
   -- every lower slot was used
   pub used-lower : (t : ℕ) → t < s → ¬ NeverUsedAt l (slotAt k t)
   used-lower t h z = on-sound k l v .1 .slots s (i .below, inl (i .plain .0 .0, (t, h, z)))

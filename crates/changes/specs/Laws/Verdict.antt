@@ -6,22 +6,20 @@ use mathlib.Core.Bool.{Bool, true, false}
 use mathlib.Core.List.{List}
 use mathlib.Core.Logic.{inr}
 use mathlib.Core.Path.{_≡_, refl, sym, ap, _∙_, subst}
-use Rattle.chains.specs.Sums.{tally}
-use Rattle.chains.specs.Tests.{bit}
-use Rattle.diskette.specs.Places.{rootAt, rootEntries, slotAt}
+use Rattle.chains.specs.Sums.{tally, bit}
+use Rattle.diskette.specs.Places.{rootEntries, slotAt}
 use Rattle.diskette.specs.declared.Kind.{Kind}
 use Rattle.diskette.specs.declared.WhichKind.{WhichKind}
 use Rattle.directory.specs.Slots.{standingOf, isPlain}
 use Rattle.directory.specs.Laws.Slots.{plain-is}
-use Rattle.chaincheck.specs.Held.{plainSlot}
 use Rattle.sound.specs.Answer.{AnswersBy}
-use Rattle.sound.specs.Counts.{fileCount, freeOf, heldOf, asideOf}
+use Rattle.sound.specs.Counts.{isFile, fileCount, freeOf, heldOf, asideOf}
 use Rattle.sound.specs.Files.{IsFile}
 use Rattle.sound.specs.Judged.{checkOf}
 use Rattle.sound.specs.Laws.OneAnswer.{checked-is}
 use Rattle.sound.specs.Laws.Sound.{sound-exactly}
 use Rattle.sound.specs.declared.Verdict.the-variants.{Sound}
-use Rattle.calls.specs.Ready.{OnVolume}
+use Rattle.calls.specs.Aids.Ready.{OnVolume}
 use Rattle.calls.specs.Laws.Ready.{on-usable}
 use Rattle.changes.specs.Laws.Changed.{on-sound}
 
@@ -50,21 +48,21 @@ count-first p n (suc m) c a b yes-below no-from = elim (decLt c n) [
 
 -- files in the slots below n alone
 module _ (k : Kind) (l : List ℕ) where
-  is-slot : (s : ℕ) → IsFile k l s → plainSlot l (rootAt k) s ≡ true
-  unfolding plainSlot
-  is-slot s i = plain-is l (slotAt k s) .1 (i .1)
+  is-slot : (s : ℕ) → IsFile k l s → isFile k l s ≡ true
+  unfolding isFile
+  is-slot s i = plain-is l (slotAt k s) .1 (i .plain)
 
-  no-slot : (s : ℕ) → s < rootEntries k → ¬ IsFile k l s → plainSlot l (rootAt k) s ≡ false
-  unfolding plainSlot
+  no-slot : (s : ℕ) → s < rootEntries k → ¬ IsFile k l s → isFile k l s ≡ false
+  unfolding isFile
   no-slot s h n = by (isPlain (standingOf l (slotAt k s))) refl
     where
       by : (b : Bool) → isPlain (standingOf l (slotAt k s)) ≡ b → b ≡ false
-      by true e = absurd (n (h, plain-is l (slotAt k s) .0 e))
+      by true e = absurd (n (record { below = h; plain = plain-is l (slotAt k s) .0 e }))
       by false e = refl
 
   pub first-count : (n : ℕ) → n ≤ rootEntries k → ((s : ℕ) → s < n → IsFile k l s) → ((s : ℕ) → n ≤ s → ¬ IsFile k l s) → fileCount k l ≡ n
   first-count n h files others =
-      count-first (plainSlot l (rootAt k)) n (rootEntries k) 0 (omega arith) (omega arith) (λ i x. is-slot i (files i x)) (λ i x y. no-slot i (omega arith) (others i x)) ∙ zero-less n
+      count-first (isFile k l) n (rootEntries k) 0 (omega arith) (omega arith) (λ i x. is-slot i (files i x)) (λ i x y. no-slot i (omega arith) (others i x)) ∙ zero-less n
     where
       zero-less : (m : ℕ) → m - 0 ≡ m
       zero-less m = omega arith

@@ -5,44 +5,47 @@ use mathlib.Core.List.{List}
 use mathlib.Core.Path.{_≡_, refl, sym, ap, ap₂, _∙_, subst}
 use lib.ListN.{length, getD}
 use Rattle.image.specs.Bytes.{Bytes}
-use Rattle.chains.specs.Content.{Touches, clusterAt, content}
-use Rattle.chains.specs.Growth.{longerChain, longerTable}
-use Rattle.chains.specs.Holders.{Holder, Owns, fileHolder}
-use Rattle.chains.specs.Lists as lists
-use Rattle.chains.specs.Replace.{Replaced}
+use Rattle.chains.specs.Content.{clusterBegin, content}
+use Rattle.chains.specs.Aids.Content.{Touches}
+use Rattle.chains.specs.Free.{freeClusters}
+use Rattle.chains.specs.Aids.Growth.{longerChain, longerTable}
+use Rattle.chains.specs.Aids.Holders.{Holder, Owns, fileHolder}
+use Rattle.chains.specs.Lists.{headOf}
+use Rattle.chains.specs.Aids.Replace.{Replaced}
 use Rattle.chains.specs.Values.{Link}
-use Rattle.chains.specs.Write.{roomFor, written, writtenImage}
-use Rattle.chains.specs.Laws.Clusters.{owns-file}
+use Rattle.chains.specs.Write.{written, writtenImage}
+use Rattle.sound.specs.Laws.Clusters.{owns-file}
 use Rattle.chains.specs.Laws.Content.{cluster-high}
 use Rattle.chains.specs.Laws.Free.{free-length}
 use Rattle.chains.specs.Laws.Touched.{touched-twice}
 use Rattle.chains.specs.Laws.Write.{write-bytes, write-replaces, write-touches}
-use Rattle.contents.specs.Contents.{Area}
-use Rattle.diskette.specs.Kinds.{Usable}
+use Rattle.contents.specs.Aids.Contents.{Area}
+use Rattle.diskette.specs.Aids.Usable.{Usable}
 use Rattle.diskette.specs.Places.{firstData, clusterBytes, lastCluster, slotAt}
 use Rattle.diskette.specs.declared.Kind.{Kind}
-use Rattle.directory.specs.Entries.{SameFields}
+use Rattle.directory.specs.Aids.Entries.{SameFields}
 use Rattle.fields.specs.Fields.{nameOf, attrOf, startOf, sizeOf}
 use Rattle.directory.specs.Slots.{PlainAt}
 use Rattle.links.specs.Linked.{newClusters}
-use Rattle.chaincheck.specs.Entries.{holderAt}
-use Rattle.sound.specs.Files.{valueOf, ChainOf}
-use Rattle.sound.specs.Holders.{rootHolders, rootChains}
+use Rattle.chaincheck.specs.Aids.Entries.{holderAt}
+use Rattle.sound.specs.Files.{valueOf, ChainOf, IsFile}
+use Rattle.sound.specs.Aids.Holders.{rootHolders, rootChains}
 use Rattle.sound.specs.Laws.Geometry.{geometry}
 use Rattle.sound.specs.Laws.Holders.{plain-holder}
 use Rattle.sound.specs.Laws.Sound.{chain-only}
-use Rattle.calls.specs.Ready.{OnVolume}
+use Rattle.calls.specs.Aids.Ready.{OnVolume}
 use Rattle.calls.specs.Laws.Ready.{on-usable}
-use Rattle.holding.specs.Holding.{fileChain, FileIn}
+use Rattle.holding.specs.Holding.{fileChain}
 use Rattle.holding.specs.Laws.Clusters.{on-clusters}
 use Rattle.holding.specs.Laws.Chain.{file-owned, file-within}
-use Rattle.putting.specs.Longer.{roomOf, chainAfter, lengthened, CanGrow}
-use Rattle.putting.specs.Put.{CanPut}
+use Rattle.putting.specs.Longer.{chainAfter, lengthened}
+use Rattle.putting.specs.Aids.Longer.{CanGrow}
+use Rattle.putting.specs.Aids.Put.{CanPut}
 use Rattle.putting.specs.Written.{sizeAfter, writtenIn}
 use Rattle.putting.specs.Laws.Longer.{longer-length, longer-table}
 use Rattle.putting.specs.Laws.Put.{can-grow}
 use Rattle.changes.specs.Files.{File, file, Holds}
-use Rattle.changes.specs.Changed.{Framed, SlotChanged}
+use Rattle.changes.specs.Aids.Changed.{Framed, SlotChanged}
 use Rattle.changes.specs.Laws.Changed.{on-theory}
 use Rattle.changes.specs.Laws.Frames.{frame-then}
 use Rattle.changes.specs.Laws.Lengthened.{longer-attr, longer-bytes, longer-content, longer-first, longer-frame, longer-name, longer-size, longer-start, longer-touches}
@@ -55,7 +58,7 @@ module _ (k : Kind) (l : List ℕ) (s pointer : ℕ) (bs : List ℕ) (p : CanPut
   v : OnVolume l k
   v = p .on
 
-  i : FileIn l k s
+  i : IsFile k l s
   i = p .file
 
   u : Usable k
@@ -130,7 +133,7 @@ module _ (k : Kind) (l : List ℕ) (s pointer : ℕ) (bs : List ℕ) (p : CanPut
   wrote-attr : attrOf m a ≡ attrOf l a
   wrote-attr = entry .attr ∙ longer-attr k l s more grow
 
-  wrote-start : startOf m a ≡ lists.startOf ds
+  wrote-start : startOf m a ≡ headOf ds
   wrote-start = entry .start ∙ longer-start k l s more grow
 
   wrote-size : sizeOf m a ≡ more
@@ -139,27 +142,26 @@ module _ (k : Kind) (l : List ℕ) (s pointer : ℕ) (bs : List ℕ) (p : CanPut
   wrote-plain : PlainAt m a
   wrote-plain = same-plain k l m s v i wrote-first wrote-name wrote-attr
 
-  wrote-holder : holderAt cb m a ≡ fileHolder cb (lists.startOf ds) more
+  wrote-holder : holderAt cb m a ≡ fileHolder cb (headOf ds) more
   wrote-holder = plain-holder cb m a wrote-plain ∙ ap₂ (fileHolder cb) wrote-start wrote-size
 
   -- ---- by the theory of chains
 
-  fit : more ≤ roomFor last cb (valueOf k l) own
-  unfolding roomFor roomOf
+  fit : more ≤ (length own + length (freeClusters last (valueOf k l))) * cb
   fit = rw (own-is, free-length (geometry k u) (valueOf k l)) (grow .room)
 
   chain-is : longerChain last cb (valueOf k l) own more ≡ ds
   unfolding longerChain newClusters
   chain-is = rw own-is
 
-  whole : (c : ℕ) → Link last c → clusterAt base cb c + cb ≤ length long
+  whole : (c : ℕ) → Link last c → clusterBegin base cb c + cb ≤ length long
   whole c h = omega (arith, longer-length k l s more grow, area .clusters, cluster-high base cb (area .wide) (geometry k u) c h)
 
   wrote-chain : Replaced last (valueOf k l) (valueOf k m) (holderAt cb m a) own ds
   wrote-chain =
       subst (λ (h : Holder). Replaced last (valueOf k l) (valueOf k m) h own ds) (sym wrote-holder)
-      (subst (λ (g : ℕ → ℕ). Replaced last (valueOf k l) g (fileHolder cb (lists.startOf ds) more) own ds) (λ j c. sym (wrote-table c) j)
-      (subst (λ (cs : List ℕ). Replaced last (valueOf k l) (longerTable last cb (valueOf k l) own more) (fileHolder cb (lists.startOf cs) more) own cs) chain-is
+      (subst (λ (g : ℕ → ℕ). Replaced last (valueOf k l) g (fileHolder cb (headOf ds) more) own ds) (λ j c. sym (wrote-table c) j)
+      (subst (λ (cs : List ℕ). Replaced last (valueOf k l) (longerTable last cb (valueOf k l) own more) (fileHolder cb (headOf cs) more) own cs) chain-is
       (write-replaces (geometry k u) base (valueOf k l) (rootHolders k l) (rootChains k l) (on-theory k l v) long whole a (startOf l a) size (root-file-holder k l v s i) pointer bs fit)))
 
   put-touches : Touches last base cb long m ds
@@ -198,7 +200,7 @@ module _ (k : Kind) (l : List ℕ) (s pointer : ℕ) (bs : List ℕ) (p : CanPut
 
     pub wrote-holds : Holds k m s (file (f .name) (f .attr) (written (f .bytes) pointer bs))
     wrote-holds = record {
-      is-file = (i .below, wrote-plain);
+      is-file = record { below = i .below; plain = wrote-plain };
       name = wrote-name ∙ x .name;
       attr = wrote-attr ∙ x .attr;
       bytes = (ds, chain-after, ap (content base cb m ds) wrote-size ∙ wrote-content ∙ ap (λ (xs : List ℕ). written xs pointer bs) held);

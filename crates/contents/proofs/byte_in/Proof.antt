@@ -1,5 +1,5 @@
 -- The cluster lies below the largest number, and so does each of its bytes.
-use Rattle.chains.specs.Content.{clusterAt}
+use Rattle.chains.specs.Content.{clusterBegin}
 use Rattle.contents.specs.Laws.Leaves.{steps-fit, start-fits, place-fits}
 use borrow.Author.Needs.{needs}
 use Rattle.contents.proofs.byte_in.Statement.{statement}
@@ -21,7 +21,7 @@ add-result-2 : tie.Need-add-result-2
 add-result-2 c = search place-fits
 
 returns : tie.Need-returns
-unfolding clusterAt
+unfolding clusterBegin
 returns c = search needs
 
 pub byte-in-spec : {M : Type 1} → statement M

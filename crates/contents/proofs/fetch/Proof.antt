@@ -1,7 +1,7 @@
 -- The bytes done so far stand in the buffer, and the cluster at hand holds the next one.
 use borrow.Author.Needs.{needs}
 use Prim.Native.Nat.{_-_}
-use Rattle.contents.specs.Loops.{Fetching}
+use Rattle.contents.specs.Aids.Loops.{Fetching}
 use Rattle.contents.specs.Laws.Turns.{fetch-first, fetch-length, fetch-done, next-fits, cluster-from, cluster-fits, run-end-fits, run-less, run-stays, fetch-fits, fetch-again}
 use Rattle.contents.proofs.fetch.Statement.{statement}
 use Rattle.contents.proofs.fetch.Tie as tie

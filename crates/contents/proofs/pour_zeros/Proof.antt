@@ -2,7 +2,7 @@
 use borrow.Author.Needs.{needs}
 use Prim.Native.Nat.{_-_}
 use lib.ListN.{replicate}
-use Rattle.contents.specs.Loops.{Pouring}
+use Rattle.contents.specs.Aids.Loops.{Pouring}
 use Rattle.contents.specs.Laws.Turns.{pour-first, pour-length, pour-reaches, pour-done, pour-stays, next-fits, cluster-from, cluster-fits, run-end-fits, run-less, fill-again}
 use Rattle.contents.proofs.pour_zeros.Statement.{statement}
 use Rattle.contents.proofs.pour_zeros.Tie as tie

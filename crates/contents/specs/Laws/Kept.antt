@@ -13,7 +13,8 @@ use Rattle.chains.specs.Laws.Content.{byte-low}
 use Rattle.chains.specs.Laws.Poured.{poured-length, poured-out}
 use Rattle.table.specs.Entries.{wordAt, tableOf}
 use Rattle.table.specs.Laws.View.{table-same}
-use Rattle.contents.specs.Contents.{chainFrom, Area, bytesPut, zerosPut}
+use Rattle.contents.specs.Contents.{chainFrom}
+use Rattle.contents.specs.Aids.Contents.{Area, bytesPut, zerosPut}
 use Rattle.contents.specs.Laws.Chain.{chain-kept}
 
 pub bytes-poured : (base cb : ℕ) (l cs : List ℕ) (pos : ℕ) (bs : List ℕ) (n : ℕ) → Bytes l → Bytes bs → Bytes (poured base cb l cs pos bs n)

@@ -3,10 +3,10 @@ use Prim.Native.Nat.{ℕ, _-_, _*_, _≤_}
 use native.Mathlib.Omega.{arith}
 use mathlib.Core.Path.{_≡_}
 use Rattle.chains.specs.Content as theory
-use Rattle.diskette.specs.Kinds.{Usable}
+use Rattle.diskette.specs.Aids.Usable.{Usable}
 use Rattle.diskette.specs.Places.{firstData, clusters, lastCluster, clusterBytes}
 use Rattle.diskette.specs.declared.Kind.{Kind}
-use Rattle.contents.specs.Contents.{Area}
+use Rattle.contents.specs.Aids.Contents.{Area}
 
 module _ (k : Kind) (u : Usable k) where
   pub area-kind : (bytes : ℕ) → 512 * k .sectors ≤ bytes → Area (512 * firstData k) (clusterBytes k) (lastCluster k) bytes

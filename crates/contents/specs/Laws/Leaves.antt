@@ -6,13 +6,14 @@ use mathlib.Core.Path.{_≡_, sym, _∙_}
 use mathlib.Core.List.{List}
 use lib.ListN.{length, getD, take, drop}
 use Rattle.image.specs.Store.{stored, part}
-use Rattle.chains.specs.Content.{byteAt, clusterAt}
+use Rattle.chains.specs.Content.{byteAt, clusterBegin}
 use Rattle.chains.specs.Values.{Link}
 use Rattle.chains.specs.Laws.Content.{cluster-high}
-use Rattle.chains.specs.Steps.{followed}
+use Rattle.chains.specs.Aids.Steps.{followed}
 use Rattle.table.specs.Entries.{tableOf}
-use Rattle.contents.specs.Contents.{chainFrom, Area, placeOf}
-use Rattle.contents.specs.Loops.{runOf}
+use Rattle.contents.specs.Contents.{chainFrom}
+use Rattle.contents.specs.Aids.Contents.{Area, placeOf}
+use Rattle.contents.specs.Aids.Loops.{runOf}
 use Rattle.contents.specs.Laws.Chain.{geometry, holder-link, holder-followed}
 
 -- ---- runs and places, on numbers alone
@@ -29,17 +30,17 @@ module _ (cb p left : ℕ) (wide : 0 < cb) where
   unfolding runOf
   run-whole h = omega arith
 
-module _ (base cb c p : ℕ) (wide : 0 < cb) (fits : clusterAt base cb c + cb < 18446744073709551616) where
+module _ (base cb c p : ℕ) (wide : 0 < cb) (fits : clusterBegin base cb c + cb < 18446744073709551616) where
   pub steps-fit : (c - 2) * cb < 18446744073709551616
-  unfolding clusterAt
+  unfolding clusterBegin
   steps-fit = omega arith
 
   pub start-fits : base + (c - 2) * cb < 18446744073709551616
-  unfolding clusterAt
+  unfolding clusterBegin
   start-fits = omega arith
 
   pub place-fits : base + (c - 2) * cb + p % cb < 18446744073709551616
-  unfolding clusterAt
+  unfolding clusterBegin
   place-fits = omega (arith, mod-lt p wide)
 
 -- ---- parts
@@ -56,10 +57,10 @@ module _ (base cb last : ℕ) (l : List ℕ) (start : ℕ) (a : Area base cb las
     pub in-range : Link last c
     in-range = rw e (holder-link base cb last l start a p h)
 
-    pub in-reach : length l < 18446744073709551616 → clusterAt base cb c + cb < 18446744073709551616
+    pub in-reach : length l < 18446744073709551616 → clusterBegin base cb c + cb < 18446744073709551616
     in-reach k = omega (arith, a .clusters, cluster-high base cb (a .wide) (geometry a) c in-range)
 
-    pub in-place : (at : ℕ) → at ≡ clusterAt base cb c + p % cb → at ≡ placeOf base cb last l start p
+    pub in-place : (at : ℕ) → at ≡ clusterBegin base cb c + p % cb → at ≡ placeOf base cb last l start p
     unfolding byteAt
     in-place at t = rw e at t
 
@@ -71,8 +72,8 @@ module _ (base cb last : ℕ) (l : List ℕ) (start : ℕ) (a : Area base cb las
     pub met-from : 2 ≤ c
     met-from = in-range met-holds .0
 
-    pub met-fits : length l < 18446744073709551616 → clusterAt base cb c + cb < 18446744073709551616
+    pub met-fits : length l < 18446744073709551616 → clusterBegin base cb c + cb < 18446744073709551616
     met-fits = in-reach met-holds
 
-    pub met-place : (at : ℕ) → at ≡ clusterAt base cb c + p % cb → at ≡ placeOf base cb last l start p
+    pub met-place : (at : ℕ) → at ≡ clusterBegin base cb c + p % cb → at ≡ placeOf base cb last l start p
     met-place = in-place met-holds

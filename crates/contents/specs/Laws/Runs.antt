@@ -3,7 +3,7 @@ use Prim.Native.Nat.{ℕ, _+_, _-_, _*_, _/_, _%_, _≤_, _<_}
 use native.Mathlib.Omega.{arith}
 use native.Mathlib.Nat.{div-eq-of-lt, mul-add-div-right, div-add-mod', mod-lt}
 use mathlib.Core.Path.{_≡_, _∙_, ap}
-use Rattle.contents.specs.Loops.{runOf}
+use Rattle.contents.specs.Aids.Loops.{runOf}
 
 module _ (cb p left : ℕ) (wide : 0 < cb) where
   pub run-left : runOf cb p left ≤ left

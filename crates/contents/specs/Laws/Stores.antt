@@ -9,7 +9,8 @@ use lib.ListN.{length, getD, take, drop, length-drop}
 use lib.Seq.{ext-getD, take-add, drop-drop, take-all}
 use Rattle.image.specs.Store.{stored, part}
 use Rattle.image.specs.Laws.Store.{length-stored, stored-byte, stored-append, part-same, length-part}
-use Rattle.chains.specs.Content.{Room, byteAt, chainBytes, content}
+use Rattle.chains.specs.Content.{byteAt, chainBytes, content}
+use Rattle.chains.specs.Aids.Content.{Room}
 use Rattle.chains.specs.Write.{splice, poured}
 use Rattle.chains.specs.Laws.Lists.{index-mem}
 use Rattle.chains.specs.Laws.Content.{chain-bytes-length, chain-bytes-at, content-length, content-at}

@@ -8,13 +8,14 @@ use lib.ListN.{length, getD, replicate, length-replicate, getD-replicate}
 use lib.Seq.{ext-getD}
 use Rattle.image.specs.Store.{stored, part}
 use Rattle.image.specs.Laws.Store.{length-stored, length-part, part-at}
-use Rattle.chains.specs.Content.{clusterAt}
+use Rattle.chains.specs.Content.{clusterBegin}
 use Rattle.chains.specs.Write.{poured}
 use Rattle.chains.specs.Laws.Poured.{poured-length}
-use Rattle.chains.specs.Steps.{followed}
+use Rattle.chains.specs.Aids.Steps.{followed}
 use Rattle.table.specs.Entries.{wordAt, tableOf}
-use Rattle.contents.specs.Contents.{chainFrom, Area, placeOf, fetched}
-use Rattle.contents.specs.Loops.{runOf, Stands, Pouring, Fetching}
+use Rattle.contents.specs.Contents.{chainFrom}
+use Rattle.contents.specs.Aids.Contents.{Area, fetched, placeOf}
+use Rattle.contents.specs.Aids.Loops.{runOf, Stands, Pouring, Fetching}
 use Rattle.contents.specs.Laws.Chain.{chain-room, chain-small, holder-next}
 use Rattle.contents.specs.Laws.Leaves.{in-range, in-reach, in-place, met-holds}
 use Rattle.contents.specs.Laws.Runs.{run-left, run-some, run-inside, run-ends}
@@ -47,11 +48,11 @@ module _ (base cb last : ℕ) (l : List ℕ) (start : ℕ) (a : Area base cb las
     pub cluster-from : 2 ≤ c
     cluster-from = in-range base cb last l start a (pos + done) c (omega arith) (s .holds more) .0
 
-    pub cluster-fits : length l < 18446744073709551616 → clusterAt base cb c + cb < 18446744073709551616
+    pub cluster-fits : length l < 18446744073709551616 → clusterBegin base cb c + cb < 18446744073709551616
     cluster-fits = in-reach base cb last l start a (pos + done) c (omega arith) (s .holds more)
 
     -- the place of that byte
-    place-is : (at : ℕ) → at ≡ clusterAt base cb c + (pos + done) % cb → at ≡ placeOf base cb last l start (pos + done)
+    place-is : (at : ℕ) → at ≡ clusterBegin base cb c + (pos + done) % cb → at ≡ placeOf base cb last l start (pos + done)
     place-is = in-place base cb last l start a (pos + done) c (omega arith) (s .holds more)
 
     module _ (r : ℕ) (q : r ≡ runOf cb (pos + done) (n - done)) where
@@ -70,7 +71,7 @@ module _ (base cb last : ℕ) (l : List ℕ) (start : ℕ) (a : Area base cb las
       pub run-less : n - (done + r) < n - done
       run-less = omega (arith, any)
 
-      pub run-stays : (at : ℕ) → at ≡ clusterAt base cb c + (pos + done) % cb → at + r ≤ length l
+      pub run-stays : (at : ℕ) → at ≡ clusterBegin base cb c + (pos + done) % cb → at + r ≤ length l
       run-stays at e = rw (place-is at e) (run-fits base cb (a .wide) l (chainFrom last l start) (pos + done) r (chain-room base cb last l start a) (omega arith) within)
 
       next-stands : (v : ℕ) → v ≡ tableOf last l c → Stands cb (chainFrom last l start) pos n v (done + r)
@@ -101,7 +102,7 @@ module _ (base cb last : ℕ) (l : List ℕ) (start : ℕ) (a : Area base cb las
       pub pour-done : n ≤ done → m ≡ poured base cb l (chainFrom last l start) pos bs n
       pour-done h = let e : done ≡ n = omega (arith, s .stands .far) in rw e at (s .image)
 
-      module _ (more : done < n) (r at : ℕ) (q : r ≡ runOf cb (pos + done) (n - done)) (e : at ≡ clusterAt base cb c + (pos + done) % cb) where
+      module _ (more : done < n) (r at : ℕ) (q : r ≡ runOf cb (pos + done) (n - done)) (e : at ≡ clusterBegin base cb c + (pos + done) % cb) where
         pub pour-stays : at + r ≤ length m
         pour-stays = rw pour-length (run-stays c done (s .stands) more r q at e)
 
@@ -131,7 +132,7 @@ module _ (base cb last : ℕ) (l : List ℕ) (start : ℕ) (a : Area base cb las
       pub fetch-done : n ≤ done → filled ≡ stored out 0 (fetched base cb last l start pos n)
       fetch-done h = let e : done ≡ n = omega (arith, s .stands .far) in rw e at (s .buffer)
 
-      module _ (more : done < n) (r at : ℕ) (q : r ≡ runOf cb (pos + done) (n - done)) (e : at ≡ clusterAt base cb c + (pos + done) % cb) where
+      module _ (more : done < n) (r at : ℕ) (q : r ≡ runOf cb (pos + done) (n - done)) (e : at ≡ clusterBegin base cb c + (pos + done) % cb) where
         pub fetch-fits : n ≤ length out → done + r ≤ length filled
         fetch-fits h = omega (arith, fetch-length, run-end c done (s .stands) more r q)
 
@@ -148,12 +149,12 @@ module _ (base cb last : ℕ) (l : List ℕ) (start : ℕ) (a : Area base cb las
 
 module _ (base cb last : ℕ) (l : List ℕ) (start : ℕ) (a : Area base cb last (length l)) (pos : ℕ) where
   module _ (src : List ℕ) (full : pos + length src ≤ length (chainFrom last l start) * cb) (m : List ℕ) (c done : ℕ) (s : Pouring base cb last l start pos src (length src) m c done) (more : done < length src)
-      (r at : ℕ) (q : r ≡ runOf cb (pos + done) (length src - done)) (e : at ≡ clusterAt base cb c + (pos + done) % cb) where
+      (r at : ℕ) (q : r ≡ runOf cb (pos + done) (length src - done)) (e : at ≡ clusterBegin base cb c + (pos + done) % cb) where
     pub copy-again : (m′ : List ℕ) (v : ℕ) → m′ ≡ stored m at (part src done r) → v ≡ tableOf last m c → Pouring base cb last l start pos src (length src) m′ v (done + r)
     copy-again m′ v t w = pour-again base cb last l start a pos (length src) full src m c done s more r at q e m′ v (omega arith) t w
 
   module _ (n : ℕ) (full : pos + n ≤ length (chainFrom last l start) * cb) (m : List ℕ) (c done : ℕ) (s : Pouring base cb last l start pos (replicate n 0) n m c done) (more : done < n)
-      (r at : ℕ) (q : r ≡ runOf cb (pos + done) (n - done)) (e : at ≡ clusterAt base cb c + (pos + done) % cb) where
+      (r at : ℕ) (q : r ≡ runOf cb (pos + done) (n - done)) (e : at ≡ clusterBegin base cb c + (pos + done) % cb) where
     pub fill-again : (m′ : List ℕ) (v : ℕ) → m′ ≡ stored m at (replicate r 0) → v ≡ tableOf last m c → Pouring base cb last l start pos (replicate n 0) n m′ v (done + r)
     fill-again m′ v t w =
         pour-again base cb last l start a pos n full (replicate n 0) m c done s more r at q e m′ v (omega (arith, length-replicate {A = ℕ} n 0))

@@ -11,8 +11,9 @@ use Rattle.search.specs.Laws.Meaning.{lowest-is}
 use Rattle.search.specs.declared.Found.{Found}
 use Rattle.search.specs.declared.Found.the-variants.{At, Nothing}
 use Rattle.fields.specs.Fields.{withEntry}
-use Rattle.directory.specs.Search.{openSlot, lowestOpenSlot, slotNamed}
-use Rattle.names.specs.Reading.{nameOf}
+use Rattle.directory.specs.Search.{lowestVacant, slotNamed}
+use Rattle.directory.specs.Aids.Search.{vacantSlot}
+use Rattle.names.specs.Reading.{nameGiven}
 use Rattle.names.specs.declared.Spelled.{Spelled}
 use Rattle.stamps.specs.Stamps.{packed}
 use Rattle.stamps.specs.declared.Stamp.{Stamp}
@@ -23,14 +24,15 @@ use Rattle.opened.specs.Records.{withRecord}
 use Rattle.calls.specs.Outcome.{Row, Outcome, refusal, decided, refusedBy, answering}
 use Rattle.calls.specs.Numbers.{accessDenied}
 use Rattle.calls.specs.Refusals.{isNothing, readOnly, badAttr, slotForNew}
-use Rattle.calls.specs.Ready.{OnVolume}
+use Rattle.calls.specs.Aids.Ready.{OnVolume}
 use Rattle.calls.specs.Laws.Rows.{Stops, stops-at, stops-past, stopped}
 use Rattle.calls.specs.Laws.Ready.{on-kind, on-usable, known-passed, sound-passed}
 use Rattle.calls.specs.Laws.Files.{found-is, below-by, slot-within}
 use Rattle.calls.specs.Laws.Named.{FileNamed}
 use Rattle.calls.specs.declared.Answer.{Answer}
 use Rattle.freeing.specs.Freed.{chainFreed}
-use Rattle.creating.specs.Create.{createRows, createOutcome, Creates, oldRows, Empties, newRows, MakesNew}
+use Rattle.creating.specs.Create.{createRows, createOutcome, Creates, oldRows, newRows}
+use Rattle.creating.specs.Aids.Create.{Empties, MakesNew}
 
 pub creates-only : {img t s : List ℕ} {attr : ℕ} {stamp : Stamp} {r r′ : Answer} {m m′ u u′ : List ℕ} → Creates img t s attr stamp r m u → Creates img t s attr stamp r′ m′ u′
     → (r .number ≡ r′ .number) × (r .value ≡ r′ .value) × (m ≡ m′) × (u ≡ u′)
@@ -40,7 +42,7 @@ creates-only x y =
 
 -- ---- one row stops it, or the last ones decide, of a new file and of an existing one
 
-new-is : (img : List ℕ) (k : Kind) → OnVolume img k → slotForNew img ≡ lowestOpenSlot img (rootAt k) (rootEntries k)
+new-is : (img : List ℕ) (k : Kind) → OnVolume img k → slotForNew img ≡ lowestVacant img (rootAt k) (rootEntries k)
 unfolding slotForNew
 new-is img k v = rw (on-kind img k v)
 
@@ -49,7 +51,7 @@ module _ (img t s : List ℕ) (attr : ℕ) (stamp : Stamp) (a : Answer) where
   unfolding createOutcome
   create-refused n x q = record { is = rw x (sym (stopped _ n q _ img t [])) }
 
-  module _ (k : Kind) (v : OnVolume img k) (g : Spelled) (given : g ≡ nameOf s) (fits : not (g .fits) ≡ false)
+  module _ (k : Kind) (v : OnVolume img k) (g : Spelled) (given : g ≡ nameGiven s) (fits : not (g .fits) ≡ false)
       (p : Packed) (pack : p ≡ packed stamp) (time date : ℕ) (words : p ≡ Words time date) (b : Bool) (bad : b ≡ badAttr attr) (good : b ≡ false)
       (l m : List ℕ) where
     pub create-new : (f : Found) → f ≡ slotNamed img (rootAt k) (rootEntries k) (g .name) → f ≡ Nothing → MakesNew img t k (g .name) attr time date a l m
@@ -80,10 +82,10 @@ module _ (img t : List ℕ) (k : Kind) (slot : ℕ) (name : List ℕ) (attr time
 
 -- ---- a new file
 
-module _ (img : List ℕ) (k : Kind) (f : Found) (found : f ≡ lowestOpenSlot img (rootAt k) (rootEntries k)) where
+module _ (img : List ℕ) (k : Kind) (f : Found) (found : f ≡ lowestVacant img (rootAt k) (rootEntries k)) where
   pub open-below : (slot : ℕ) → f ≡ At slot → slot < rootEntries k
-  unfolding lowestOpenSlot
-  open-below slot q = below-by (openSlot img (rootAt k)) (rootEntries k) slot f (rw found (lowest-is (openSlot img (rootAt k)) 0 (rootEntries k))) q
+  unfolding lowestVacant
+  open-below slot q = below-by (vacantSlot img (rootAt k)) (rootEntries k) slot f (rw found (lowest-is (vacantSlot img (rootAt k)) 0 (rootEntries k))) q
 
   pub open-at-most : (slot : ℕ) → f ≡ At slot → slot ≤ rootEntries k
   open-at-most slot q = let h : slot < rootEntries k = open-below slot q in omega arith
@@ -97,17 +99,17 @@ module _ (img : List ℕ) (k : Kind) (f : Found) (found : f ≡ lowestOpenSlot i
   pub open-within : OnVolume img k → (slot : ℕ) → f ≡ At slot → (a : ℕ) → a ≡ slotAt k slot → a + 32 ≤ length img
   open-within v slot q a i = slot-within img k v slot a (open-below slot q) i
 
-  pub slot-stops : f ≡ Nothing → (rows : List Row) → Stops ((isNothing (lowestOpenSlot img (rootAt k) (rootEntries k)), accessDenied) ∷ rows) accessDenied
+  pub slot-stops : f ≡ Nothing → (rows : List Row) → Stops ((isNothing (lowestVacant img (rootAt k) (rootEntries k)), accessDenied) ∷ rows) accessDenied
   slot-stops q rows = stops-at _ accessDenied rows (rw (← found, q)) refl
 
-  pub slot-past : (slot : ℕ) → f ≡ At slot → (m n : ℕ) (rows : List Row) → Stops rows n → Stops ((isNothing (lowestOpenSlot img (rootAt k) (rootEntries k)), m) ∷ rows) n
+  pub slot-past : (slot : ℕ) → f ≡ At slot → (m n : ℕ) (rows : List Row) → Stops rows n → Stops ((isNothing (lowestVacant img (rootAt k) (rootEntries k)), m) ∷ rows) n
   slot-past slot q m n rows x = stops-past _ m n rows (rw (← found, q)) x
 
 module _ (img t : List ℕ) (k : Kind) (name : List ℕ) (attr time date : ℕ) (a : Answer) where
   pub new-refused : (n : ℕ) → a ≡ refusedBy n → Stops (newRows img t k) n → MakesNew img t k name attr time date a img t
   new-refused n x q = record { is = rw x (sym (stopped _ n q _ img t [])) }
 
-  pub new-well : (f : Found) → f ≡ lowestOpenSlot img (rootAt k) (rootEntries k) → (slot : ℕ) → f ≡ At slot
+  pub new-well : (f : Found) → f ≡ lowestVacant img (rootAt k) (rootEntries k) → (slot : ℕ) → f ≡ At slot
       → (p : Found) → p ≡ lowestUnused t → (place : ℕ) → p ≡ At place
       → (e : ℕ) → e ≡ slotAt k slot → (l : List ℕ) → l ≡ withEntry img e name attr time date 0 0
       → (m : List ℕ) → m ≡ withRecord t place 2 slot 0 false → a ≡ answering place → MakesNew img t k name attr time date a l m

@@ -7,12 +7,13 @@ use Rattle.diskette.specs.declared.Kind.{Kind}
 use Rattle.opened.specs.Places.{isOpen}
 use Rattle.calls.specs.Outcome.{Outcome, refusal, decided, refusedBy, answering}
 use Rattle.calls.specs.Refusals.{readOnly}
-use Rattle.calls.specs.Ready.{OnVolume}
+use Rattle.calls.specs.Aids.Ready.{OnVolume}
 use Rattle.calls.specs.Laws.Rows.{Stops, stopped}
 use Rattle.calls.specs.Laws.Ready.{on-kind}
 use Rattle.calls.specs.Laws.Named.{FileNamed}
 use Rattle.calls.specs.declared.Answer.{Answer}
-use Rattle.deleting.specs.Delete.{deleteRows, erasedIn, deleteOutcome, Deletes, lastRows, DeletesSlot}
+use Rattle.deleting.specs.Delete.{deleteRows, erasedIn, deleteOutcome, Deletes, lastRows}
+use Rattle.deleting.specs.Aids.Delete.{DeletesSlot}
 
 pub deletes-only : {img t s : List ℕ} {r r′ : Answer} {m m′ : List ℕ} → Deletes img t s r m → Deletes img t s r′ m′
     → (r .number ≡ r′ .number) × (r .value ≡ r′ .value) × (m ≡ m′)

@@ -3,7 +3,8 @@ use borrow.Author.Needs.{needs}
 use mathlib.Core.Path.{_≡_}
 use Prim.Native.Nat.{_-_, _≤_}
 use Rattle.search.specs.Search.{lowest}
-use Rattle.directory.specs.Search.{namedSlot, slotNamed}
+use Rattle.directory.specs.Search.{slotNamed}
+use Rattle.directory.specs.Aids.Search.{namedSlot}
 use Rattle.directory.specs.Laws.Search.{lowest-all, lowest-hit, lowest-miss, lowest-end}
 use Rattle.directory.proofs.slot_named.Statement.{statement}
 use Rattle.directory.proofs.slot_named.Tie as tie

@@ -7,13 +7,16 @@ use mathlib.Core.List.{List, [], _∷_, _++_, append-assoc}
 use mathlib.Core.Logic.{inl, inr}
 use lib.ListN.{length, getD, replicate, length-append, List·getD-append}
 use lib.Seq.{getD-append-add, take-at, drop-at, getD-at}
-use Rattle.image.specs.Store.{stored, part, Outside, Apart}
+use Rattle.image.specs.Store.{stored, part}
+use Rattle.image.specs.Aids.Ranges.{Outside, Apart}
 use Rattle.image.specs.Numbers.{number, digits}
 use Rattle.image.specs.Laws.Store.{length-stored, stored-inside, stored-outside, part-same, part-at, part-stored, part-apart}
 use Rattle.image.specs.Laws.Numbers.{length-digits, number-same, number-stored, number-apart}
-use Rattle.fields.specs.Fields.{attrOf, withFirst, withAttr, withName, withEntry, headBytes, tailBytes, entryBytes}
+use Rattle.fields.specs.Fields.{attrOf, withFirst, withAttr, withName, withEntry, tailBytes, entryBytes}
+use Rattle.fields.specs.Aids.Fields.{headBytes}
 use Rattle.directory.specs.Slots.{standingBy, standingOf}
-use Rattle.directory.specs.Entries.{Holds, SameBytes, SameFields, Untouched}
+use Rattle.directory.specs.Entries.{HasFields, SameBytes}
+use Rattle.directory.specs.Aids.Entries.{SameFields, Untouched}
 use Rattle.fields.specs.Laws.Fields.{length-head, length-entry}
 
 same-standing : (f f′ v v′ : ℕ) → f ≡ f′ → v ≡ v′ → standingBy f v ≡ standingBy f′ v′
@@ -169,7 +172,7 @@ module _ (name : List ℕ) (attr time date start size : ℕ) (long : length name
       rw (split, g, drop-at (name ++ (attr ∷ [])) (replicate 10 0 ++ tailBytes time date start size) 12 e)
 
   own-digits : (o w : ℕ) → number bytes (22 + o) w ≡ number (tailBytes time date start size) o w
-  unfolding bytes entryBytes
+  unfolding bytes entryBytes headBytes
   own-digits o w = behind (headBytes name attr) (tailBytes time date start size) 22 o w (length-head name attr long)
 
   module _ (l : List ℕ) (a : ℕ) (fits : a + 32 ≤ length l) where
@@ -184,7 +187,7 @@ module _ (name : List ℕ) (attr time date start size : ℕ) (long : length name
         (λ i k. let z : 0 + i ≡ i = omega arith in rw z (stored-inside l a bytes i (omega arith) (omega arith)))
 
     module _ (tl : time < 65536) (dl : date < 65536) (sl : start < 65536) (zl : size < 4294967296) where
-      pub fresh : Holds (withEntry l a name attr time date start size) a name attr time date start size
+      pub fresh : HasFields (withEntry l a name attr time date start size) a name attr time date start size
       unfolding after bytes tailBytes digits number
       fresh = record {
         name = copied .name ∙ own-name;

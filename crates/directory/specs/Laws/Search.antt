@@ -11,9 +11,11 @@ use Rattle.search.specs.Laws.Below.{lowest-answers}
 use Rattle.search.specs.declared.Found.{Found}
 use Rattle.search.specs.declared.Found.the-variants.{At, Nothing}
 use Rattle.fields.specs.Fields.{nameOf}
-use Rattle.directory.specs.Slots.{PlainAt, OpenAt}
-use Rattle.directory.specs.Search.{slotFrom, openSlot, namedSlot, lowestOpenSlot, slotNamed}
-use Rattle.directory.specs.Laws.Slots.{open-is}
+use Rattle.directory.specs.Slots.{PlainAt, VacantAt}
+use Rattle.directory.specs.Search.{lowestVacant, slotNamed}
+use Rattle.directory.specs.Aids.Search.{vacantSlot, namedSlot}
+use Rattle.diskette.specs.Places.{slotFrom}
+use Rattle.directory.specs.Laws.Slots.{vacant-is}
 use Rattle.directory.specs.Laws.Names.{named-is}
 
 -- ---- the code's needs: what is left of the search goes on from here; b is the test's answer
@@ -35,9 +37,9 @@ lowest-all p n = let e : n - 0 ≡ n = omega arith in ap (lowest p 0) e
 
 module _ (l : List ℕ) (root count : ℕ) where
   -- the lowest erased or never-used slot
-  pub open-slot-answers : Answers (λ (s : ℕ). OpenAt l (slotFrom root s)) count (lowestOpenSlot l root count)
-  unfolding lowestOpenSlot
-  open-slot-answers = lowest-answers (openSlot l root) (λ (s : ℕ). OpenAt l (slotFrom root s)) count (λ s k. open-is l (slotFrom root s))
+  pub vacant-slot-answers : Answers (λ (s : ℕ). VacantAt l (slotFrom root s)) count (lowestVacant l root count)
+  unfolding lowestVacant
+  vacant-slot-answers = lowest-answers (vacantSlot l root) (λ (s : ℕ). VacantAt l (slotFrom root s)) count (λ s k. vacant-is l (slotFrom root s))
 
   -- the plain file with these 11 name bytes
   pub slot-named-answers : root + 32 * count ≤ length l → (name : List ℕ) → length name ≡ 11

@@ -9,7 +9,7 @@ use mathlib.Core.Path.{_≡_, refl, sym, _∙_, ap, subst}
 use lib.ListN.{getD}
 use borrow.Author.Tests.{eq-eqb, ne-eqb}
 use Rattle.fields.specs.Fields.{attrOf}
-use Rattle.directory.specs.Slots.{hasBit, NeverUsedAt, ErasedAt, LiveAt, LabelAt, PlainAt, OpenAt, standingBy, standingOf, isOpen, isPlain}
+use Rattle.directory.specs.Slots.{hasBit, NeverUsedAt, ErasedAt, LiveAt, LabelAt, PlainAt, VacantAt, standingBy, standingOf, isVacant, isPlain}
 use Rattle.directory.specs.declared.Standing.{Standing}
 use Rattle.directory.specs.declared.Standing.the-variants.{NeverUsed, Erased, Label, Plain}
 
@@ -58,13 +58,13 @@ means l a = elim (ℕ-discrete (getD l a 0) 0) [
   ]
 ]
 
-open-means : (l : List ℕ) (a : ℕ) (s : Standing) → MeansAt l a s → isOpen s ≡ true → OpenAt l a
+open-means : (l : List ℕ) (a : ℕ) (s : Standing) → MeansAt l a s → isVacant s ≡ true → VacantAt l a
 open-means l a NeverUsed m e = inr m
 open-means l a Erased m e = inl m
 open-means l a Label m e = absurd (let z : _≡_ {A = ℕ} 0 1 = cc in omega arith)
 open-means l a Plain m e = absurd (let z : _≡_ {A = ℕ} 0 1 = cc in omega arith)
 
-live-means : (l : List ℕ) (a : ℕ) (s : Standing) → MeansAt l a s → isOpen s ≡ false → LiveAt l a
+live-means : (l : List ℕ) (a : ℕ) (s : Standing) → MeansAt l a s → isVacant s ≡ false → LiveAt l a
 live-means l a NeverUsed m e = absurd (let z : _≡_ {A = ℕ} 0 1 = cc in omega arith)
 live-means l a Erased m e = absurd (let z : _≡_ {A = ℕ} 0 1 = cc in omega arith)
 live-means l a Label m e = m .0
@@ -91,18 +91,18 @@ module _ (l : List ℕ) (a : ℕ) where
   standing-plain =
       (λ e. subst (MeansAt l a) e (means l a), λ p. sym (plain (getD l a 0) (attrOf l a) (p .0 .0) (p .0 .1) (hasBit (attrOf l a) 0x08) refl (p .1)))
 
-  pub open-is : (isOpen (standingOf l a) ≡ true) ↔ OpenAt l a
-  open-is = (open-means l a (standingOf l a) (means l a), from)
+  pub vacant-is : (isVacant (standingOf l a) ≡ true) ↔ VacantAt l a
+  vacant-is = (open-means l a (standingOf l a) (means l a), from)
     where
-      from : OpenAt l a → isOpen (standingOf l a) ≡ true
+      from : VacantAt l a → isVacant (standingOf l a) ≡ true
       from (inl p) = rw (standing-erased .1 p)
       from (inr p) = rw (standing-never-used .1 p)
 
-  pub live-is : (isOpen (standingOf l a) ≡ false) ↔ LiveAt l a
-  live-is = (live-means l a (standingOf l a) (means l a), λ v. from v (isOpen (standingOf l a)) refl)
+  pub live-is : (isVacant (standingOf l a) ≡ false) ↔ LiveAt l a
+  live-is = (live-means l a (standingOf l a) (means l a), λ v. from v (isVacant (standingOf l a)) refl)
     where
-      from : LiveAt l a → (b : Bool) → isOpen (standingOf l a) ≡ b → isOpen (standingOf l a) ≡ false
-      from v true e = absurd (elim (open-is .0 e) [ inl q ↦ v .1 q | inr q ↦ v .0 q ])
+      from : LiveAt l a → (b : Bool) → isVacant (standingOf l a) ≡ b → isVacant (standingOf l a) ≡ false
+      from v true e = absurd (elim (vacant-is .0 e) [ inl q ↦ v .1 q | inr q ↦ v .0 q ])
       from v false e = e
 
   pub plain-is : (isPlain (standingOf l a) ≡ true) ↔ PlainAt l a

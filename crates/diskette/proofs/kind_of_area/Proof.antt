@@ -1,6 +1,6 @@
 -- What byte 512 names is usable, so its first data sector is a small number.
 use native.Mathlib.Omega.{arith}
-use Rattle.diskette.specs.Kinds.{Usable}
+use Rattle.diskette.specs.Aids.Usable.{Usable}
 use Rattle.diskette.specs.Laws.Kinds.{named-usable}
 use Rattle.diskette.specs.Laws.Images.{area-short, area-known, area-other, area-unknown}
 use borrow.Author.Needs.{needs}

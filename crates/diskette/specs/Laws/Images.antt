@@ -9,7 +9,8 @@ use lib.Dec.{eqb, leb}
 use lib.ListN.{length, getD, List·getD-eq-default}
 use borrow.Author.Tests.{eqb-true, leb-true, eq-eqb, ne-eqb, le-leb, lt-leb}
 use Rattle.diskette.specs.Places.{firstData, clusters}
-use Rattle.diskette.specs.Kinds.{named, Usable}
+use Rattle.diskette.specs.Kinds.{named}
+use Rattle.diskette.specs.Aids.Usable.{Usable}
 use Rattle.diskette.specs.Images.{OfKind, AreaOf, sized, reached, kindOfImage, kindOfArea}
 use Rattle.diskette.specs.Laws.Kinds.{OfKnown, of-cond, NamedBy, named-is}
 use Rattle.diskette.specs.declared.Kind.{Kind}

@@ -8,7 +8,8 @@ use mathlib.Core.List.{List, [], _∷_, map}
 use lib.Dec.{eqb}
 use borrow.Author.Tests.{eqb-true}
 use Rattle.diskette.specs.Places.{firstData, clusters, lastCluster, rootEntries, clusterBytes}
-use Rattle.diskette.specs.Kinds.{kindFE, kindFF, kindFC, kindFD, named, Usable}
+use Rattle.diskette.specs.Kinds.{kindFE, kindFF, kindFC, kindFD, named}
+use Rattle.diskette.specs.Aids.Usable.{Usable}
 use Rattle.diskette.specs.declared.Kind.{Kind}
 use Rattle.diskette.specs.declared.WhichKind.{WhichKind}
 use Rattle.diskette.specs.declared.WhichKind.the-variants.{Known, Unknown}

@@ -3,14 +3,14 @@ use Prim.Native.Nat.{ℕ, _+_, _-_, _*_, _/_, _≤_, _<_}
 use native.Mathlib.Omega.{arith}
 use native.Mathlib.Nat.{mul-le-mul-right}
 use mathlib.Core.Path.{_≡_}
-use Rattle.chains.specs.Content.{clusterAt}
+use Rattle.chains.specs.Content.{clusterBegin}
 use Rattle.diskette.specs.Places.{firstData, clusterBytes, clusters, lastCluster, rootEntries, slotAt, sectorOf}
-use Rattle.diskette.specs.Kinds.{Usable}
+use Rattle.diskette.specs.Aids.Usable.{Usable}
 use Rattle.diskette.specs.declared.Kind.{Kind}
 
 -- where the bytes of cluster n begin, as read, write and view have it, is the beginning of the sector that document 01 says
-pub cluster-starts : (k : Kind) (n : ℕ) → clusterAt (512 * firstData k) (clusterBytes k) n ≡ 512 * sectorOf k n
-unfolding clusterAt
+pub cluster-starts : (k : Kind) (n : ℕ) → clusterBegin (512 * firstData k) (clusterBytes k) n ≡ 512 * sectorOf k n
+unfolding clusterBegin
 cluster-starts k n = omega arith
 
 module _ (k : Kind) (u : Usable k) where

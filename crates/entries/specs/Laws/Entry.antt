@@ -7,15 +7,15 @@ use mathlib.Core.Path.{_≡_, refl, sym, ap, _∙_}
 use lib.ListN.{length}
 use borrow.Author.Tests.{le-leb, lt-leb}
 use Rattle.diskette.specs.Images.{kindOfImage}
-use Rattle.diskette.specs.Kinds.{Usable}
+use Rattle.diskette.specs.Aids.Usable.{Usable}
 use Rattle.diskette.specs.Places.{rootEntries, slotAt}
 use Rattle.diskette.specs.Laws.Images.{image-of-kind, image-usable, image-has-area}
 use Rattle.diskette.specs.Laws.Places.{slot-before-data}
 use Rattle.diskette.specs.declared.Kind.{Kind}
 use Rattle.diskette.specs.declared.WhichKind.{WhichKind}
 use Rattle.diskette.specs.declared.WhichKind.the-variants.{Known, Unknown}
-use Rattle.directory.specs.Slots.{standingOf, isOpen, OpenAt, LiveAt}
-use Rattle.directory.specs.Laws.Slots.{open-is, live-is}
+use Rattle.directory.specs.Slots.{standingOf, isVacant, VacantAt, LiveAt}
+use Rattle.directory.specs.Laws.Slots.{vacant-is, live-is}
 use Rattle.directory.specs.declared.Standing.{Standing}
 use Rattle.directory.specs.declared.Standing.the-variants.{NeverUsed, Erased, Label, Plain}
 use Rattle.calls.specs.Numbers.{ofNoKind}
@@ -82,15 +82,15 @@ module _ (l : List ℕ) (s : ℕ) where
       unfolding entryTold
       told-at = rw (q, lt-leb (rootEntries k) s h)
 
-      told-not-open : (m : Standing) → isTold m ≡ not (isOpen m)
+      told-not-open : (m : Standing) → isTold m ≡ not (isVacant m)
       told-not-open NeverUsed = refl
       told-not-open Erased = refl
       told-not-open Label = refl
       told-not-open Plain = refl
 
-      pub told-open : OpenAt l at → entryTold l s ≡ nothing 0
+      pub told-open : VacantAt l at → entryTold l s ≡ nothing 0
       unfolding toldAt
-      told-open o = told-at ∙ rw (told-not-open (standingOf l at), open-is l at .1 o)
+      told-open o = told-at ∙ rw (told-not-open (standingOf l at), vacant-is l at .1 o)
 
       -- the label too
       pub told-live : LiveAt l at → entryTold l s ≡ asStored l at

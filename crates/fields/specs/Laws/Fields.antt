@@ -9,14 +9,15 @@ use Rattle.image.specs.Store.{stored, part}
 use Rattle.image.specs.Numbers.{digits}
 use Rattle.image.specs.Laws.Store.{bytes-one, bytes-append, bytes-zeros, stored-whole, and-then, length-part}
 use Rattle.image.specs.Laws.Numbers.{length-digits, bytes-digits}
-use Rattle.fields.specs.Fields.{nameOf, reservedOf, headBytes, tailBytes, entryBytes}
+use Rattle.fields.specs.Fields.{nameOf, tailBytes, entryBytes}
+use Rattle.fields.specs.Aids.Fields.{headBytes}
 
 pub length-head : (name : List ℕ) (attr : ℕ) → length name ≡ 11 → length (headBytes name attr) ≡ 22
 unfolding headBytes
 length-head name attr e = length-append name (attr ∷ replicate 10 0) ∙ omega arith
 
 pub length-entry : (name : List ℕ) (attr time date start size : ℕ) → length name ≡ 11 → length (entryBytes name attr time date start size) ≡ 32
-unfolding entryBytes tailBytes digits
+unfolding entryBytes headBytes tailBytes digits
 length-entry name attr time date start size e =
     length-append (headBytes name attr) (tailBytes time date start size) ∙ omega (arith, length-head name attr e)
 
@@ -36,9 +37,6 @@ copied l r at n h p =
 
 pub name-copied : (l r : List ℕ) (a : ℕ) → a + 32 ≤ length l → r ≡ stored (replicate 11 0) 0 (take (a + 11 - a) (drop a l)) → r ≡ nameOf l a
 name-copied l r a h p = copied l r a 11 (omega arith) p
-
-pub reserved-copied : (l r : List ℕ) (a : ℕ) → a + 32 ≤ length l → r ≡ stored (replicate 10 0) 0 (take (a + 12 + 10 - (a + 12)) (drop (a + 12) l)) → r ≡ reservedOf l a
-reserved-copied l r a h p = copied l r (a + 12) 10 (omega arith) p
 
 pub head-stored : (l l₁ l₂ l₃ : List ℕ) (a : ℕ) (name : List ℕ) (attr : ℕ) → length name ≡ 11
     → l₁ ≡ stored l a name → l₂ ≡ stored l₁ (a + 11) (attr ∷ []) → l₃ ≡ stored l₂ (a + 12) (replicate 10 0)
@@ -61,6 +59,6 @@ tail-stored l l₁ l₂ l₃ l₄ a time date start size p q r s =
 pub entry-stored : (l m k : List ℕ) (a : ℕ) (name : List ℕ) (attr time date start size : ℕ) → length name ≡ 11
     → m ≡ stored l a (headBytes name attr) → k ≡ stored m (a + 22) (tailBytes time date start size)
     → k ≡ stored l a (entryBytes name attr time date start size)
-unfolding entryBytes
+unfolding entryBytes headBytes
 entry-stored l m k a name attr time date start size e p q =
     and-then l m k a (a + 22) (headBytes name attr) (tailBytes time date start size) p q (omega (arith, length-head name attr e))

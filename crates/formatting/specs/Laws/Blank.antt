@@ -9,18 +9,21 @@ use mathlib.Core.Path.{_≡_, sym, _∙_}
 use lib.ListN.{length, getD, replicate, length-append, length-replicate, getD-replicate, List·getD-append, List·getD-eq-default}
 use lib.Seq.{getD-append-add}
 use Rattle.image.specs.Bytes.{Bytes}
-use Rattle.image.specs.Store.{stored, Outside}
+use Rattle.image.specs.Store.{stored}
+use Rattle.image.specs.Aids.Ranges.{Outside}
 use Rattle.image.specs.Numbers.{number}
 use Rattle.image.specs.Laws.Store.{length-stored, bytes-stored, stored-outside, stored-inside}
 use Rattle.diskette.specs.Images.{OfKind, kindOfImage}
-use Rattle.diskette.specs.Kinds.{named, Usable}
+use Rattle.diskette.specs.Kinds.{named}
+use Rattle.diskette.specs.Aids.Usable.{Usable}
 use Rattle.diskette.specs.Places.{firstData, lastCluster, rootEntries, copyTwo, slotAt}
 use Rattle.diskette.specs.Laws.Images.{image-of-kind}
 use Rattle.diskette.specs.Laws.Places.{entry-within}
 use Rattle.diskette.specs.declared.Kind.{Kind}
 use Rattle.diskette.specs.declared.WhichKind.the-variants.{Known}
 use Rattle.values.specs.Bits.{taken, even}
-use Rattle.table.specs.Entries.{wordAt, entryAt, entryOf, Agree, tableOf}
+use Rattle.table.specs.Entries.{wordAt, entryAt, entryOf, tableOf}
+use Rattle.table.specs.Aids.Copies.{Agree}
 use Rattle.table.specs.Laws.View.{table-inside, table-outside}
 use Rattle.directory.specs.Slots.{NeverUsedAt}
 use Rattle.formatting.specs.Format.{zerosAndData, tableHead, blank}

@@ -9,7 +9,8 @@ use lib.ListN.{length, set, replicate, length-append, length-replicate}
 use borrow.Author.Tests.{eq-eqb, ne-eqb}
 use Rattle.image.specs.Store.{stored}
 use Rattle.image.specs.Laws.Store.{stored-append, stored-whole}
-use Rattle.diskette.specs.Kinds.{named, Usable}
+use Rattle.diskette.specs.Kinds.{named}
+use Rattle.diskette.specs.Aids.Usable.{Usable}
 use Rattle.diskette.specs.Places.{firstData, copyTwo}
 use Rattle.diskette.specs.Laws.Kinds.{OfKnown, NamedBy, named-is}
 use Rattle.diskette.specs.declared.Kind.{Kind}

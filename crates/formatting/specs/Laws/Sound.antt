@@ -7,7 +7,8 @@ use mathlib.Core.Path.{_≡_}
 use Rattle.chains.specs.Values.{free}
 use Rattle.chains.specs.Laws.Tests.{true-says}
 use Rattle.chains.specs.Laws.Values.{free-no-use}
-use Rattle.diskette.specs.Kinds.{named, Usable}
+use Rattle.diskette.specs.Kinds.{named}
+use Rattle.diskette.specs.Aids.Usable.{Usable}
 use Rattle.diskette.specs.Places.{lastCluster}
 use Rattle.diskette.specs.declared.Kind.{Kind}
 use Rattle.diskette.specs.declared.WhichKind.the-variants.{Known}
@@ -15,7 +16,7 @@ use Rattle.sound.specs.Files.{valueOf, IsFile}
 use Rattle.sound.specs.Sound.{Sound}
 use Rattle.sound.specs.Laws.Copies.{no-difference-from}
 use Rattle.sound.specs.Laws.IsSound.{known-says}
-use Rattle.calls.specs.Ready.{OnVolume}
+use Rattle.calls.specs.Aids.Ready.{OnVolume}
 use Rattle.formatting.specs.Format.{blank}
 use Rattle.formatting.specs.Laws.Blank.{blank-head, blank-agrees, blank-table, blank-slot, kind-of-blank}
 

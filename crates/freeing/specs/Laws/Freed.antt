@@ -9,16 +9,17 @@ use Rattle.chains.specs.Sizes.{clustersFor}
 use Rattle.diskette.specs.Places.{clusterBytes, copyTwo, lastCluster, slotAt}
 use Rattle.diskette.specs.declared.Kind.{Kind}
 use Rattle.fields.specs.Fields.{startOf, sizeOf}
-use Rattle.links.specs.Freed.{freedFrom}
+use Rattle.links.specs.Aids.Freed.{freedFrom}
 use Rattle.links.specs.Laws.Freed.{chain-freed}
-use Rattle.calls.specs.Ready.{OnVolume}
+use Rattle.calls.specs.Aids.Ready.{OnVolume}
 use Rattle.calls.specs.Laws.Ready.{on-usable}
-use Rattle.holding.specs.Holding.{fileChain, FileIn}
+use Rattle.holding.specs.Holding.{fileChain}
+use Rattle.sound.specs.Files.{IsFile}
 use Rattle.holding.specs.Laws.Clusters.{copies-reach}
 use Rattle.holding.specs.Laws.Chain.{file-within, file-chain, chain-long}
 use Rattle.freeing.specs.Freed.{chainFreed}
 
-module _ (img : List ℕ) (k : Kind) (v : OnVolume img k) (slot : ℕ) (i : FileIn img k slot) where
+module _ (img : List ℕ) (k : Kind) (v : OnVolume img k) (slot : ℕ) (i : IsFile k img slot) where
   pub freed-is : Bytes img → (a start size n second last : ℕ) → a ≡ slotAt k slot → start ≡ startOf img a → size ≡ sizeOf img a → n ≡ clustersFor (clusterBytes k) size
       → second ≡ copyTwo k → last ≡ lastCluster k → (m : List ℕ) → m ≡ freedFrom second last img n start → m ≡ chainFreed k img slot
   unfolding chainFreed

@@ -7,7 +7,7 @@ use lib.Dec.{ltb}
 use Rattle.chains.specs.Verdict.{OrElse}
 use Rattle.chains.specs.Laws.Tests.{true-says, false-says}
 use Rattle.diskette.specs.Images.{kindOfImage}
-use Rattle.diskette.specs.Kinds.{Usable}
+use Rattle.diskette.specs.Aids.Usable.{Usable}
 use Rattle.diskette.specs.Laws.Images.{image-usable}
 use Rattle.diskette.specs.declared.Kind.{Kind}
 use Rattle.diskette.specs.declared.WhichKind.{WhichKind}
@@ -15,8 +15,9 @@ use Rattle.diskette.specs.declared.WhichKind.the-variants.{Known, Unknown}
 use Rattle.sound.specs.Answer.{AnswersOf, AnswersBy, Checked}
 use Rattle.sound.specs.Counts.{freeOf}
 use Rattle.sound.specs.Findings.{TablesDiffer, BadValue, BadSlot, BadChain, InTwoChains, Lost}
-use Rattle.sound.specs.FromFinding.{FromLost, FromTwo, FromChains, FromSlots, FromValues, Counted}
-use Rattle.sound.specs.Judged.{isSound, isSoundVerdict}
+use Rattle.sound.specs.Aids.FromFinding.{FromLost, FromTwo, FromChains, FromSlots, FromValues, Counted}
+use Rattle.sound.specs.Judged.{isSound}
+use Rattle.sound.specs.Aids.Judged.{isSoundVerdict}
 use Rattle.sound.specs.Sound.{Sound}
 use Rattle.sound.specs.Laws.IsSound.{known-says}
 use Rattle.sound.specs.Laws.OneAnswer.{checked-is}

@@ -7,7 +7,7 @@ use mathlib.Core.Option.{Option}
 use mathlib.Core.Path.{_≡_}
 use Rattle.image.specs.Bytes.{Bytes}
 use Rattle.diskette.specs.declared.Kind.{Kind}
-use Rattle.changes.specs.Changed.{SlotChanged}
+use Rattle.changes.specs.Aids.Changed.{SlotChanged}
 use Rattle.changes.specs.Files.{File, ShowsAt}
 use Rattle.history.specs.History.{Becomes}
 use Rattle.history.specs.Meant.{Names, target, nothing}

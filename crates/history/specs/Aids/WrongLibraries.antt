@@ -4,7 +4,7 @@ use mathlib.Core.Bool.{Bool, cond, not, _&&_}
 use mathlib.Core.List.{List, []}
 use lib.Dec.{eqb, ltb}
 use Rattle.diskette.specs.Places.{rootAt, rootEntries}
-use Rattle.names.specs.Reading.{nameOf}
+use Rattle.names.specs.Reading.{nameGiven}
 use Rattle.stamps.specs.Stamps.{packed}
 use Rattle.stamps.specs.declared.Stamp.{Stamp}
 use Rattle.opened.specs.Places.{holdsFile}
@@ -58,7 +58,7 @@ taking name attr stamp w =
     let l = w .image in
     let o = ourCreate name attr stamp w in
     cond (eqb (o .number) 0 && (noFile l name && (usedOf (w .table) 0 && fileIn l 0)))
-    (madeBy (chainFreed (theKind l) l 0) (w .table) (theKind l) 0 (nameOf name .name) attr (packed stamp)) o
+    (madeBy (chainFreed (theKind l) l 0) (w .table) (theKind l) 0 (nameGiven name .name) attr (packed stamp)) o
 
 abbrev pub takesFirst : Library
 takesFirst = oursBut taking ourWrite ourDelete

@@ -4,7 +4,7 @@ use Rattle.image.specs.Bytes.{Bytes}
 use Rattle.diskette.specs.Laws.Images.{image-of-kind}
 use Rattle.diskette.specs.declared.Kind.{Kind}
 use Rattle.sound.specs.Laws.IsSound.{known-says}
-use Rattle.calls.specs.Ready.{OnVolume}
+use Rattle.calls.specs.Aids.Ready.{OnVolume}
 use Rattle.calls.specs.Laws.Ready.{on-of-kind}
 use Rattle.changes.specs.Laws.Changed.{on-sound}
 use Rattle.history.specs.Promises.{Begins}

@@ -6,12 +6,12 @@ use mathlib.Core.Option.{none}
 use mathlib.Core.Path.{_≡_}
 use lib.ListN.{length}
 use borrow.Author.Tests.{eq-eqb}
-use Rattle.chains.specs.Tests.{bit}
-use Rattle.chains.specs.Sums.{sum}
+use Rattle.chains.specs.Sums.{sum, bit}
 use Rattle.chains.specs.Values.{freeb, asideb}
 use Rattle.chains.specs.Laws.Sums.{sum-cong, sum-one, sum-zero}
 use Rattle.chains.specs.Laws.Values.{free-one, free-no-aside, free-sum, aside-sum}
-use Rattle.diskette.specs.Kinds.{named, Usable}
+use Rattle.diskette.specs.Kinds.{named}
+use Rattle.diskette.specs.Aids.Usable.{Usable}
 use Rattle.diskette.specs.Places.{clusters, lastCluster}
 use Rattle.diskette.specs.declared.Kind.{Kind}
 use Rattle.diskette.specs.declared.WhichKind.the-variants.{Known}

@@ -14,8 +14,8 @@ use Rattle.diskette.specs.Places.{rootAt, rootEntries, slotAt}
 use Rattle.diskette.specs.declared.Kind.{Kind}
 use Rattle.search.specs.declared.Found.the-variants.{At}
 use Rattle.fields.specs.Fields.{withEntry}
-use Rattle.directory.specs.Search.{lowestOpenSlot}
-use Rattle.names.specs.Reading.{nameOf}
+use Rattle.directory.specs.Search.{lowestVacant}
+use Rattle.names.specs.Reading.{nameGiven}
 use Rattle.names.specs.Spelling.{Means}
 use Rattle.stamps.specs.Stamps.{packed}
 use Rattle.stamps.specs.declared.Stamp.{Stamp}
@@ -30,7 +30,7 @@ use Rattle.deleting.specs.Delete.{erasedIn, deleteRows, deleteEffect, deleteOut
 use Rattle.freeing.specs.Freed.{chainFreed}
 use Rattle.putting.specs.Written.{writtenIn}
 use Rattle.writing.specs.Write.{writeCount, writeRows, writeEffect, writeOutcome, writeAt}
-use Rattle.changes.specs.Changed.{SlotChanged}
+use Rattle.changes.specs.Aids.Changed.{SlotChanged}
 use Rattle.changes.specs.Files.{File, file, Holds, ShowsAt}
 use Rattle.changes.specs.Laws.Made.{empty-changed, empty-holds, empty-bytes, new-changed, new-holds, new-bytes}
 use Rattle.changes.specs.Laws.Wrote.{wrote-changed, wrote-holds, wrote-bytes}
@@ -109,15 +109,15 @@ module _ (k : Kind) (w : World) (b : Begins k w) where
 
   module _ (given : List ℕ) (attr : ℕ) (stamp : Stamp) where
     abbrev name : List ℕ
-    name = nameOf given .name
+    name = nameGiven given .name
 
     -- what the history makes of the file there
-    becomes : nameOf given .fits ≡ true → (g : Option File)
+    becomes : nameGiven given .fits ≡ true → (g : Option File)
         → ((n : List ℕ) × Means given n × (g ≡ some (file n attr []))) ↔ (g ≡ some (file name attr []))
     becomes fits g = meant-exactly given fits (λ n. g ≡ some (file n attr []))
 
     -- a file was made in the slot of n, which is the image, with the clusters of the old file freed if there was one
-    made-in : (n : List ℕ) (s time date : ℕ) → Names (create given attr stamp) k w s → nameOf given .fits ≡ true
+    made-in : (n : List ℕ) (s time date : ℕ) → Names (create given attr stamp) k w s → nameGiven given .fits ≡ true
         → outcomeOf (create given attr stamp) w ≡ made n t k s name attr time date
         → SlotChanged k l (withEntry n (slotAt k s) name attr time date 0 0) s [] → Bytes (withEntry n (slotAt k s) name attr time date 0 0)
         → Holds k (withEntry n (slotAt k s) name attr time date 0 0) s (file name attr []) → Came k w (create given attr stamp)
@@ -138,9 +138,9 @@ module _ (k : Kind) (w : World) (b : Begins k w) where
         let row = passed-row (createRows l t given attr stamp) refl rows in
         let fits = good-name given (row 2) in
         let kind = on-kind l k (on b) in
-        let s = placeFound (lowestOpenSlot l (rootAt k) (rootEntries k)) in
-        let lowest : lowestOpenSlot l (rootAt k) (rootEntries k) ≡ At s
-        = found-at (lowestOpenSlot l (rootAt k) (rootEntries k)) (rw (q, kind) at (row 7)) in
+        let s = placeFound (lowestVacant l (rootAt k) (rootEntries k)) in
+        let lowest : lowestVacant l (rootAt k) (rootEntries k) ≡ At s
+        = found-at (lowestVacant l (rootAt k) (rootEntries k)) (rw (q, kind) at (row 7)) in
         let new-one = for-new k l (on b) given fits q (rw q at (row 7)) in
         let none-named = no-file-found k l (on b) given q in
         made-in l s time date (inr (rw kind at new-one)) fits (e ∙ rw (q, pe, kind))

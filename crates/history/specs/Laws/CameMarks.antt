@@ -9,7 +9,7 @@ use borrow.Author.Tests.{not-false}
 use Rattle.diskette.specs.Places.{slotAt}
 use Rattle.diskette.specs.declared.Kind.{Kind}
 use Rattle.fields.specs.Fields.{withName, withAttr}
-use Rattle.names.specs.Reading.{nameOf}
+use Rattle.names.specs.Reading.{nameGiven}
 use Rattle.stamps.specs.Stamps.{packed}
 use Rattle.stamps.specs.declared.Stamp.{Stamp}
 use Rattle.stamps.specs.declared.Packed.{Packed}
@@ -51,12 +51,12 @@ module _ (k : Kind) (w : World) (b : Begins k w) where
       let i = file-there k l (on b) name (row 4) in
       let fits = good-name new (row 3) in
       let free = no-file-found k l (on b) new (not-false (noFile l new) (row 7)) in
-      let m : step w (rename name new) .image ≡ withName l (slotAt k s) (nameOf new .name)
+      let m : step w (rename name new) .image ≡ withName l (slotAt k s) (nameGiven new .name)
       = ap (λ (o : Outcome). o .image) e ∙ rw (on-kind l k (on b)) in
       came-at k w (rename name new) s _ _ does m
       (rename-changed k l (on b) s i new fits free)
       (rename-bytes k l (on b) s i new fits (b .bytes))
-      i (history.renamedTo (nameOf new .name)) (λ f g. meant-exactly new fits (λ n. g ≡ history.each (history.renamedTo n) f))
+      i (history.renamedTo (nameGiven new .name)) (λ f g. meant-exactly new fits (λ n. g ≡ history.each (history.renamedTo n) f))
       (rename-holds k l (on b) s i new fits))
 
   -- ---- file mode

@@ -7,13 +7,11 @@ use mathlib.Core.Path.{_≡_, refl}
 use lib.ListN.{length, take}
 use lib.Seq.{length-take-le}
 use Rattle.image.specs.Bytes.{Bytes}
-use Rattle.chains.specs.Write.{accepted}
 use Rattle.diskette.specs.declared.Kind.{Kind}
-use Rattle.calls.specs.Ready.{OnVolume}
-use Rattle.holding.specs.Holding.{FileIn}
-use Rattle.putting.specs.Longer.{roomOf}
-use Rattle.putting.specs.Put.{CanPut}
-use Rattle.writing.specs.Write.{writeCount}
+use Rattle.calls.specs.Aids.Ready.{OnVolume}
+use Rattle.sound.specs.Files.{IsFile}
+use Rattle.putting.specs.Aids.Put.{CanPut}
+use Rattle.writing.specs.Write.{writeCount, accepted, roomOf}
 use Rattle.writing.specs.Laws.Write.{count-within, count-reaches}
 
 pub bytes-take : (n : ℕ) (bs : List ℕ) → Bytes bs → Bytes (take n bs)
@@ -30,7 +28,7 @@ module _ (k : Kind) (l : List ℕ) (s pointer : ℕ) (bs : List ℕ) where
   pub taken-length : length (take n bs) ≡ n
   taken-length = length-take-le n bs (count-within (roomOf k l s) pointer bs n refl)
 
-  pub taken-fits : OnVolume l k → FileIn l k s → Bytes l → n ≢ 0 → CanPut k l s pointer (length (take n bs))
+  pub taken-fits : OnVolume l k → IsFile k l s → Bytes l → n ≢ 0 → CanPut k l s pointer (length (take n bs))
   taken-fits v i b some = record {
     on = v;
     file = i;

@@ -5,7 +5,7 @@ use mathlib.Core.List.{List, [], _∷_}
 use mathlib.Core.Path.{_≡_, refl, sym, _∙_, subst}
 use Rattle.image.specs.Bytes.{Bytes}
 use Rattle.image.specs.Laws.Store.{bytes-one}
-use Rattle.chains.specs.Holders.{Holder, Owns}
+use Rattle.chains.specs.Aids.Holders.{Holder, Owns}
 use Rattle.chains.specs.Laws.Holders.{nobody-owns}
 use Rattle.diskette.specs.Places.{clusterBytes, lastCluster, slotAt}
 use Rattle.diskette.specs.declared.Kind.{Kind}
@@ -14,17 +14,16 @@ use Rattle.directory.specs.Laws.Entries.{byte-back}
 use Rattle.sound.specs.Files.{valueOf, IsFile}
 use Rattle.sound.specs.Laws.Geometry.{geometry}
 use Rattle.sound.specs.Laws.Holders.{no-holder}
-use Rattle.calls.specs.Ready.{OnVolume}
+use Rattle.calls.specs.Aids.Ready.{OnVolume}
 use Rattle.calls.specs.Laws.Ready.{on-usable}
-use Rattle.holding.specs.Holding.{FileIn}
 use Rattle.holding.specs.Laws.Chain.{file-within}
 use Rattle.freeing.specs.Freed.{chainFreed}
 use Rattle.deleting.specs.Delete.{erasedIn}
-use Rattle.changes.specs.Changed.{SlotChanged}
+use Rattle.changes.specs.Aids.Changed.{SlotChanged}
 use Rattle.changes.specs.Laws.Emptied.{Emptied, file-emptied, entry-emptied, emptied-changed}
 use Rattle.changes.specs.Laws.Slots.{used-lower}
 
-module _ (k : Kind) (l : List ℕ) (v : OnVolume l k) (b : Bytes l) (s : ℕ) (i : FileIn l k s) where
+module _ (k : Kind) (l : List ℕ) (v : OnVolume l k) (b : Bytes l) (s : ℕ) (i : IsFile k l s) where
   emptied : Emptied k l (erasedIn k l s) s
   emptied =
       entry-emptied k l v b s (chainFreed k l s) (slotAt k s) (0xE5 ∷ []) (omega arith) (omega arith) (i .below)
@@ -53,7 +52,7 @@ module _ (k : Kind) (l : List ℕ) (v : OnVolume l k) (b : Bytes l) (s : ℕ) (i
       })
 
   pub delete-ends : ¬ IsFile k (erasedIn k l s) s
-  delete-ends x = ended (x .1 .0)
+  delete-ends x = ended (x .plain .0)
 
   pub delete-bytes : Bytes (erasedIn k l s)
   delete-bytes = emptied .bytes

@@ -7,16 +7,15 @@ use mathlib.Core.List.{List, []}
 use mathlib.Core.Path.{_≡_, refl, ap, _∙_}
 use lib.ListN.{length, replicate, take}
 use borrow.Author.Tests.{ne-eqb}
-use Rattle.chains.specs.Write.{accepted}
 use Rattle.diskette.specs.Places.{clusterBytes, rootAt, rootEntries}
 use Rattle.diskette.specs.declared.Kind.{Kind}
 use Rattle.search.specs.Search.{lowest}
 use Rattle.search.specs.declared.Found.the-variants.{At, Nothing}
-use Rattle.names.specs.Reading.{nameOf}
+use Rattle.names.specs.Reading.{nameGiven}
 use Rattle.stamps.specs.Stamps.{packed}
 use Rattle.stamps.specs.declared.Stamp.{Stamp}
 use Rattle.stamps.specs.declared.Packed.the-variants.{Words}
-use Rattle.opened.specs.Changes.{Holds}
+use Rattle.opened.specs.Aids.Changes.{PlaceHolds}
 use Rattle.opened.specs.Places.{lowestUnused}
 use Rattle.opened.specs.Records.{placeCount, usedOf, withRecord, withPointer, withWritten}
 use Rattle.opened.specs.Laws.Places.{live-is}
@@ -24,20 +23,19 @@ use Rattle.opened.specs.Laws.Stores.{record-only, record-holds, pointer-only, p
 use Rattle.sound.specs.Counts.{freeOf}
 use Rattle.sound.specs.Files.{IsFile}
 use Rattle.calls.specs.Outcome.{outcome, refusal, decided}
-use Rattle.calls.specs.Ready.{OnVolume}
+use Rattle.calls.specs.Aids.Ready.{OnVolume}
 use Rattle.calls.specs.Refusals.{badAttr, fileFound, slotForNew, notLive}
 use Rattle.calls.specs.Laws.Ready.{on-kind}
 use Rattle.creating.specs.Create.{made, createOutcome}
 use Rattle.closing.specs.Close.{closeEffect, closeOutcome}
-use Rattle.putting.specs.Longer.{roomOf}
 use Rattle.putting.specs.Written.{writtenIn}
-use Rattle.writing.specs.Write.{writeCount, writeOutcome, writeAt}
+use Rattle.writing.specs.Write.{writeCount, writeOutcome, writeAt, accepted, roomOf}
 use Rattle.history.specs.World.{World, outcomeOf, create, write, close}
 
 -- the one place of the table is taken for the file in slot n
 pub record TakenFor (t : List ℕ) (n pointer : ℕ) (written : Bool) : Type 0 where
   pub long : length t ≡ 16
-  pub holds : Holds t 0 true 2 n pointer written
+  pub holds : PlaceHolds t 0 true 2 n pointer written
 
 pub one-place : (t : List ℕ) → length t ≡ 16 → 0 < placeCount t
 one-place t e = omega arith
@@ -77,10 +75,10 @@ module _ (k : Kind) (w : World) (v : OnVolume (w .image) k) where
   t = w .table
 
   -- place p is taken
-  pub create-well : (s : List ℕ) (attr : ℕ) (stamp : Stamp) (time date n p : ℕ) → nameOf s .fits ≡ true → packed stamp ≡ Words time date
+  pub create-well : (s : List ℕ) (attr : ℕ) (stamp : Stamp) (time date n p : ℕ) → nameGiven s .fits ≡ true → packed stamp ≡ Words time date
       → badAttr attr ≡ false
       → fileFound l s ≡ Nothing → slotForNew l ≡ At n → lowestUnused t ≡ At p
-      → outcomeOf (create s attr stamp) w ≡ outcome 0 p (made l t k n (nameOf s .name) attr time date .image) (withRecord t p 2 n 0 false) []
+      → outcomeOf (create s attr stamp) w ≡ outcome 0 p (made l t k n (nameGiven s .name) attr time date .image) (withRecord t p 2 n 0 false) []
   unfolding createOutcome decided refusal
   create-well s attr stamp time date n p fits stamped may none lowest place = rw (v .known, v .sound, fits, stamped, may, none, lowest, place)
 
@@ -91,8 +89,8 @@ module _ (k : Kind) (w : World) (v : OnVolume (w .image) k) where
         counted = one-place t (x .long);
         used = x .holds .used;
         access = omega (arith, x .holds .access);
-        slot = rw (x .holds .slot) (i .0);
-        plain = rw (x .holds .slot) (i .1);
+        slot = rw (x .holds .slot) (i .below);
+        plain = rw (x .holds .slot) (i .plain);
       })))
 
   pub count-all : (n length : ℕ) → length ≤ freeOf k l * clusterBytes k → writeCount k l n 0 length ≡ length

@@ -18,7 +18,7 @@ use Rattle.chains.specs.Laws.Sizes.{clusters-zero}
 use Rattle.diskette.specs.Places.{clusterBytes, rootEntries, slotAt}
 use Rattle.diskette.specs.declared.Kind.{Kind}
 use Rattle.fields.specs.Fields.{timeOf, dateOf}
-use Rattle.names.specs.Reading.{nameOf}
+use Rattle.names.specs.Reading.{nameGiven}
 use Rattle.stamps.specs.declared.Stamp.{Stamp}
 use Rattle.stamps.specs.declared.Packed.the-variants.{Words}
 use Rattle.search.specs.declared.Found.the-variants.{At, Nothing}
@@ -35,7 +35,7 @@ use Rattle.holding.specs.Laws.Clusters.{on-clusters}
 use Rattle.creating.specs.Create.{made}
 use Rattle.putting.specs.Written.{writtenIn}
 use Rattle.changes.specs.Files.{File, file, Files, ShowsAt}
-use Rattle.changes.specs.Laws.NewSlot.{none-of-name, lowest-open}
+use Rattle.changes.specs.Laws.NewSlot.{none-of-name, lowest-vacant}
 use Rattle.history.specs.ListingCase.{fileCalls, HasStamp, answered}
 use Rattle.history.specs.Meant.{Reaches, IsForNew}
 use Rattle.history.specs.World.{World, outcomeOf, step, run, answers, create, write, close}
@@ -55,7 +55,7 @@ three e f g = rw (e, f, g)
 module _ (k : Kind) (w : World) (fs : Files) (n free : ℕ) (x : HasFiles k w fs n free) (slot : n < rootEntries k)
     (s : List ℕ) (attr : ℕ) (bs : List ℕ) (stamp : Stamp) (g : GoodFile k fs free s attr bs stamp) where
   abbrev name : List ℕ
-  name = nameOf s .name
+  name = nameGiven s .name
 
   abbrev put-file : ℕ → List ℕ → Files
   put-file a bytes = put fs n (some (file name a bytes))
@@ -86,7 +86,7 @@ module _ (k : Kind) (w : World) (fs : Files) (n free : ℕ) (x : HasFiles k w fs
   none-named = none-of-name k (w .image) (on (x .stands .begins)) fs (x .stands .shows) s (g .long) (g .new-name)
 
   lowest : slotForNew (w .image) ≡ At n
-  lowest = lowest-open k (w .image) (on (x .stands .begins)) fs (x .stands .shows) n slot (x .below) (x .never)
+  lowest = lowest-vacant k (w .image) (on (x .stands .begins)) fs (x .stands .shows) n slot (x .below) (x .never)
 
   created : outcomeOf (create s attr stamp) w
       ≡ outcome 0 0 (made (w .image) (w .table) k n name attr (g .time) (g .date) .image) (withRecord (w .table) 0 2 n 0 false) []
@@ -118,7 +118,7 @@ module _ (k : Kind) (w : World) (fs : Files) (n free : ℕ) (x : HasFiles k w fs
 
   none-needed : (o : Option File) → ShowsAt k (w .image) n o → needed k o ≡ 0
   none-needed none y = refl
-  none-needed (some f) y = absurd (y .is-file .1 .0 .0 (x .never))
+  none-needed (some f) y = absurd (y .is-file .plain .0 .0 (x .never))
 
   empty-needed : needed k (put-file attr [] n) ≡ 0
   empty-needed = ap (needed k) (there attr []) ∙ clusters-zero (clusterBytes k) (on-clusters (w .image) k (on (x .stands .begins)) .wide)

@@ -10,22 +10,22 @@ use Rattle.diskette.specs.declared.Kind.{Kind}
 use Rattle.search.specs.Search.{LowestBelow, Answers}
 use Rattle.search.specs.declared.Found.{Found}
 use Rattle.search.specs.declared.Found.the-variants.{At, Nothing}
-use Rattle.directory.specs.Search.{lowestOpenSlot, slotNamed}
-use Rattle.directory.specs.Slots.{OpenAt}
-use Rattle.directory.specs.Laws.Search.{open-slot-answers}
-use Rattle.names.specs.Reading.{nameOf}
-use Rattle.opened.specs.Places.{LiveAt}
+use Rattle.directory.specs.Search.{lowestVacant, slotNamed}
+use Rattle.directory.specs.Slots.{VacantAt}
+use Rattle.directory.specs.Laws.Search.{vacant-slot-answers}
+use Rattle.names.specs.Reading.{nameGiven}
+use Rattle.opened.specs.Places.{LivePlace}
 use Rattle.opened.specs.Records.{placeCount, slotOf}
 use Rattle.opened.specs.Laws.Places.{live-is}
-use Rattle.calls.specs.Ready.{OnVolume}
+use Rattle.calls.specs.Aids.Ready.{OnVolume}
 use Rattle.calls.specs.Refusals.{isNothing, placeFound, theKind, badName, fileFound, noFile, fileSlot, notLive, noPlace, freePlace, slotForNew}
 use Rattle.calls.specs.Laws.Files.{found-is, named-fits, unused-below}
 use Rattle.calls.specs.Laws.Ready.{on-kind}
-use Rattle.holding.specs.Holding.{FileIn}
+use Rattle.sound.specs.Files.{IsFile}
 use Rattle.holding.specs.Laws.Found.{named-file}
 
-pub good-name : (s : List ℕ) → badName s ≡ false → nameOf s .fits ≡ true
-good-name s e = not-false (nameOf s .fits) e
+pub good-name : (s : List ℕ) → badName s ≡ false → nameGiven s .fits ≡ true
+good-name s e = not-false (nameGiven s .fits) e
 
 pub found-at : (f : Found) → isNothing f ≡ false → f ≡ At (placeFound f)
 found-at (At i) e = refl
@@ -40,39 +40,39 @@ pub place-counts : (t : List ℕ) → noPlace t ≡ false → freePlace t < plac
 place-counts t e = unused-below t _ refl (freePlace t) (found-at _ e)
 
 module _ (k : Kind) (l : List ℕ) (v : OnVolume l k) (s : List ℕ) where
-  by-name : fileFound l s ≡ slotNamed l (rootAt k) (rootEntries k) (nameOf s .name)
+  by-name : fileFound l s ≡ slotNamed l (rootAt k) (rootEntries k) (nameGiven s .name)
   unfolding fileFound
   by-name = rw (on-kind l k v)
 
   -- the name of a file
-  pub file-found : noFile l s ≡ false → slotNamed l (rootAt k) (rootEntries k) (nameOf s .name) ≡ At (fileSlot l s)
+  pub file-found : noFile l s ≡ false → slotNamed l (rootAt k) (rootEntries k) (nameGiven s .name) ≡ At (fileSlot l s)
   file-found e = sym by-name ∙ found-at (fileFound l s) e
 
-  pub file-there : noFile l s ≡ false → FileIn l k (fileSlot l s)
-  file-there e = named-file l k (nameOf s .name) (slotNamed l (rootAt k) (rootEntries k) (nameOf s .name)) refl (fileSlot l s) (file-found e)
+  pub file-there : noFile l s ≡ false → IsFile k l (fileSlot l s)
+  file-there e = named-file l k (nameGiven s .name) (slotNamed l (rootAt k) (rootEntries k) (nameGiven s .name)) refl (fileSlot l s) (file-found e)
 
   -- the name of none
-  pub no-file-found : noFile l s ≡ true → slotNamed l (rootAt k) (rootEntries k) (nameOf s .name) ≡ Nothing
+  pub no-file-found : noFile l s ≡ true → slotNamed l (rootAt k) (rootEntries k) (nameGiven s .name) ≡ Nothing
   no-file-found e = sym by-name ∙ found-nothing (fileFound l s) e
 
 module _ (k : Kind) (l : List ℕ) (v : OnVolume l k) where
   -- the slot of a file that was found by its name
   pub named-small : (name : List ℕ) → noFile l name ≡ false → fileSlot l name < 4294967296
   named-small name e =
-      named-fits l k (nameOf name .name) (fileFound l name) (found-is l k v name (nameOf name) refl _ refl) v (fileSlot l name) (found-at _ e)
+      named-fits l k (nameGiven name .name) (fileFound l name) (found-is l k v name (nameGiven name) refl _ refl) v (fileSlot l name) (found-at _ e)
 
-  pub live-at : (t : List ℕ) (h : ℕ) → notLive l t h ≡ false → LiveAt t h l (rootAt (theKind l)) (rootEntries (theKind l))
+  pub live-at : (t : List ℕ) (h : ℕ) → notLive l t h ≡ false → LivePlace t h l (rootAt (theKind l)) (rootEntries (theKind l))
   unfolding notLive
   live-at t h e = live-is t h l _ _ .0 (not-false _ e)
 
   -- the file that a live handle reaches
-  pub live-there : (t : List ℕ) (h : ℕ) → notLive l t h ≡ false → FileIn l k (slotOf t h)
+  pub live-there : (t : List ℕ) (h : ℕ) → notLive l t h ≡ false → IsFile k l (slotOf t h)
   live-there t h e = let x = live-at t h e in record { below = rw (← on-kind l k v) (x .slot); plain = rw (← on-kind l k v) (x .plain) }
 
   -- the slot that a new file takes: below the root's count, and open
-  pub new-slot : isNothing (slotForNew l) ≡ false → LowestBelow (λ (i : ℕ). OpenAt l (slotAt k i)) (rootEntries k) (placeFound (slotForNew l))
+  pub new-slot : isNothing (slotForNew l) ≡ false → LowestBelow (λ (i : ℕ). VacantAt l (slotAt k i)) (rootEntries k) (placeFound (slotForNew l))
   unfolding slotForNew
   new-slot e =
-      let same : slotForNew l ≡ lowestOpenSlot l (rootAt k) (rootEntries k) = rw (on-kind l k v) refl in
-      subst (Answers (λ (i : ℕ). OpenAt l (slotAt k i)) (rootEntries k)) (sym same ∙ found-at (slotForNew l) e)
-      (open-slot-answers l (rootAt k) (rootEntries k))
+      let same : slotForNew l ≡ lowestVacant l (rootAt k) (rootEntries k) = rw (on-kind l k v) refl in
+      subst (Answers (λ (i : ℕ). VacantAt l (slotAt k i)) (rootEntries k)) (sym same ∙ found-at (slotForNew l) e)
+      (vacant-slot-answers l (rootAt k) (rootEntries k))

@@ -8,7 +8,7 @@ use mathlib.Core.Path.{_≡_, refl, sym, _∙_, subst}
 use Rattle.diskette.specs.Places.{rootAt, rootEntries}
 use Rattle.diskette.specs.declared.Kind.{Kind}
 use Rattle.stamps.specs.declared.Stamp.{Stamp}
-use Rattle.opened.specs.Places.{LiveAt}
+use Rattle.opened.specs.Places.{LivePlace}
 use Rattle.opened.specs.Records.{slotOf, withRecord}
 use Rattle.opened.specs.Laws.Places.{closed-is}
 use Rattle.opened.specs.Laws.Stores.{record-only, record-holds}
@@ -42,7 +42,7 @@ module _ (k : Kind) (w : World) (b : Begins k w) where
       let small : s < 4294967296 = omega (arith, i .0, on-usable (w .image) k (on b) .few-slots) in
       let y = record-holds t p (x .lowest .below) access s 0 false small (omega arith) in
       let m = withRecord t p access s 0 false in
-      let live : LiveAt m p (step w c .image) (rootAt k) (rootEntries k) = record {
+      let live : LivePlace m p (step w c .image) (rootAt k) (rootEntries k) = record {
         counted = rw (only-count p m t only) (x .lowest .below);
         used = y .used;
         access = rw (y .access) (x .access-fits);
@@ -72,7 +72,7 @@ module _ (k : Kind) (w : World) (b : Begins k w) where
 
   -- ---- what a handle keeps
 
-  module _ (c : Call) (h s : ℕ) (live : LiveAt (w .table) h (w .image) (rootAt k) (rootEntries k)) (at : slotOf (w .table) h ≡ s) where
+  module _ (c : Call) (h s : ℕ) (live : LivePlace (w .table) h (w .image) (rootAt k) (rootEntries k)) (at : slotOf (w .table) h ≡ s) where
     -- the file of a live place is open, so no delete of it ends well
     not-erased : ¬ Erases k w c s
     not-erased x = erased (x .name) (x .call)
@@ -84,7 +84,7 @@ module _ (k : Kind) (w : World) (b : Begins k w) where
             (record { used = live .used; names = at })
 
     live-still : Given c → outcomeOf c w .number ≡ 0 → ((stamp : Stamp) → ¬ (c ≡ close h stamp))
-        → LiveAt (step w c .table) h (step w c .image) (rootAt k) (rootEntries k) × (slotOf (step w c .table) h ≡ s)
+        → LivePlace (step w c .table) h (step w c .image) (rootAt k) (rootEntries k) × (slotOf (step w c .table) h ≡ s)
     live-still given well other =
         let x = kept k w (on b) h (live .counted) (live .used) c well other in
         let y = x .same in

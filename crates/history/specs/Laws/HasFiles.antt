@@ -12,7 +12,7 @@ use Rattle.image.specs.Bytes.{Bytes}
 use Rattle.diskette.specs.Places.{clusterBytes, clusters, rootEntries, slotAt}
 use Rattle.diskette.specs.declared.Kind.{Kind}
 use Rattle.directory.specs.Slots.{NeverUsedAt}
-use Rattle.names.specs.Reading.{nameOf}
+use Rattle.names.specs.Reading.{nameGiven}
 use Rattle.stamps.specs.Stamps.{packed}
 use Rattle.stamps.specs.declared.Stamp.{Stamp}
 use Rattle.stamps.specs.declared.Packed.the-variants.{Words}
@@ -43,18 +43,18 @@ pub verdict-of : (k : Kind) (w : World) (fs : Files) (n free : ℕ) → HasFiles
 verdict-of k w fs n free x h =
     let files : fileCount k (w .image) ≡ n = first-count k (w .image) n (omega arith)
     (λ t i. subst (ShowsAt k (w .image) t) (x .below t i .1) (x .stands .shows t) .is-file)
-    (λ t i f. f .1 .0 .0 (elim (ℕ-discrete t n) as (λ _. NeverUsedAt (w .image) (slotAt k t)) [
+    (λ t i f. f .plain .0 .0 (elim (ℕ-discrete t n) as (λ _. NeverUsedAt (w .image) (slotAt k t)) [
       | yes e ↦ rw e (x .never)
-      | no d ↦ x .stands .above t (omega arith) (f .0)
+      | no d ↦ x .stands .above t (omega arith) (f .below)
     ])) in
     let held : heldOf k (w .image) ≡ clusters k - free = omega (arith, total-of k w (x .stands .begins), x .free-are, x .aside-none) in
     sound-verdict k (w .image) (on (x .stands .begins)) ∙ rw (files, x .free-are, held, x .aside-none)
 
 -- what is given for a new file: the calls have no reason to refuse it
 pub record GoodFile (k : Kind) (fs : Files) (free : ℕ) (s : List ℕ) (attr : ℕ) (bs : List ℕ) (stamp : Stamp) : Type 0 where
-  pub fits : nameOf s .fits ≡ true
-  pub long : length (nameOf s .name) ≡ 11
-  pub new-name : (t : ℕ) (f : File) → fs t ≡ some f → f .name ≢ nameOf s .name
+  pub fits : nameGiven s .fits ≡ true
+  pub long : length (nameGiven s .name) ≡ 11
+  pub new-name : (t : ℕ) (f : File) → fs t ≡ some f → f .name ≢ nameGiven s .name
   pub may : badAttr attr ≡ false
   pub time : ℕ
   pub date : ℕ

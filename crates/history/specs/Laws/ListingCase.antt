@@ -13,11 +13,12 @@ use Rattle.image.specs.Bytes.{Bytes}
 use Rattle.chains.specs.Put.{put}
 use Rattle.chains.specs.Sizes.{clustersFor}
 use Rattle.chains.specs.Laws.Put.{put-same, put-other}
-use Rattle.diskette.specs.Kinds.{named, kindFE, Usable}
+use Rattle.diskette.specs.Kinds.{named, kindFE}
+use Rattle.diskette.specs.Aids.Usable.{Usable}
 use Rattle.diskette.specs.Places.{clusters}
 use Rattle.diskette.specs.Laws.Kinds.{named-usable}
 use Rattle.names.specs.Alphabet.{plain, allowed, capital}
-use Rattle.names.specs.Reading.{nameOf, fitting, before, after}
+use Rattle.names.specs.Reading.{nameGiven, fitting, beforeFirst, afterFirst}
 use Rattle.names.specs.Spelling.{every, eleven}
 use Rattle.names.specs.declared.Spelled.{Spelled}
 use Rattle.stamps.specs.Stamps.{packed, timeFits, dateFits}
@@ -39,12 +40,12 @@ usable : Usable kindFE
 unfolding named
 usable = named-usable 0xFE (named 0xFE) kindFE refl refl
 
-pub tare-read : nameOf tareGiven ≡ record { fits = true; name = tareName }
-unfolding nameOf fitting before after every allowed plain eleven capital
+pub tare-read : nameGiven tareGiven ≡ record { fits = true; name = tareName }
+unfolding nameGiven fitting beforeFirst afterFirst every allowed plain eleven capital
 tare-read = refl
 
-pub day-read : nameOf dayGiven ≡ record { fits = true; name = dayName }
-unfolding nameOf fitting before after every allowed plain eleven capital
+pub day-read : nameGiven dayGiven ≡ record { fits = true; name = dayName }
+unfolding nameGiven fitting beforeFirst afterFirst every allowed plain eleven capital
 day-read = refl
 
 tare-stamped : packed (timeThen 6 40 0) ≡ Words 0x3500 0x0721
@@ -119,19 +120,19 @@ module _ (tare : List ℕ) (bytes : Bytes tare) (long : length tare ≡ 40) wher
 
   -- the files after the first
   abbrev pub first-files : Files
-  first-files = put no-files 0 (some (file (nameOf tareGiven .name) (archived 0x01) tare))
+  first-files = put no-files 0 (some (file (nameGiven tareGiven .name) (archived 0x01) tare))
 
-  pub other-name : (t : ℕ) (f : File) → first-files t ≡ some f → f .name ≢ nameOf dayGiven .name
+  pub other-name : (t : ℕ) (f : File) → first-files t ≡ some f → f .name ≢ nameGiven dayGiven .name
   other-name t f e same = elim (ℕ-discrete t 0) [
     | yes z ↦
-        let q : some (file (nameOf tareGiven .name) (archived 0x01) tare) ≡ some f
-        = sym (put-same no-files 0 (some (file (nameOf tareGiven .name) (archived 0x01) tare)) t z) ∙ e in
-        let r : file (nameOf tareGiven .name) (archived 0x01) tare ≡ f = cc in
+        let q : some (file (nameGiven tareGiven .name) (archived 0x01) tare) ≡ some f
+        = sym (put-same no-files 0 (some (file (nameGiven tareGiven .name) (archived 0x01) tare)) t z) ∙ e in
+        let r : file (nameGiven tareGiven .name) (archived 0x01) tare ≡ f = cc in
         let n : tareName ≡ dayName
         = sym (ap (λ (x : Spelled). x .name) tare-read) ∙ ap (λ (x : File). x .name) r ∙ same ∙ ap (λ (x : Spelled). x .name) day-read in
         let d : _≡_ {A = ℕ} 0x54 0x44 = ap (λ (x : List ℕ). getD x 0 0) n in
         omega arith
-    | no d ↦ none-is-none f (sym (put-other no-files 0 (some (file (nameOf tareGiven .name) (archived 0x01) tare)) t d) ∙ e)
+    | no d ↦ none-is-none f (sym (put-other no-files 0 (some (file (nameGiven tareGiven .name) (archived 0x01) tare)) t d) ∙ e)
   ]
 
   abbrev pub one-file : World
@@ -167,7 +168,7 @@ module _ (tare : List ℕ) (bytes : Bytes tare) (long : length tare ≡ 40) wher
     good = good-day day day-bytes (omega (arith, day-long)) (omega (arith, day-long))
 
     abbrev both-files : Files
-    both-files = put first-files 1 (some (file (nameOf dayGiven .name) (archived 0x00) day))
+    both-files = put first-files 1 (some (file (nameGiven dayGiven .name) (archived 0x00) day))
 
     abbrev two-files : World
     two-files = run one-file (fileCalls dayGiven 0x00 day (timeThen 18 5 29))
@@ -208,5 +209,5 @@ pub listing-case : ListingCase
 unfolding named formatted
 listing-case img tare day e bytes long day-bytes day-long =
     let is-blank = formatted-blank kindFE usable refl img e in
-    let after = ends tare bytes long day day-bytes day-long in
-    (rw (eq-eqb (length img) 163840 e), subst (λ (l : List ℕ). ListingEnds (world l (replicate 16 0)) tare day) (sym is-blank) after)
+    let afterFirst = ends tare bytes long day day-bytes day-long in
+    (rw (eq-eqb (length img) 163840 e), subst (λ (l : List ℕ). ListingEnds (world l (replicate 16 0)) tare day) (sym is-blank) afterFirst)

@@ -11,21 +11,21 @@ use Rattle.diskette.specs.declared.Kind.{Kind}
 use Rattle.search.specs.Search.{LowestBelow, Answers}
 use Rattle.search.specs.declared.Found.{Found}
 use Rattle.search.specs.declared.Found.the-variants.{At, Nothing}
-use Rattle.fields.specs.Fields as fields
+use Rattle.fields.specs.Fields.{nameOf}
 use Rattle.directory.specs.Search.{slotNamed}
 use Rattle.directory.specs.Slots.{PlainAt}
 use Rattle.directory.specs.Laws.Search.{slot-named-answers}
-use Rattle.names.specs.Reading.{nameOf}
+use Rattle.names.specs.Reading.{nameGiven}
 use Rattle.names.specs.Spelling.{Means}
 use Rattle.names.specs.Laws.Meaning.{accepted}
 use Rattle.names.specs.Laws.Proper.{proper}
-use Rattle.calls.specs.Ready.{OnVolume}
+use Rattle.calls.specs.Aids.Ready.{OnVolume}
 use Rattle.calls.specs.Refusals.{isNothing, placeFound, badName, noFile, fileSlot, notLive, slotForNew}
 use Rattle.calls.specs.Laws.Files.{root-within}
 use Rattle.calls.specs.Laws.Ready.{on-kind}
-use Rattle.holding.specs.Holding.{FileIn}
+use Rattle.sound.specs.Files.{IsFile}
 use Rattle.changes.specs.Laws.Slots.{name-once}
-use Rattle.opened.specs.Places.{LiveAt}
+use Rattle.opened.specs.Places.{LivePlace}
 use Rattle.opened.specs.Records.{slotOf}
 use Rattle.history.specs.Meant.{HasName, Reaches, IsForNew, Target, NamedBy, Names, target, nothing, byName, byHandle, toMake}
 use Rattle.history.specs.World.{World, Call}
@@ -33,26 +33,26 @@ use Rattle.history.specs.Laws.Found.{good-name, file-found, no-file-foun
 
 -- ---- the 11 bytes that a name means
 
-pub means : (name : List ℕ) → nameOf name .fits ≡ true → Means name (nameOf name .name)
-means name fits = accepted name (nameOf name .name) .0 (fits, refl)
+pub means : (name : List ℕ) → nameGiven name .fits ≡ true → Means name (nameGiven name .name)
+means name fits = accepted name (nameGiven name .name) .0 (fits, refl)
 
-pub meant-is : {name n : List ℕ} → Means name n → nameOf name .name ≡ n
+pub meant-is : {name n : List ℕ} → Means name n → nameGiven name .name ≡ n
 meant-is {name} {n} m = accepted name n .1 m .1
 
 -- what holds of bytes that the name means holds of these
-pub meant-exactly : (name : List ℕ) → nameOf name .fits ≡ true → (P : List ℕ → Type 0) → ((n : List ℕ) × Means name n × P n) ↔ P (nameOf name .name)
-meant-exactly name fits P = (λ x. subst P (sym (meant-is (x .1))) (x .2), λ p. (nameOf name .name, means name fits, p))
+pub meant-exactly : (name : List ℕ) → nameGiven name .fits ≡ true → (P : List ℕ → Type 0) → ((n : List ℕ) × Means name n × P n) ↔ P (nameGiven name .name)
+meant-exactly name fits P = (λ x. subst P (sym (meant-is (x .1))) (x .2), λ p. (nameGiven name .name, means name fits, p))
 
 -- ---- there is one
 
-module _ (k : Kind) (l : List ℕ) (v : OnVolume l k) (name : List ℕ) (fits : nameOf name .fits ≡ true) where
+module _ (k : Kind) (l : List ℕ) (v : OnVolume l k) (name : List ℕ) (fits : nameGiven name .fits ≡ true) where
   abbrev Named : ℕ → Type 0
-  Named s = PlainAt l (slotAt k s) × (fields.nameOf l (slotAt k s) ≡ nameOf name .name)
+  Named s = PlainAt l (slotAt k s) × (nameOf l (slotAt k s) ≡ nameGiven name .name)
 
-  searched : (f : Found) → slotNamed l (rootAt k) (rootEntries k) (nameOf name .name) ≡ f → Answers Named (rootEntries k) f
+  searched : (f : Found) → slotNamed l (rootAt k) (rootEntries k) (nameGiven name .name) ≡ f → Answers Named (rootEntries k) f
   searched f e =
       let within = root-within l k v (rootAt k) (rootEntries k) refl refl in
-      subst (Answers Named (rootEntries k)) e (slot-named-answers l (rootAt k) (rootEntries k) within (nameOf name .name) (proper name fits .long))
+      subst (Answers Named (rootEntries k)) e (slot-named-answers l (rootAt k) (rootEntries k) within (nameGiven name .name) (proper name fits .long))
 
   -- the file that the search finds
   pub has-name : noFile l name ≡ false → HasName k l name (fileSlot l name)
@@ -65,12 +65,12 @@ module _ (k : Kind) (l : List ℕ) (v : OnVolume l k) (name : List ℕ) (fits : 
   no-name none s x = searched Nothing (no-file-found k l v name none) s (x .is-file .0) (x .is-file .1, sym (meant-is (x .meant)))
 
   pub for-new : noFile l name ≡ true → isNothing (slotForNew l) ≡ false → IsForNew k l name (placeFound (slotForNew l))
-  for-new none room = record { good = (nameOf name .name, means name fits); new = no-name none; lowest = new-slot k l v room }
+  for-new none room = record { good = (nameGiven name .name, means name fits); new = no-name none; lowest = new-slot k l v room }
 
 pub reaches : (k : Kind) (w : World) → OnVolume (w .image) k → (h : ℕ) → notLive (w .image) (w .table) h ≡ false
     → Reaches k w h (slotOf (w .table) h)
 reaches k w v h e =
-    let x : LiveAt (w .table) h (w .image) (rootAt k) (rootEntries k) = rw (← on-kind (w .image) k v) (live-at k (w .image) v (w .table) h e) in
+    let x : LivePlace (w .table) h (w .image) (rootAt k) (rootEntries k) = rw (← on-kind (w .image) k v) (live-at k (w .image) v (w .table) h e) in
     record { live = x; slot = refl }
 
 -- ---- there is no second
@@ -80,7 +80,7 @@ module _ (k : Kind) (w : World) (v : OnVolume (w .image) k) (s t : ℕ) where
   name-one x y = elim (ℕ-discrete s t) [
     | yes e ↦ e
     | no d ↦
-        let i : FileIn (w .image) k t = record { below = y .is-file .0; plain = y .is-file .1 } in
+        let i : IsFile k (w .image) t = record { below = y .is-file .0; plain = y .is-file .1 } in
         absurd (name-once k (w .image) v t i s (x .is-file .0) d (x .is-file .1) (sym (meant-is (x .meant)) ∙ meant-is (y .meant)))
   ]
 

@@ -11,12 +11,13 @@ use Rattle.image.specs.Laws.Numbers.{length-digits}
 use Rattle.chains.specs.Laws.Tests.{clash}
 use Rattle.diskette.specs.declared.Kind.{Kind}
 use Rattle.stamps.specs.declared.Stamp.{Stamp}
-use Rattle.opened.specs.Changes.{OnlyAt, SameUse}
+use Rattle.opened.specs.Changes.{OnlyAt}
+use Rattle.opened.specs.Aids.Uses.{SameUse}
 use Rattle.opened.specs.Records.{placeCount, placeAt, usedOf, withPointer, withWritten, cleared}
 use Rattle.opened.specs.Laws.Records.{untouched}
 use Rattle.opened.specs.Laws.Stores.{record-only, pointer-only, cleared-only}
 use Rattle.opened.specs.Laws.Uses.{only-count, other-use, written-uses}
-use Rattle.calls.specs.Ready.{OnVolume}
+use Rattle.calls.specs.Aids.Ready.{OnVolume}
 use Rattle.history.specs.World.{World, Call, outcomeOf, look, openFile, create, read, write, seek, close, delete, rename, mode}
 use Rattle.history.specs.Laws.Looks.{looks-alter-nothing}
 use Rattle.history.specs.Laws.TableStored.{Took, Pointed, open-took, create-took, read-pointed, write-pointed, seek-pointed}

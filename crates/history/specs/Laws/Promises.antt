@@ -13,8 +13,7 @@ use Rattle.sound.specs.Counts.{freeOf, heldOf, asideOf}
 use Rattle.sound.specs.Laws.Total.{total}
 use Rattle.calls.specs.Outcome.{Outcome}
 use Rattle.calls.specs.Laws.Ready.{on-kind, on-usable}
-use Rattle.putting.specs.Longer.{roomOf}
-use Rattle.writing.specs.Write.{writeCount, writeRows, writeEffect, writeOutcome, writeAt}
+use Rattle.writing.specs.Write.{writeCount, writeRows, writeEffect, writeOutcome, writeAt, roomOf}
 use Rattle.writing.specs.Laws.Write.{count-within}
 use Rattle.history.specs.Promises.{Begins, SoundAfterEach, FilesOfHistory, NamesAFile, AltersNoOther, TotalAfterEach, ShortOnlyWhereFull}
 use Rattle.history.specs.World.{World, ours, outcomeOf, run, write}

@@ -11,7 +11,7 @@ use Rattle.stamps.specs.declared.Packed.{Packed}
 use Rattle.stamps.specs.declared.Packed.the-variants.{Words, OutOfRange}
 use Rattle.calls.specs.Outcome.{Outcome, outcome}
 use Rattle.calls.specs.Refusals.{noFile, fileSlot, slotForNew, placeFound, theKind}
-use Rattle.names.specs.Reading.{nameOf}
+use Rattle.names.specs.Reading.{nameGiven}
 use Rattle.stamps.specs.Stamps.{packed}
 use Rattle.stamps.specs.declared.Stamp.{Stamp}
 use Rattle.freeing.specs.Freed.{chainFreed}
@@ -46,7 +46,7 @@ well-made false l m t k i j name attr OutOfRange = refl
 well-create : (l t s : List ℕ) (attr : ℕ) (stamp : Stamp) → createEffect l t s attr stamp .number ≡ 0
 well-create l t s attr stamp =
     well-made (noFile l s) l (chainFreed (theKind l) l (fileSlot l s)) t (theKind l) (placeFound (slotForNew l)) (fileSlot l s)
-    (nameOf s .name) attr (packed stamp)
+    (nameGiven s .name) attr (packed stamp)
 
 well-write : (k : Kind) (l t : List ℕ) (slot h : ℕ) (bs : List ℕ) → writeAt k l t slot h bs .number ≡ 0
 unfolding writeAt

@@ -4,23 +4,22 @@ use mathlib.Core.List.{List}
 use mathlib.Core.Option.{Option, none, some}
 use mathlib.Core.Path.{_≡_, sym, ap, _∙_, subst}
 use lib.ListN.{length}
-use Rattle.chains.specs.Holders.{Holder, Owns}
+use Rattle.chains.specs.Aids.Holders.{Holder, Owns}
 use Rattle.chains.specs.Sizes.{clustersFor}
 use Rattle.chains.specs.Laws.Holders.{owns-same}
 use Rattle.chains.specs.Laws.ReplaceCounts.{replace-free, replace-aside}
 use Rattle.diskette.specs.Places.{clusterBytes, lastCluster, rootEntries, slotAt}
 use Rattle.diskette.specs.declared.Kind.{Kind}
-use Rattle.chaincheck.specs.Entries.{holderAt}
+use Rattle.chaincheck.specs.Aids.Entries.{holderAt}
 use Rattle.sound.specs.Counts.{freeOf, asideOf}
-use Rattle.sound.specs.Files.{valueOf}
-use Rattle.sound.specs.Holders.{rootHolders, rootChains}
+use Rattle.sound.specs.Files.{valueOf, IsFile}
+use Rattle.sound.specs.Aids.Holders.{rootHolders, rootChains}
 use Rattle.sound.specs.Laws.Geometry.{geometry}
 use Rattle.sound.specs.Laws.Holders.{root-holder}
-use Rattle.calls.specs.Ready.{OnVolume}
+use Rattle.calls.specs.Aids.Ready.{OnVolume}
 use Rattle.calls.specs.Laws.Ready.{on-usable}
-use Rattle.holding.specs.Holding.{FileIn}
 use Rattle.holding.specs.Laws.Chain.{chain-long}
-use Rattle.changes.specs.Changed.{SlotChanged}
+use Rattle.changes.specs.Aids.Changed.{SlotChanged}
 use Rattle.changes.specs.Files.{File, ShowsAt}
 use Rattle.changes.specs.Laws.Changed.{on-theory, changed-on}
 use Rattle.changes.specs.Laws.Root.{root-file, root-none}
@@ -40,9 +39,9 @@ needed k (some f) = clustersFor (clusterBytes k) (length (f .bytes))
 
 module _ (k : Kind) (l : List ℕ) (v : OnVolume l k) (s : ℕ) where
   chain-needed : s < rootEntries k → (o : Option File) → ShowsAt k l s o → length (rootChains k l (slotAt k s)) ≡ needed k o
-  chain-needed h none x = ap length (root-none k l v s h (λ p. x (h, p)))
+  chain-needed h none x = ap length (root-none k l v s h (λ p. x (record { below = h; plain = p })))
   chain-needed h (some f) x =
-      let i : FileIn l k s = record { below = x .is-file .0; plain = x .is-file .1 } in
+      let i = x .is-file in
       ap length (root-file k l v s i) ∙ chain-long l k v s i
       ∙ ap (clustersFor (clusterBytes k)) (sym (bytes-long k l v s i) ∙ ap length (holds-bytes k l v s f x))
 

@@ -9,7 +9,7 @@ use mathlib.Core.Option.{Option, none, some}
 use mathlib.Core.Path.{_≡_, refl, sym, ap, _∙_, subst}
 use lib.ListN.{length}
 use Rattle.chains.specs.Content.{content}
-use Rattle.chains.specs.Holders as Theory
+use Rattle.chains.specs.Aids.Holders.{Holder, Owns}
 use Rattle.chains.specs.Laws.Content.{content-length}
 use Rattle.contents.specs.Laws.Chain.{chain-room}
 use Rattle.diskette.specs.Places.{firstData, clusterBytes, lastCluster, rootEntries, slotAt}
@@ -18,14 +18,14 @@ use Rattle.fields.specs.Fields.{nameOf, attrOf, startOf, sizeOf}
 use Rattle.directory.specs.Slots.{standingOf, isPlain}
 use Rattle.directory.specs.Laws.Slots.{plain-is}
 use Rattle.sound.specs.Files.{valueOf, IsFile, ChainOf}
-use Rattle.sound.specs.Holders.{rootHolders}
+use Rattle.sound.specs.Aids.Holders.{rootHolders}
 use Rattle.sound.specs.Laws.Chains.{file-owns-chain}
 use Rattle.sound.specs.Laws.Holders.{root-holder, plain-holder}
 use Rattle.sound.specs.Laws.Sound.{chain-only}
 use Rattle.calls.specs.Outcome.{Outcome}
-use Rattle.calls.specs.Ready.{OnVolume}
+use Rattle.calls.specs.Aids.Ready.{OnVolume}
 use Rattle.calls.specs.Laws.Ready.{on-usable, on-kind}
-use Rattle.holding.specs.Holding.{fileChain, fileBytes, FileIn}
+use Rattle.holding.specs.Holding.{fileChain, fileBytes}
 use Rattle.holding.specs.Laws.Chain.{file-owned, file-holds}
 use Rattle.holding.specs.Laws.Clusters.{on-clusters}
 use Rattle.reading.specs.Read.{readRows, readEffect, readOutcome}
@@ -49,13 +49,13 @@ module _ (k : Kind) (l : List ℕ) (v : OnVolume l k) where
   shows : (s : ℕ) (d : Dec (s < rootEntries k)) (b : Bool) → isPlain (standingOf l (slotAt k s)) ≡ b → ShowsAt k l s (shown s d b)
   unfolding shown
   shows s (yes h) true e =
-      let i : IsFile k l s = (h, plain-is l (slotAt k s) .0 e) in
+      let i : IsFile k l s = record { below = h; plain = plain-is l (slotAt k s) .0 e } in
       record { is-file = i; name = refl; attr = refl; bytes = (on-sound k l v .0 s, on-sound k l v .1 .chains s i, refl) }
-  shows s (yes h) false e = λ i. clash (sym (plain-is l (slotAt k s) .1 (i .1)) ∙ e)
+  shows s (yes h) false e = λ i. clash (sym (plain-is l (slotAt k s) .1 (i .plain)) ∙ e)
     where
       clash : true ≡ false → ⊥
       clash q = absurd (let z : _≡_ {A = ℕ} 0 1 = cc in omega arith)
-  shows s (no n) b e = λ i. n (i .0)
+  shows s (no n) b e = λ i. n (i .below)
 
   pub volume-shows : (fs : Files) × Shows k l fs
   volume-shows = (
@@ -64,14 +64,14 @@ module _ (k : Kind) (l : List ℕ) (v : OnVolume l k) where
   )
 
   -- the chain that a walk finds is the file's
-  pub file-chain-of : (s : ℕ) → FileIn l k s → ChainOf k l s (fileChain k l s)
+  pub file-chain-of : (s : ℕ) → IsFile k l s → ChainOf k l s (fileChain k l s)
   file-chain-of s i =
       let holder = root-holder k l s (i .below) ∙ plain-holder (clusterBytes k) l (slotAt k s) (i .plain) in
-      file-owns-chain k (on-usable l k v) l (rootHolders k l) (root-holder k l) s (fileChain k l s) (i .below, i .plain) .0
-      (subst (λ (h : Theory.Holder). Theory.Owns (lastCluster k) (valueOf k l) h (fileChain k l s)) (sym holder) (file-owned l k v s i))
+      file-owns-chain k (on-usable l k v) l (rootHolders k l) (root-holder k l) s (fileChain k l s) i .0
+      (subst (λ (h : Holder). Owns (lastCluster k) (valueOf k l) h (fileChain k l s)) (sym holder) (file-owned l k v s i))
 
   -- as many bytes as its size says
-  pub bytes-long : (s : ℕ) → FileIn l k s → length (fileBytes k l s) ≡ sizeOf l (slotAt k s)
+  pub bytes-long : (s : ℕ) → IsFile k l s → length (fileBytes k l s) ≡ sizeOf l (slotAt k s)
   unfolding fileBytes
   bytes-long s i =
       content-length (512 * firstData k) (clusterBytes k) (on-clusters l k v .wide) l (fileChain k l s) (sizeOf l (slotAt k s))
@@ -80,7 +80,7 @@ module _ (k : Kind) (l : List ℕ) (v : OnVolume l k) where
   pub holds-bytes : (s : ℕ) (f : File) → Holds k l s f → fileBytes k l s ≡ f .bytes
   unfolding fileBytes
   holds-bytes s f x =
-      let i : FileIn l k s = record { below = x .is-file .0; plain = x .is-file .1 } in
+      let i = x .is-file in
       ap (λ (cs : List ℕ). content (512 * firstData k) (clusterBytes k) l cs (sizeOf l (slotAt k s)))
       (chain-only k (on-usable l k v) l s (fileChain k l s) (x .bytes .0) (file-chain-of s i) (x .bytes .1))
       ∙ x .bytes .2
@@ -95,7 +95,7 @@ reads-are-of-history k v c cs g h buffer s f e n x =
     let b = begins-run k cs v c g in
     let l = w .image in
     let t = w .table in
-    let i : FileIn l k s = record { below = x .is-file .0; plain = x .is-file .1 } in
+    let i = x .is-file in
     let bytes : fileBytes k l s ≡ f .bytes = holds-bytes k l (on b) s f x in
     let size : sizeOf l (slotAt k s) ≡ length (f .bytes) = sym (bytes-long k l (on b) s i) ∙ ap length bytes in
     elim (decided-cases (readRows l t h) (readEffect l t h buffer) l t buffer) [

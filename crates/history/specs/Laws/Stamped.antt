@@ -9,7 +9,7 @@ use Rattle.image.specs.Laws.Store.{length-stored}
 use Rattle.image.specs.Numbers.{digits}
 use Rattle.diskette.specs.Places.{slotAt}
 use Rattle.diskette.specs.declared.Kind.{Kind}
-use Rattle.directory.specs.Entries.{SameFields}
+use Rattle.directory.specs.Aids.Entries.{SameFields}
 use Rattle.fields.specs.Fields.{attrOf, timeOf, dateOf, withAttr, withTime}
 use Rattle.directory.specs.Laws.Entries.{word-leaves, word-back}
 use Rattle.stamps.specs.declared.Stamp.{Stamp}

@@ -15,7 +15,7 @@ use Rattle.opened.specs.Laws.Records.{pointer-small}
 use Rattle.opened.specs.Laws.Stores.{record-only, record-bytes, pointer-only, pointer-holds, pointer-bytes}
 use Rattle.opened.specs.Laws.Stores.{written-only, written-holds, written-bytes, cleared-only, cleared-holds, cleared-bytes}
 use Rattle.opened.specs.Laws.Uses.{only-count}
-use Rattle.calls.specs.Ready.{OnVolume}
+use Rattle.calls.specs.Aids.Ready.{OnVolume}
 use Rattle.history.specs.Handles.{Moved, TableBecomes, PointersMove}
 use Rattle.history.specs.World.{World, Call, ours, outcomeOf, run, look, openFile, create, read, write, seek, close, delete, rename, mode}
 use Rattle.history.specs.Laws.Begins.{on}

@@ -13,8 +13,8 @@ use borrow.Author.Tests.{eq-eqb, ne-eqb, leb-true, ltb-false}
 use Rattle.diskette.specs.Places.{slotAt}
 use Rattle.diskette.specs.declared.Kind.{Kind}
 use Rattle.fields.specs.Fields.{sizeOf}
-use Rattle.names.specs.Reading.{nameOf}
-use Rattle.offset.specs.Offset.{within, movedBy}
+use Rattle.names.specs.Reading.{nameGiven}
+use Rattle.offset.specs.Offset.{asPointer, movedBy}
 use Rattle.offset.specs.declared.Moved.the-variants.{To, Beyond}
 use Rattle.search.specs.Search.{LowestBelow, Answers}
 use Rattle.stamps.specs.Stamps.{packed}
@@ -25,7 +25,7 @@ use Rattle.opened.specs.Places.{isOpen, lowestUnused}
 use Rattle.opened.specs.Records.{placeCount, usedOf, slotOf, pointerOf, withRecord, withPointer, withWritten, cleared}
 use Rattle.opened.specs.Laws.Places.{unused-answers}
 use Rattle.calls.specs.Outcome.{Row, Outcome, refusal, decided}
-use Rattle.calls.specs.Ready.{OnVolume}
+use Rattle.calls.specs.Aids.Ready.{OnVolume}
 use Rattle.calls.specs.Refusals.{isNothing, placeFound, theKind, noFile, fileSlot, noPlace, freePlace, slotForNew}
 use Rattle.calls.specs.Laws.Ready.{on-kind}
 use Rattle.sound.specs.Files.{IsFile}
@@ -88,7 +88,7 @@ moved-fits base offset = whole (pos base +ℤ offset)
     below n true e = omega (arith, leb-true n 4294967295 e)
     below n false e = omega arith
 
-    whole : (z : ℤ) → pointerMoved (within z) < 4294967296
+    whole : (z : ℤ) → pointerMoved (asPointer z) < 4294967296
     whole (pos n) = below n (leb n 4294967295) refl
     whole (negsuc n) = omega arith
 
@@ -126,7 +126,7 @@ module _ (k : Kind) (w : World) (v : OnVolume (w .image) k) where
     Makes o = (s : ℕ) × Took k w (create name attr stamp) 2 s o
 
     made-took : (m : List ℕ) (j : Kind) (s : ℕ) → Names (create name attr stamp) k w s → noPlace t ≡ false → (words : Packed)
-        → Makes (madeBy m t j s (nameOf name .name) attr words)
+        → Makes (madeBy m t j s (nameGiven name .name) attr words)
     made-took m j s named room (Words time date) =
         (s, record { access-fits = omega arith; named = named; lowest = free-lowest t room; table = refl })
     made-took m j s named room OutOfRange = (s, record { access-fits = omega arith; named = named; lowest = free-lowest t room; table = refl })

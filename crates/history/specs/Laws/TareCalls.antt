@@ -14,8 +14,8 @@ use borrow.Author.Tests.{eqb-true, eqb-false, lt-ltb}
 use Rattle.chains.specs.Laws.Tests.{clash}
 use Rattle.diskette.specs.Places.{slotAt}
 use Rattle.diskette.specs.declared.Kind.{Kind}
-use Rattle.directory.specs.Slots.{OpenAt}
-use Rattle.names.specs.Reading.{nameOf}
+use Rattle.directory.specs.Slots.{VacantAt}
+use Rattle.names.specs.Reading.{nameGiven}
 use Rattle.stamps.specs.Stamps.{packed}
 use Rattle.stamps.specs.declared.Stamp.{Stamp}
 use Rattle.stamps.specs.declared.Packed.{Packed}
@@ -23,7 +23,7 @@ use Rattle.stamps.specs.declared.Packed.the-variants.{Words, OutOfRange}
 use Rattle.opened.specs.Records.{slotOf, pointerOf, accessOf}
 use Rattle.sound.specs.Files.{IsFile}
 use Rattle.calls.specs.Outcome.{Row, Outcome, refusal, decided}
-use Rattle.calls.specs.Ready.{OnVolume}
+use Rattle.calls.specs.Aids.Ready.{OnVolume}
 use Rattle.calls.specs.Refusals.{isNothing, placeFound, theKind, badName, noFile, fileSlot, readOnly, notLive, noPlace, freePlace, slotForNew}
 use Rattle.calls.specs.Laws.Ready.{on-usable}
 use Rattle.creating.specs.Create.{made, madeBy, createRows, createEffect, createOutcome}
@@ -189,13 +189,13 @@ module _ (k : Kind) (w : World) (v : OnVolume (w .image) k) (s : ℕ) (g : Guard
     -- a place is taken for another slot, the one that is named
     module _ (slot : ℕ) (small : slot < 4294967296) (other : ¬ (s ≡ slot)) (named : Names (create name attr stamp) k w slot)
         (room : noPlace t ≡ false) (m : List ℕ) (j : Kind) where
-      made-spares : (time date : ℕ) → Spares k w s (create name attr stamp) (made m t j slot (nameOf name .name) attr time date)
+      made-spares : (time date : ℕ) → Spares k w s (create name attr stamp) (made m t j slot (nameGiven name .name) attr time date)
       made-spares time date = record {
         image = inr (λ x. other (names-one k w v s slot (create name attr stamp) x named));
         places = record-watched t s (g .places) (freePlace t) (place-counts t room) 2 slot small (λ e. absurd (other (sym e)));
       }
 
-      made-by-spares : (words : Packed) → Spares k w s (create name attr stamp) (madeBy m t j slot (nameOf name .name) attr words)
+      made-by-spares : (words : Packed) → Spares k w s (create name attr stamp) (madeBy m t j slot (nameGiven name .name) attr words)
       made-by-spares (Words time date) = made-spares time date
       made-by-spares OutOfRange = made-spares 0 0
 
@@ -203,7 +203,7 @@ module _ (k : Kind) (w : World) (v : OnVolume (w .image) k) (s : ℕ) (g : Guard
     new-small e = omega (arith, new-slot k l v e .below, on-usable l k v .few-slots)
 
     new-other : isNothing (slotForNew l) ≡ false → ¬ (s ≡ placeFound (slotForNew l))
-    new-other e q = elim (subst (λ (n : ℕ). OpenAt l (slotAt k n)) (sym q) (new-slot k l v e .passes)) [
+    new-other e q = elim (subst (λ (n : ℕ). VacantAt l (slotAt k n)) (sym q) (new-slot k l v e .passes)) [
       | inl z ↦ g .is-file .1 .0 .1 z
       | inr z ↦ g .is-file .1 .0 .0 z
     ]

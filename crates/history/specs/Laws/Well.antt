@@ -7,8 +7,8 @@ use mathlib.Core.Path.{_≡_, refl, sym, ap, _∙_, subst}
 use Rattle.image.specs.Bytes.{Bytes}
 use Rattle.diskette.specs.declared.Kind.{Kind}
 use Rattle.calls.specs.Outcome.{Row, Outcome, refusal, decided}
-use Rattle.holding.specs.Holding.{FileIn}
-use Rattle.changes.specs.Changed.{SlotChanged}
+use Rattle.sound.specs.Files.{IsFile}
+use Rattle.changes.specs.Aids.Changed.{SlotChanged}
 use Rattle.changes.specs.Files.{File, Holds, ShowsAt}
 use Rattle.history.specs.Aids.Came.{Does, Came, idle, changes}
 use Rattle.history.specs.History as history
@@ -37,11 +37,11 @@ module _ (k : Kind) (w : World) (c : Call) where
     })
 
     -- the file that stands there is changed
-    pub came-at : FileIn (w .image) k s → (h : File → File) → ((f g : Option File) → Becomes f g ↔ (g ≡ history.each h f))
+    pub came-at : IsFile k (w .image) s → (h : File → File) → ((f g : Option File) → Becomes f g ↔ (g ≡ history.each h f))
         → ((f : File) → Holds k (w .image) s f → Holds k m s (h f)) → Came k w c
     came-at i h becomes holds = came-put (λ f. (history.each h f, becomes f (history.each h f) .1 refl))
         (λ f g y p. subst (ShowsAt k m s) (sym (becomes f g .0 p)) (go f y))
       where
         go : (o : Option File) → ShowsAt k (w .image) s o → ShowsAt k m s (history.each h o)
-        go none y = absurd (y (i .below, i .plain))
+        go none y = absurd (y i)
         go (some f) y = holds f y

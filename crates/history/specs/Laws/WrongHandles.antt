@@ -11,11 +11,11 @@ use Rattle.image.specs.Laws.Store.{bytes-zeros, bytes-one}
 use Rattle.chains.specs.Laws.Put.{put-same}
 use Rattle.diskette.specs.Kinds.{kindFE}
 use Rattle.diskette.specs.declared.Kind.{Kind}
-use Rattle.names.specs.Reading.{nameOf}
+use Rattle.names.specs.Reading.{nameGiven}
 use Rattle.search.specs.declared.Found.the-variants.{At}
 use Rattle.opened.specs.Places.{lowestUnused}
 use Rattle.opened.specs.Laws.Stores.{record-holds}
-use Rattle.calls.specs.Ready.{OnVolume}
+use Rattle.calls.specs.Aids.Ready.{OnVolume}
 use Rattle.calls.specs.Refusals.{noFile, fileFound, freePlace}
 use Rattle.calls.specs.Outcome.{refusal, decided}
 use Rattle.opening.specs.Open.{openEffect, openOutcome}
@@ -34,7 +34,7 @@ use Rattle.history.specs.Laws.ListingCase.{first-files, one-file, first-
 use Rattle.history.specs.Laws.Meant.{means, no-name}
 
 -- open for reading, of a file that is there
-module _ (k : Kind) (w : World) (v : OnVolume (w .image) k) (name : List ℕ) (fits : nameOf name .fits ≡ true) where
+module _ (k : Kind) (w : World) (v : OnVolume (w .image) k) (name : List ℕ) (fits : nameGiven name .fits ≡ true) where
   there : (s : ℕ) → HasName k (w .image) name s → noFile (w .image) name ≡ false
   there s x = cases (noFile (w .image) name) refl
     where
@@ -49,7 +49,7 @@ module _ (k : Kind) (w : World) (v : OnVolume (w .image) k) (name : List ℕ) (f
 
 -- the volume has a file of this name in slot n, and the table has no place taken
 module _ (k : Kind) (w : World) (fs : Files) (m free : ℕ) (x : HasFiles k w fs m free) (n : ℕ) (later : n ≢ 0)
-    (f : File) (here : fs n ≡ some f) (name : List ℕ) (fits : nameOf name .fits ≡ true) (named : f .name ≡ nameOf name .name) where
+    (f : File) (here : fs n ≡ some f) (name : List ℕ) (fits : nameGiven name .fits ≡ true) (named : f .name ≡ nameGiven name .name) where
   has : HasName k (w .image) name n
   has =
       let y = subst (ShowsAt k (w .image) n) here (x .stands .shows n) in

@@ -15,24 +15,24 @@ use Rattle.diskette.specs.declared.Kind.{Kind}
 use Rattle.fields.specs.Fields.{withEntry}
 use Rattle.directory.specs.Laws.Entries.{fresh}
 use Rattle.directory.specs.Laws.Slots.{plain-is}
-use Rattle.names.specs.Reading.{nameOf}
+use Rattle.names.specs.Reading.{nameGiven}
 use Rattle.search.specs.declared.Found.the-variants.{At, Nothing}
 use Rattle.stamps.specs.declared.Stamp.{Stamp}
-use Rattle.opened.specs.Places.{LiveAt, lowestUnused}
+use Rattle.opened.specs.Places.{LivePlace, lowestUnused}
 use Rattle.opened.specs.Records.{usedOf, slotOf, pointerOf}
 use Rattle.calls.specs.Refusals.{isNothing, fileFound}
-use Rattle.calls.specs.Ready.{OnVolume}
+use Rattle.calls.specs.Aids.Ready.{OnVolume}
 use Rattle.calls.specs.Laws.Files.{slot-within}
 use Rattle.calls.specs.Laws.Ready.{on-kind}
 use Rattle.deleting.specs.Delete.{erasedIn}
 use Rattle.freeing.specs.Freed.{chainFreed}
-use Rattle.holding.specs.Holding.{FileIn}
+use Rattle.sound.specs.Files.{IsFile}
 use Rattle.putting.specs.Written.{writtenIn}
 use Rattle.writing.specs.Write.{writeCount, writeAt}
 use Rattle.changes.specs.Files.{File, Files, Holds, Shows, ShowsAt}
 use Rattle.changes.specs.Laws.Changed.{changed-on}
 use Rattle.changes.specs.Laws.Emptied.{file-emptied}
-use Rattle.changes.specs.Laws.NewSlot.{none-of-name, lowest-open}
+use Rattle.changes.specs.Laws.NewSlot.{none-of-name, lowest-vacant}
 use Rattle.changes.specs.Laws.Wrote.{wrote-changed, wrote-holds}
 use Rattle.history.specs.Aids.WrongLibraries.{fileIn, erasesFirst, takesFirst, writesThrough}
 use Rattle.history.specs.Meant.{HasName, Names, nothing, byName, byHandle}
@@ -89,7 +89,7 @@ module _ {k : Kind} {w : World} {fs : Files} {f : File} {name : List ℕ} {attr 
   first-holds : Holds k l 0 f
   first-holds = subst (ShowsAt k l 0) (x .here) (shown 0)
 
-  first-file : FileIn l k 0
+  first-file : IsFile k l 0
   first-file = record { below = first-holds .is-file .0; plain = first-holds .is-file .1 }
 
   file-in : fileIn l 0 ≡ true
@@ -135,7 +135,7 @@ module _ {k : Kind} {w : World} {fs : Files} {f : File} {name : List ℕ} {attr 
   -- ---- create of a new name, with place 0 in use
 
   abbrev remade : List ℕ
-  remade = withEntry (chainFreed k l 0) (slotAt k 0) (nameOf name .name) attr (g .time) (g .date) 0 0
+  remade = withEntry (chainFreed k l 0) (slotAt k 0) (nameGiven name .name) attr (g .time) (g .date) 0 0
 
   not-named : ¬ Names (create name attr stamp) k u 0
   not-named (inl y) = no-file 0 y
@@ -145,12 +145,12 @@ module _ {k : Kind} {w : World} {fs : Files} {f : File} {name : List ℕ} {attr 
   other-name y =
       let long = file-emptied k l v (begins .bytes) 0 first-file .frame .long in
       let fits = slot-within l k v 0 (slotAt k 0) (first-file .below) refl in
-      let made = fresh (nameOf name .name) attr (g .time) (g .date) 0 0 (g .long) (chainFreed k l 0) (slotAt k 0) (rw long fits) in
+      let made = fresh (nameGiven name .name) attr (g .time) (g .date) 0 0 (g .long) (chainFreed k l 0) (slotAt k 0) (rw long fits) in
       g .new-name 0 f (x .here) (sym (y .name) ∙ made (g .small-time) (g .small-date) (omega arith) (omega arith) .name)
 
   pub takes-first-spoils : usedOf t 0 ≡ true → (p : ℕ) → lowestUnused t ≡ At p → Spoils takesFirst
   takes-first-spoils used p place =
-      let lowest = lowest-open k l v fs shown (x .next) (x .below) (x .has .below) (x .has .never) in
+      let lowest = lowest-vacant k l v fs shown (x .next) (x .below) (x .has .below) (x .has .never) in
       let o = create-well k u v name attr stamp (g .time) (g .date) (x .next) p (g .fits) (g .stamped) (g .may) none-named lowest place in
       let e : stepBy takesFirst u (create name attr stamp) .image ≡ remade = rw (o, none-named, used, file-in, g .stamped, on-kind l k v) in
       spoils takesFirst (create name attr stamp) remade (given-create name attr stamp) not-named e other-name
@@ -158,7 +158,7 @@ module _ {k : Kind} {w : World} {fs : Files} {f : File} {name : List ℕ} {attr 
   -- ---- write through a place that is not live, but has slot 0
 
   module _ (lets : List ℕ → ℕ → Bool) (passes : lets t 0 ≡ true) (at : slotOf t 0 ≡ 0) (pointer : pointerOf t 0 ≡ 0)
-      (dead : ¬ LiveAt t 0 l (rootAt k) (rootEntries k)) where
+      (dead : ¬ LivePlace t 0 l (rootAt k) (rootEntries k)) where
     abbrev m : List ℕ
     m = writtenIn k l 0 0 (take (length bs) bs)
 

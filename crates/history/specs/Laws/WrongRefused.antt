@@ -13,9 +13,9 @@ use Rattle.chains.specs.Laws.Put.{put-same}
 use Rattle.chains.specs.Laws.Tests.{clash}
 use Rattle.diskette.specs.Kinds.{kindFE}
 use Rattle.diskette.specs.Places.{rootAt, rootEntries}
-use Rattle.names.specs.Reading.{nameOf}
+use Rattle.names.specs.Reading.{nameGiven}
 use Rattle.search.specs.Search.{lowest}
-use Rattle.opened.specs.Places.{LiveAt, lowestUnused}
+use Rattle.opened.specs.Places.{LivePlace, lowestUnused}
 use Rattle.opened.specs.Records.{usedOf, slotOf, accessOf, pointerOf}
 use Rattle.closing.specs.Close.{archived}
 use Rattle.changes.specs.Files.{File, file, Files}
@@ -38,7 +38,7 @@ abbrev files : Files
 files = first-files zeros (bytes-zeros 40) refl
 
 abbrev tare : File
-tare = file (nameOf tareGiven .name) (archived 0x01) zeros
+tare = file (nameGiven tareGiven .name) (archived 0x01) zeros
 
 scene : Scene kindFE before files tare dayGiven 0x00 (1 ∷ []) (timeThen 18 5 29)
 scene = record {
@@ -75,7 +75,7 @@ unfolding written splice
 other-tare e = let z : _≡_ {A = ℕ} 1 0 = ap (λ (bytes : List ℕ). getD bytes 0 0) e in omega arith
 
 abbrev Live : List ℕ → Type 0
-Live t = LiveAt t 0 (before .image) (rootAt kindFE) (rootEntries kindFE)
+Live t = LivePlace t 0 (before .image) (rootAt kindFE) (rootEntries kindFE)
 
 -- an unused place
 pub writes-unused-refused : Breaks (writesThrough unused) × (¬ NamesAFile (writesThrough unused))

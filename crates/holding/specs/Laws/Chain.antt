@@ -4,10 +4,10 @@ use native.Mathlib.Omega.{arith}
 use mathlib.Core.List.{List}
 use mathlib.Core.Path.{_≡_, refl, sym, ap, _∙_, subst}
 use lib.ListN.{length}
-use Rattle.chains.specs.Chain.{Chain}
-use Rattle.chains.specs.Holders.{Holder, Owns, fileHolder}
+use Rattle.chains.specs.Aids.Chain.{Chain}
+use Rattle.chains.specs.Aids.Holders.{Holder, Owns, fileHolder}
 use Rattle.chains.specs.Sizes.{clustersFor}
-use Rattle.chains.specs.Laws.Clusters.{file-owns}
+use Rattle.sound.specs.Laws.Clusters.{file-owns}
 use Rattle.chains.specs.Laws.Holders.{file-fits}
 use Rattle.chains.specs.Laws.Sizes.{fits-exact}
 use Rattle.chains.specs.Laws.Tests.{says-true}
@@ -15,17 +15,17 @@ use Rattle.contents.specs.Laws.Chain.{chain-is}
 use Rattle.diskette.specs.Places.{firstData, clusterBytes, lastCluster, rootEntries, slotAt}
 use Rattle.diskette.specs.declared.Kind.{Kind}
 use Rattle.fields.specs.Fields.{startOf, sizeOf}
-use Rattle.sound.specs.Files.{valueOf}
+use Rattle.sound.specs.Files.{valueOf, IsFile}
 use Rattle.sound.specs.Sound.{Sound}
 use Rattle.sound.specs.Laws.Geometry.{geometry}
 use Rattle.sound.specs.Laws.IsSound.{known-says}
-use Rattle.calls.specs.Ready.{OnVolume}
+use Rattle.calls.specs.Aids.Ready.{OnVolume}
 use Rattle.calls.specs.Laws.Ready.{on-usable}
 use Rattle.calls.specs.Laws.Files.{slot-within}
-use Rattle.holding.specs.Holding.{fileChain, FileIn}
+use Rattle.holding.specs.Holding.{fileChain}
 use Rattle.holding.specs.Laws.Clusters.{on-clusters}
 
-module _ (img : List ℕ) (k : Kind) (v : OnVolume img k) (slot : ℕ) (i : FileIn img k slot) where
+module _ (img : List ℕ) (k : Kind) (v : OnVolume img k) (slot : ℕ) (i : IsFile k img slot) where
   pub file-below : slot ≤ rootEntries k
   file-below = let h : slot < rootEntries k = i .below in omega arith
 
@@ -48,7 +48,7 @@ module _ (img : List ℕ) (k : Kind) (v : OnVolume img k) (slot : ℕ) (i : File
   pub file-owned : Owns (lastCluster k) (valueOf k img) holder (fileChain k img slot)
   file-owned =
       let o : Owns (lastCluster k) (valueOf k img) holder (sound .0 slot)
-      = file-owns (lastCluster k) (clusterBytes k) (geometry k (on-usable img k v) .wide) (valueOf k img) _ _ (sound .0 slot) (sound .1 .chains slot (i .below, i .plain)) in
+      = file-owns (lastCluster k) (clusterBytes k) (geometry k (on-usable img k v) .wide) (valueOf k img) _ _ (sound .0 slot) (sound .1 .chains slot i) in
       let e = chain-is (512 * firstData k) (clusterBytes k) (lastCluster k) img (startOf img (slotAt k slot)) (on-clusters img k v) (sound .0 slot) (o .chain) in
       subst (Owns (lastCluster k) (valueOf k img) holder) (sym e) o
 

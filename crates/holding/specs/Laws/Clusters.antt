@@ -4,13 +4,13 @@ use native.Mathlib.Omega.{arith}
 use mathlib.Core.List.{List}
 use mathlib.Core.Path.{_≡_}
 use lib.ListN.{length}
-use Rattle.contents.specs.Contents.{Area}
+use Rattle.contents.specs.Aids.Contents.{Area}
 use Rattle.contents.specs.Laws.Kinds.{area-kind}
-use Rattle.diskette.specs.Kinds.{Usable}
+use Rattle.diskette.specs.Aids.Usable.{Usable}
 use Rattle.diskette.specs.Places.{firstData, clusterBytes, copyTwo, lastCluster}
 use Rattle.diskette.specs.declared.Kind.{Kind}
-use Rattle.table.specs.Entries.{Reaches}
-use Rattle.calls.specs.Ready.{OnVolume}
+use Rattle.table.specs.Aids.Copies.{Reaches}
+use Rattle.calls.specs.Aids.Ready.{OnVolume}
 use Rattle.calls.specs.Laws.Ready.{on-usable, on-of-kind, on-area}
 
 module _ (img : List ℕ) (k : Kind) (v : OnVolume img k) where

@@ -11,33 +11,34 @@ use Rattle.search.specs.declared.Found.{Found}
 use Rattle.search.specs.declared.Found.the-variants.{At, Nothing}
 use Rattle.fields.specs.Fields.{nameOf}
 use Rattle.directory.specs.Slots.{standingOf, isPlain}
-use Rattle.directory.specs.Search.{sameName, namedSlot, slotNamed}
+use Rattle.directory.specs.Search.{sameName, slotNamed}
+use Rattle.directory.specs.Aids.Search.{namedSlot}
 use Rattle.directory.specs.Laws.Slots.{plain-is}
-use Rattle.opened.specs.Places.{liveSlot}
+use Rattle.opened.specs.Aids.Places.{liveSlot}
 use Rattle.opened.specs.Laws.Places.{live-slot-is}
 use Rattle.calls.specs.Laws.Files.{live-slot, live-below}
-use Rattle.holding.specs.Holding.{FileIn}
+use Rattle.sound.specs.Files.{IsFile}
 
 both-first : (a b : Bool) → (a && b) ≡ true → a ≡ true
 both-first true b e = refl
 both-first false b e = e
 
-file-by : (img : List ℕ) (k : Kind) (name : List ℕ) (slot : ℕ) (f : Found) → LowestIs (namedSlot img (rootAt k) name) 0 (rootEntries k) f → f ≡ At slot → FileIn img k slot
+file-by : (img : List ℕ) (k : Kind) (name : List ℕ) (slot : ℕ) (f : Found) → LowestIs (namedSlot img (rootAt k) name) 0 (rootEntries k) f → f ≡ At slot → IsFile k img slot
 file-by img k name slot (At i) x e =
     let z : i ≡ slot = cc in
     let y : i < 0 + rootEntries k = x .1 in
-    subst (FileIn img k) z
+    subst (IsFile k img) z
     (record {
       below = omega arith;
       plain = plain-is img (slotAt k i) .0 (both-first (isPlain (standingOf img (slotAt k i))) (sameName (nameOf img (slotAt k i)) name) (x .2));
     })
 file-by img k name slot Nothing x e = absurd (let z : _≡_ {A = ℕ} 0 1 = cc in omega arith)
 
-pub named-file : (img : List ℕ) (k : Kind) (name : List ℕ) (f : Found) → f ≡ slotNamed img (rootAt k) (rootEntries k) name → (slot : ℕ) → f ≡ At slot → FileIn img k slot
+pub named-file : (img : List ℕ) (k : Kind) (name : List ℕ) (f : Found) → f ≡ slotNamed img (rootAt k) (rootEntries k) name → (slot : ℕ) → f ≡ At slot → IsFile k img slot
 unfolding slotNamed
 named-file img k name f e slot q = file-by img k name slot f (rw e (lowest-is (namedSlot img (rootAt k) name) 0 (rootEntries k))) q
 
-pub live-file : (img : List ℕ) (k : Kind) (t : List ℕ) (h : ℕ) (f : Found) → f ≡ liveSlot t h img (rootAt k) (rootEntries k) → (slot : ℕ) → f ≡ At slot → FileIn img k slot
+pub live-file : (img : List ℕ) (k : Kind) (t : List ℕ) (h : ℕ) (f : Found) → f ≡ liveSlot t h img (rootAt k) (rootEntries k) → (slot : ℕ) → f ≡ At slot → IsFile k img slot
 live-file img k t h f found slot at = record {
   below = live-below img k t h f found slot at;
   plain = rw (live-slot img k t h f found slot at) (live-slot-is t h img (rootAt k) (rootEntries k) slot (sym found ∙ at) .0 .plain);

@@ -8,7 +8,8 @@ use mathlib.Core.Logic.{_⊎_, inl, inr}
 use lib.ListN.{length, getD, set, length-set}
 use lib.Seq.{getD-set-same}
 use Rattle.image.specs.Bytes.{Bytes}
-use Rattle.image.specs.Store.{stored, Apart}
+use Rattle.image.specs.Store.{stored}
+use Rattle.image.specs.Aids.Ranges.{Apart}
 use Rattle.image.specs.Numbers.{number, digits}
 use Rattle.image.specs.Laws.Store.{stored-outside, stored-inside}
 

@@ -9,7 +9,8 @@ use mathlib.Core.Logic.{_⊎_, inl, inr}
 use lib.ListN.{length, getD, set, drop, replicate, length-set, length-take, length-drop}
 use lib.Seq.{getD-set-same, getD-set-other, set-out, getD-take, getD-drop, drop-cons, ext-getD}
 use Rattle.image.specs.Bytes.{Bytes}
-use Rattle.image.specs.Store.{stored, part, Outside, Apart}
+use Rattle.image.specs.Store.{stored, part}
+use Rattle.image.specs.Aids.Ranges.{Outside, Apart}
 
 -- ---- one byte
 

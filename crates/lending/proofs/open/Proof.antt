@@ -58,7 +58,7 @@ use Rattle.lent.proofs.put_record.Symbol as put-def
 use Rattle.lent.proofs.put_record.Symbol.{name as #lent·put-record}
 use Rattle.lent.proofs.put_record.Met as put-thm
 use Rattle.single.specs.Rows.{bytesOf, LeavesRow}
-use Rattle.single.specs.OpenAt.{OpensAt}
+use Rattle.single.specs.Aids.OpenAt.{OpensAt}
 use Rattle.lending.specs.Laws.OpenView.{free-fits}
 use Rattle.lending.specs.Laws.OpenThrough.{open-through}
 use Rattle.single.specs.declared.place.Opened.{Opened}

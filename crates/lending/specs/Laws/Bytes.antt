@@ -11,7 +11,8 @@ use lib.Seq.{getD-append-add}
 use Rattle.image.specs.Bytes.{Bytes}
 use Rattle.image.specs.Numbers.{number, digits}
 use Rattle.image.specs.Laws.Numbers.{number-same}
-use Rattle.opened.specs.Records.{placeAt, mark, numberBytes, usedOf, slotOf, accessOf, pointerOf, writtenOf}
+use Rattle.opened.specs.Records.{placeAt, usedOf, slotOf, accessOf, pointerOf, writtenOf, recordBytes}
+use Rattle.chains.specs.Sums.{bit}
 use Rattle.opened.specs.Laws.Records.{slot-small, pointer-small}
 use Rattle.records.specs.Row.{unused, recordAt, recordOf, rowFrom, rowOf}
 use Rattle.records.specs.Laws.Alike.{row-length, row-reads, record-of}
@@ -44,10 +45,10 @@ unfolding recordOf
 says-fit t b i h = let e = row-length t in rw (row-reads t i (omega arith)) record { slot = slot-small t i b; pointer = pointer-small t i b }
 
 length-place : (r : OpenRecord) → length (placeBytes r) ≡ 16
-unfolding placeBytes numberBytes digits
+unfolding placeBytes recordBytes digits
 length-place r = refl
 
-mark-back : (b : Bool) → not (eqb (mark b) 0) ≡ b
+mark-back : (b : Bool) → not (eqb (bit b) 0) ≡ b
 mark-back true = refl
 mark-back false = refl
 
@@ -68,7 +69,7 @@ module _ (before : List ℕ) (p : ℕ) (long : length before ≡ 16 * p) (r : Op
       (λ i j. let e : placeAt p + o + i ≡ placeAt p + (o + i) = omega arith in rw e (byte (o + i) (omega arith)))
 
   pub place-reads : recordOf t p ≡ r
-  unfolding recordOf usedOf accessOf slotOf pointerOf writtenOf placeBytes numberBytes digits number
+  unfolding recordOf usedOf accessOf slotOf pointerOf writtenOf placeBytes recordBytes digits number
   place-reads =
       let e : placeAt p + 0 ≡ placeAt p = omega arith in
       record-of t p r

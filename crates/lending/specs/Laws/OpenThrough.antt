@@ -17,7 +17,7 @@ use Rattle.records.specs.Row.{unused, withRecordAt, lowestUnusedIn}
 use Rattle.records.specs.Laws.Alike.{unused-alike}
 use Rattle.records.specs.declared.OpenRecord.{OpenRecord}
 use Rattle.single.specs.Rows.{bytesOf, LeavesRow}
-use Rattle.single.specs.OpenAt.{spareFor, OpensAt}
+use Rattle.single.specs.Aids.OpenAt.{spareFor, OpensAt}
 use Rattle.lending.specs.Laws.Bytes.{FitsIn, AllFit, bytes-back}
 use Rattle.lending.specs.Laws.Through.{one-back, stored-first}
 use Rattle.lending.specs.Laws.OpenView.{free-alike, numberBy, opened, OpenView, open-view}

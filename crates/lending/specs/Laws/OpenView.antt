@@ -28,7 +28,7 @@ use Rattle.lending.specs.Laws.Bytes.{AllFit, bytes-back}
 
 module _ (t : List ℕ) (p : ℕ) (k : p < placeCount t) (access slot pointer : ℕ) (written : Bool) where
   abbrev bytes : List ℕ
-  bytes = recordBytes access slot pointer written
+  bytes = recordBytes true access slot pointer written
 
   taken-back : recordOf (withRecord t p access slot pointer written) p ≡ recordOf bytes 0
   unfolding withRecord recordOf
@@ -87,7 +87,7 @@ module _ (img s : List ℕ) (access : ℕ) where
 
   -- the record that it makes
   abbrev pub opened : OpenRecord
-  opened = recordOf (recordBytes access (fileSlot img s) 0 false) 0
+  opened = recordOf (recordBytes true access (fileSlot img s) 0 false) 0
 
   pub record OpenView (t : List ℕ) (f : Found) (o : Outcome) : Type 0 where
     pub number : o .number ≡ numberBy f

@@ -10,7 +10,7 @@ use lib.ListN.{length, take}
 use Rattle.fields.specs.Fields.{sizeOf}
 use Rattle.stamps.specs.declared.Stamp.{Stamp}
 use Rattle.opened.specs.Records.{placeCount, usedOf, slotOf, accessOf, pointerOf, writtenOf, withPointer, withWritten}
-use Rattle.opened.specs.Changes.{Holds}
+use Rattle.opened.specs.Aids.Changes.{PlaceHolds}
 use Rattle.opened.specs.Laws.Stores.{pointer-only}
 use Rattle.opened.specs.Laws.Uses.{only-count}
 use Rattle.calls.specs.Outcome.{Row, Outcome, outcome, decided}
@@ -52,7 +52,7 @@ module _ (t : List ℕ) (h : ℕ) (t′ : List ℕ) (h′ : ℕ) (e : recordAt (
     there : h < placeCount t
     here : h′ < placeCount t′
     same : recordOf t h ≡ recordOf t′ h′
-    fields : Holds t h (usedOf t′ h′) (accessOf t′ h′) (slotOf t′ h′) (pointerOf t′ h′) (writtenOf t′ h′)
+    fields : PlaceHolds t h (usedOf t′ h′) (accessOf t′ h′) (slotOf t′ h′) (pointerOf t′ h′) (writtenOf t′ h′)
 
   lives : notLive img t h ≡ false → Lives
   unfolding recordOf

@@ -3,7 +3,7 @@ use borrow.Author.Needs.{needs}
 use Prim.Native.Nat.{_-_}
 use mathlib.Core.Path.{_≡_}
 use lib.ListN.{length}
-use Rattle.links.specs.Freed.{freedFrom}
+use Rattle.links.specs.Aids.Freed.{freedFrom}
 use Rattle.links.specs.Laws.Turns.{reaches-long, freed-all, freed-low, freed-high, freed-turn, freed-end}
 use Rattle.links.proofs.free_chain.Statement.{statement}
 use Rattle.links.proofs.free_chain.Tie as tie

@@ -2,7 +2,7 @@
 use borrow.Author.Needs.{needs}
 use Prim.Native.Nat.{_-_}
 use mathlib.Core.Path.{_≡_}
-use Rattle.chains.specs.Steps.{followed}
+use Rattle.chains.specs.Aids.Steps.{followed}
 use Rattle.table.specs.Entries.{tableOf}
 use Rattle.links.specs.Laws.Turns.{follow-turn, follow-end}
 use Rattle.links.proofs.last_of.Statement.{statement}

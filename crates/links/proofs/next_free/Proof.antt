@@ -2,7 +2,7 @@
 use borrow.Author.Needs.{needs}
 use Prim.Native.Nat.{_+_, _-_, _≤_}
 use mathlib.Core.Path.{_≡_}
-use Rattle.links.specs.Linked.{nextFree}
+use Rattle.links.specs.Aids.Linked.{nextFree}
 use Rattle.links.specs.Laws.Turns.{next-hit, next-miss, next-end}
 use Rattle.links.proofs.next_free.Statement.{statement}
 use Rattle.links.proofs.next_free.Tie as tie

@@ -9,8 +9,8 @@ use lib.ListN.{length}
 use Rattle.chains.specs.Put.{put}
 use Rattle.chains.specs.Lists.{_∈_}
 use Rattle.chains.specs.Values.{Link}
-use Rattle.chains.specs.Chain.{Leads, Chain}
-use Rattle.chains.specs.Growth.{released}
+use Rattle.chains.specs.Aids.Chain.{Leads, Chain}
+use Rattle.chains.specs.Aids.Growth.{released}
 use Rattle.chains.specs.Laws.Tests.{true-says}
 use Rattle.chains.specs.Laws.Values.{says-link}
 use Rattle.chains.specs.Laws.Put.{put-same, put-other}
@@ -19,8 +19,9 @@ use Rattle.chains.specs.Laws.Chain.{after-fresh, chain-frame, chain-mem}
 use Rattle.chains.specs.Laws.Growth.{released-in, released-out}
 use Rattle.table.specs.Entries.{setBoth, tableOf}
 use Rattle.table.specs.Laws.View.{table-inside}
-use Rattle.links.specs.Freed.{freed, freedFrom}
-use Rattle.links.specs.Leaves.{Holds}
+use Rattle.links.specs.Freed.{freed}
+use Rattle.links.specs.Aids.Freed.{freedFrom}
+use Rattle.links.specs.Aids.Leaves.{HasTable}
 use Rattle.links.specs.Laws.Table.{geometry, holds-set, table-set}
 
 -- ---- the loop frees the chain
@@ -35,7 +36,7 @@ module _ (second last : ℕ) where
   unfolding freedFrom
   freed-link l n c h = rw (true-says (says-link last c) h, table-inside last l c (h .0) (h .1))
 
-  leads-freed : (cs : List ℕ) (l : List ℕ) (v : ℕ) → Holds second last l → Leads last (tableOf last l) v cs → freedFrom second last l (length cs) v ≡ freed second l cs
+  leads-freed : (cs : List ℕ) (l : List ℕ) (v : ℕ) → HasTable second last l → Leads last (tableOf last l) v cs → freedFrom second last l (length cs) v ≡ freed second l cs
   leads-freed [] l v holds p = unfold freedFrom freed in refl
   leads-freed (x ∷ xs) l v holds p =
       let m = setBoth second l x 0 in
@@ -47,7 +48,7 @@ module _ (second last : ℕ) where
       ∙ leads-freed xs m (tableOf last l x) (holds-set second last l holds x 0) (leads-kept last (holds .small) (tableOf last l) (tableOf last m) (tableOf last l x) xs same (p .2))
       ∙ (unfold freed in refl)
 
-  pub chain-freed : (l : List ℕ) (start : ℕ) (cs : List ℕ) → Holds second last l → Chain last (tableOf last l) start cs → freedFrom second last l (length cs) start ≡ freed second l cs
+  pub chain-freed : (l : List ℕ) (start : ℕ) (cs : List ℕ) → HasTable second last l → Chain last (tableOf last l) start cs → freedFrom second last l (length cs) start ≡ freed second l cs
   chain-freed l start [] holds p = unfold freedFrom freed in refl
   chain-freed l start (x ∷ xs) holds p = leads-freed (x ∷ xs) l start holds p
 
@@ -65,7 +66,7 @@ released-put f c cs a = elim (dec-mem a cs) [
 ]
 
 module _ (second last : ℕ) where
-  freed-at : (cs : List ℕ) (l : List ℕ) → Holds second last l → ((c : ℕ) → c ∈ cs → Link last c) → (a : ℕ) → tableOf last (freed second l cs) a ≡ released (tableOf last l) cs a
+  freed-at : (cs : List ℕ) (l : List ℕ) → HasTable second last l → ((c : ℕ) → c ∈ cs → Link last c) → (a : ℕ) → tableOf last (freed second l cs) a ≡ released (tableOf last l) cs a
   freed-at [] l holds r a = unfold freed released in refl
   freed-at (c ∷ cs) l holds r a =
       let one : freed second l (c ∷ cs) ≡ freed second (setBoth second l c 0) cs = unfold freed in refl in
@@ -74,15 +75,15 @@ module _ (second last : ℕ) where
       ∙ ap (λ (f : ℕ → ℕ). released f cs a) (table-set second last l holds c 0 (r c (inl refl)) (omega arith))
       ∙ released-put (tableOf last l) c cs a
 
-  pub table-freed : (l cs : List ℕ) → Holds second last l → ((c : ℕ) → c ∈ cs → Link last c) → tableOf last (freed second l cs) ≡ released (tableOf last l) cs
+  pub table-freed : (l cs : List ℕ) → HasTable second last l → ((c : ℕ) → c ∈ cs → Link last c) → tableOf last (freed second l cs) ≡ released (tableOf last l) cs
   table-freed l cs holds r = λ k a. freed-at cs l holds r a k
 
   -- other clusters keep their entries
-  pub freed-others : (l cs : List ℕ) → Holds second last l → ((c : ℕ) → c ∈ cs → Link last c) → (a : ℕ) → ¬ (a ∈ cs) → tableOf last (freed second l cs) a ≡ tableOf last l a
+  pub freed-others : (l cs : List ℕ) → HasTable second last l → ((c : ℕ) → c ∈ cs → Link last c) → (a : ℕ) → ¬ (a ∈ cs) → tableOf last (freed second l cs) a ≡ tableOf last l a
   freed-others l cs holds r a n = freed-at cs l holds r a ∙ released-out (tableOf last l) cs a n
 
   -- and so for a chain
-  pub chain-released : (l : List ℕ) (start : ℕ) (cs : List ℕ) → Holds second last l → Chain last (tableOf last l) start cs → tableOf last (freedFrom second last l (length cs) start) ≡ released (tableOf last l) cs
+  pub chain-released : (l : List ℕ) (start : ℕ) (cs : List ℕ) → HasTable second last l → Chain last (tableOf last l) start cs → tableOf last (freedFrom second last l (length cs) start) ≡ released (tableOf last l) cs
   chain-released l start cs holds p =
       ap (tableOf last) (chain-freed second last l start cs holds p)
       ∙ table-freed l cs holds (λ c i. chain-mem (geometry last (holds .small)) (tableOf last l) start cs p c i .0)

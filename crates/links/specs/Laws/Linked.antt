@@ -7,20 +7,22 @@ use mathlib.Core.Logic.{_≢_, inl, inr}
 use mathlib.Core.Path.{_≡_, refl, sym, ap, subst, _∙_}
 use lib.ListN.{length}
 use Rattle.chains.specs.Put.{put}
-use Rattle.chains.specs.Lists.{Once, _∈_, lastOf}
+use Rattle.chains.specs.Lists.{_∈_, lastOf}
+use Rattle.chains.specs.Aids.Lists.{Once}
 use Rattle.chains.specs.Values.{Link}
-use Rattle.chains.specs.Chain.{Chain}
-use Rattle.chains.specs.Free.{Takable}
-use Rattle.chains.specs.Growth.{extended, laid}
-use Rattle.chains.specs.Steps.{followed}
+use Rattle.chains.specs.Aids.Chain.{Chain}
+use Rattle.chains.specs.Aids.Free.{Takable}
+use Rattle.chains.specs.Aids.Growth.{extended, laid}
+use Rattle.chains.specs.Aids.Steps.{followed}
 use Rattle.chains.specs.Laws.Put.{put-same, put-other}
 use Rattle.chains.specs.Laws.Lists.{last-mem, once-head, once-tail}
 use Rattle.chains.specs.Laws.Chain.{chain-mem}
 use Rattle.chains.specs.Laws.Follow.{last-followed}
 use Rattle.chains.specs.Laws.Growth.{laid-other}
 use Rattle.table.specs.Entries.{tableOf}
-use Rattle.links.specs.Linked.{endOf, Behind, linkedTo, linked, newClusters, linkedFrom}
-use Rattle.links.specs.Leaves.{Holds}
+use Rattle.links.specs.Linked.{endOf, linkedTo, linked, newClusters}
+use Rattle.links.specs.Aids.Linked.{Behind, linkedFrom}
+use Rattle.links.specs.Aids.Leaves.{HasTable}
 use Rattle.links.specs.Laws.Table.{geometry, holds-linked, table-first, table-behind}
 use Rattle.links.specs.Laws.New.{added-linked, new-takable}
 
@@ -28,7 +30,7 @@ use Rattle.links.specs.Laws.New.{added-linked, new-takable}
 
 module _ (second last : ℕ) where
   -- the table g below need only agree beside the clusters that are laid
-  laid-at : (ds : List ℕ) (l : List ℕ) (p d : ℕ) (g : ℕ → ℕ) → Holds second last l → Link last p → ((c : ℕ) → c ∈ (d ∷ ds) → Link last c) → ¬ (p ∈ (d ∷ ds)) → Once (d ∷ ds)
+  laid-at : (ds : List ℕ) (l : List ℕ) (p d : ℕ) (g : ℕ → ℕ) → HasTable second last l → Link last p → ((c : ℕ) → c ∈ (d ∷ ds) → Link last c) → ¬ (p ∈ (d ∷ ds)) → Once (d ∷ ds)
       → (a : ℕ) → (¬ (a ∈ (p ∷ (d ∷ ds))) → g a ≡ tableOf last l a) → tableOf last (linked second l p (d ∷ ds)) a ≡ laid g p (d ∷ ds) a
   unfolding laid linked
   laid-at [] l p d g holds q r fresh o a e =
@@ -61,7 +63,7 @@ module _ (second last : ℕ) where
       ]
 
   -- a chain that begins with d
-  begun-at : (ds : List ℕ) (l : List ℕ) (d : ℕ) → Holds second last l → ((c : ℕ) → c ∈ (d ∷ ds) → Link last c) → Once (d ∷ ds) → (a : ℕ) → tableOf last (linked second l 0 (d ∷ ds)) a ≡ laid (tableOf last l) d ds a
+  begun-at : (ds : List ℕ) (l : List ℕ) (d : ℕ) → HasTable second last l → ((c : ℕ) → c ∈ (d ∷ ds) → Link last c) → Once (d ∷ ds) → (a : ℕ) → tableOf last (linked second l 0 (d ∷ ds)) a ≡ laid (tableOf last l) d ds a
   unfolding laid linked
   begun-at [] l d holds r o a = ap (λ (f : ℕ → ℕ). f a) (table-first second last l holds 0 d (r d (inl refl)) refl)
   begun-at (b ∷ bs) l d holds r o a = laid-at bs (linkedTo second l 0 d) d b (tableOf last l) (holds-linked second last l holds 0 d) (r d (inl refl)) (λ c i. r c (inr i)) (once-head d (b ∷ bs) o) (once-tail d (b ∷ bs) o) a
@@ -84,7 +86,7 @@ module _ (last : ℕ) (small : last ≤ 4079) (f : ℕ → ℕ) (start : ℕ) wh
       let e : length (c ∷ cs) - 1 ≡ length cs = omega arith in
       ap (λ (n : ℕ). followed f n start) e ∙ ap (followed f (length cs)) (p .0) ∙ last-followed (geometry last small) f c cs (p .2)
 
-module _ (second last : ℕ) (l : List ℕ) (holds : Holds second last l) (start : ℕ) where
+module _ (second last : ℕ) (l : List ℕ) (holds : HasTable second last l) (start : ℕ) where
   linked-at : (cs new : List ℕ) → Chain last (tableOf last l) start cs → Takable last (tableOf last l) new → (a : ℕ) → tableOf last (linked second l (endOf cs) new) a ≡ extended (tableOf last l) cs new a
   unfolding extended linked
   linked-at cs [] p t a = refl

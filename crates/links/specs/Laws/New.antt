@@ -8,14 +8,16 @@ use mathlib.Core.Path.{_≡_, refl, sym, ap, _∙_}
 use lib.ListN.{length, take}
 use lib.Seq.{length-take-le}
 use Rattle.chains.specs.Put.{put}
-use Rattle.chains.specs.Lists.{startOf}
+use Rattle.chains.specs.Lists.{headOf}
 use Rattle.chains.specs.Values.{Link, freeCount}
-use Rattle.chains.specs.Free.{Takable, freeFrom, freeClusters}
+use Rattle.chains.specs.Free.{freeFrom, freeClusters}
+use Rattle.chains.specs.Aids.Free.{Takable}
 use Rattle.chains.specs.Laws.Put.{put-same, put-other, put-cases}
 use Rattle.chains.specs.Laws.Free.{free-nil, free-yes, free-no, free-same, free-length, lowest-takable}
 use Rattle.table.specs.Entries.{tableOf}
-use Rattle.links.specs.Linked.{Behind, linkedTo, linked, newClusters, nextFree, linkedFrom}
-use Rattle.links.specs.Leaves.{Holds}
+use Rattle.links.specs.Linked.{linkedTo, linked, newClusters}
+use Rattle.links.specs.Aids.Linked.{Behind, nextFree, linkedFrom}
+use Rattle.links.specs.Aids.Leaves.{HasTable}
 use Rattle.links.specs.Laws.Table.{geometry, holds-linked, table-first, table-behind}
 use Rattle.links.specs.Laws.Turns.{linked-none, linked-turn}
 
@@ -44,7 +46,7 @@ head-of f (suc n) c d ds e = elim (ℕ-discrete (f c) 0) [
 
 -- ---- one turn
 
-module _ (second last : ℕ) (l : List ℕ) (holds : Holds second last l) (prev d : ℕ) (b : Behind last (tableOf last l) prev) (h : Link last d) where
+module _ (second last : ℕ) (l : List ℕ) (holds : HasTable second last l) (prev d : ℕ) (b : Behind last (tableOf last l) prev) (h : Link last d) where
   -- the new cluster is not free then
   pub new-used : tableOf last (linkedTo second l prev d) d ≢ 0
   new-used = elim b [
@@ -74,22 +76,22 @@ module _ (second last : ℕ) (l : List ℕ) (holds : Holds second last l) (prev 
 -- ---- the loop
 
 module _ (second last : ℕ) where
-  from-linked : (n : ℕ) (l : List ℕ) (prev c : ℕ) → Holds second last l → Behind last (tableOf last l) prev → 2 ≤ c
+  from-linked : (n : ℕ) (l : List ℕ) (prev c : ℕ) → HasTable second last l → Behind last (tableOf last l) prev → 2 ≤ c
       → linkedFrom second last l prev c n ≡ linked second l prev (take n (freeFrom (tableOf last l) (last + 1 - c) c))
   from-linked zero l prev c holds b h = unfold linkedFrom linked in refl
   from-linked (suc n) l prev c holds b h = by (λ m d. from-linked n m d (d + 1)) (freeFrom (tableOf last l) (last + 1 - c) c) refl
     where
-      by : ((m : List ℕ) (d : ℕ) → Holds second last m → Behind last (tableOf last m) d → 2 ≤ d + 1 → linkedFrom second last m d (d + 1) n ≡ linked second m d (take n (freeFrom (tableOf last m) (last + 1 - (d + 1)) (d + 1))))
+      by : ((m : List ℕ) (d : ℕ) → HasTable second last m → Behind last (tableOf last m) d → 2 ≤ d + 1 → linkedFrom second last m d (d + 1) n ≡ linked second m d (take n (freeFrom (tableOf last m) (last + 1 - (d + 1)) (d + 1))))
           → (ds : List ℕ) → freeFrom (tableOf last l) (last + 1 - c) c ≡ ds → linkedFrom second last l prev c (suc n) ≡ linked second l prev (take (suc n) ds)
       by later [] e =
-          let z : 0 ≡ nextFree last l c = unfold nextFree in sym (ap startOf e) in
+          let z : 0 ≡ nextFree last l c = unfold nextFree in sym (ap headOf e) in
           let y : linked second l prev [] ≡ l = unfold linked in refl in
           sym (y ∙ linked-none second last l prev c (suc n) _ refl (omega arith) 0 z refl)
       by later (d ∷ ds) e =
           let r = head-of (tableOf last l) (last + 1 - c) c d ds e in
           let g : Link last d = (omega (arith, r .from), omega (arith, r .from, r .to)) in
           let m = linkedTo second l prev d in
-          let z : d ≡ nextFree last l c = unfold nextFree in sym (ap startOf e) in
+          let z : d ≡ nextFree last l c = unfold nextFree in sym (ap headOf e) in
           let i : c + (last + 1 - c) - (d + 1) ≡ last + 1 - (d + 1) = omega arith in
           let t : freeFrom (tableOf last m) (last + 1 - (d + 1)) (d + 1) ≡ ds
           = free-same (tableOf last l) (tableOf last m) (last + 1 - (d + 1)) (d + 1) (still-free second last l holds prev d b g) ∙ (rw i at (r .rest)) in
@@ -101,7 +103,7 @@ module _ (second last : ℕ) where
           ∙ ap (λ (xs : List ℕ). linked second m d (take n xs)) t
           ∙ sym y
 
-  pub added-linked : (l : List ℕ) (prev n : ℕ) → Holds second last l → Behind last (tableOf last l) prev → linkedFrom second last l prev 2 n ≡ linked second l prev (newClusters last l n)
+  pub added-linked : (l : List ℕ) (prev n : ℕ) → HasTable second last l → Behind last (tableOf last l) prev → linkedFrom second last l prev 2 n ≡ linked second l prev (newClusters last l n)
   unfolding newClusters freeClusters
   added-linked l prev n holds b =
       let z : last + 1 - 2 ≡ last - 1 = omega arith in

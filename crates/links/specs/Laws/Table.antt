@@ -6,22 +6,22 @@ use mathlib.Core.List.{List}
 use mathlib.Core.Logic.{inl, inr}
 use mathlib.Core.Path.{_≡_, refl, sym, ap, subst, _∙_}
 use Rattle.chains.specs.Put.{put}
-use Rattle.chains.specs.Sizes.{Geometry}
+use Rattle.chains.specs.Aids.Sizes.{Geometry}
 use Rattle.chains.specs.Values.{Link}
 use Rattle.chains.specs.Laws.Put.{put-cases}
 use Rattle.table.specs.Entries.{setBoth, tableOf}
 use Rattle.table.specs.Laws.Copies.{bytes-setBoth, reaches-setBoth}
 use Rattle.table.specs.Laws.View.{view-same, view-other}
 use Rattle.links.specs.Linked.{linkedTo}
-use Rattle.links.specs.Leaves.{Holds}
+use Rattle.links.specs.Aids.Leaves.{HasTable}
 use Rattle.links.specs.Laws.Turns.{link-first, link-behind}
 
 -- what the theory of chains asks of the last cluster's number (the bytes of a cluster do not matter here)
 abbrev pub geometry : (last : ℕ) → last ≤ 4079 → Geometry
 geometry last h = record { last = last; cb = 1; small = h; wide = omega arith }
 
-module _ (second last : ℕ) (l : List ℕ) (holds : Holds second last l) where
-  pub holds-set : (n v : ℕ) → Holds second last (setBoth second l n v)
+module _ (second last : ℕ) (l : List ℕ) (holds : HasTable second last l) where
+  pub holds-set : (n v : ℕ) → HasTable second last (setBoth second l n v)
   holds-set n v = record {
     small = holds .small;
     bytes = bytes-setBoth second l n v (holds .bytes);
@@ -39,11 +39,11 @@ module _ (second last : ℕ) (l : List ℕ) (holds : Holds second last l) where
 
 -- ---- one cluster linked
 
-module _ (second last : ℕ) (l : List ℕ) (holds : Holds second last l) (prev d : ℕ) where
-  pub holds-linked : Holds second last (linkedTo second l prev d)
+module _ (second last : ℕ) (l : List ℕ) (holds : HasTable second last l) (prev d : ℕ) where
+  pub holds-linked : HasTable second last (linkedTo second l prev d)
   holds-linked = elim (ℕ-discrete prev 0) [
-    | yes z ↦ subst (Holds second last) (link-first second l prev d _ refl z) (holds-set second last l holds d 0xFFF)
-    | no z ↦ subst (Holds second last) (link-behind second l prev d _ _ refl z refl) (holds-set second last (setBoth second l d 0xFFF) (holds-set second last l holds d 0xFFF) prev d)
+    | yes z ↦ subst (HasTable second last) (link-first second l prev d _ refl z) (holds-set second last l holds d 0xFFF)
+    | no z ↦ subst (HasTable second last) (link-behind second l prev d _ _ refl z refl) (holds-set second last (setBoth second l d 0xFFF) (holds-set second last l holds d 0xFFF) prev d)
   ]
 
   module _ (h : Link last d) where

@@ -4,7 +4,7 @@ use Prim.Native.Nat.{_+_, _*_, _-_, _≤_}
 use mathlib.Core.Path.{_≡_}
 use lib.ListN.{length}
 use Rattle.image.specs.Store.{stored}
-use Rattle.lines.specs.Lines.{fileRoom}
+use Rattle.lines.specs.Aids.Rooms.{fileRoom}
 use Rattle.listing.specs.Listing.{filesText}
 use Rattle.listing.specs.Laws.Files.{all-bytes, all-end, files-bytes, files-end, puts-files}
 use Rattle.listing.proofs.put_files.Statement.{statement}

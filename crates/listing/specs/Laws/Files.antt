@@ -9,9 +9,10 @@ use Rattle.image.specs.Store.{stored}
 use Rattle.image.specs.Laws.Store.{stored-append}
 use Rattle.fields.specs.Fields.{nameOf, attrOf, timeOf, dateOf, startOf, sizeOf}
 use Rattle.directory.specs.Slots.{standingOf, isPlain}
-use Rattle.directory.specs.Search.{slotFrom}
+use Rattle.diskette.specs.Places.{slotFrom}
 use Rattle.text.specs.Puts.{PutsIn}
-use Rattle.lines.specs.Lines.{fileText, fileRoom}
+use Rattle.lines.specs.Lines.{fileText}
+use Rattle.lines.specs.Aids.Rooms.{fileRoom}
 use Rattle.text.specs.Laws.Puts.{puts-nothing}
 use Rattle.listing.specs.Listing.{entryText, slotText, filesText}
 

@@ -7,7 +7,8 @@ use lib.Dec.{eqb}
 use lib.ListN.{length}
 use borrow.Author.Tests.{le-leb, lt-leb}
 use Rattle.image.specs.Laws.Store.{length-stored}
-use Rattle.diskette.specs.Kinds.{named, Usable}
+use Rattle.diskette.specs.Kinds.{named}
+use Rattle.diskette.specs.Aids.Usable.{Usable}
 use Rattle.diskette.specs.Places.{clusters, rootEntries, rootAt}
 use Rattle.diskette.specs.Images.{AreaOf, kindOfArea}
 use Rattle.diskette.specs.Laws.Kinds.{OfKnown, of-cond}
@@ -20,7 +21,8 @@ use Rattle.sound.specs.Judged.{checkOfArea}
 use Rattle.sound.specs.Laws.OneAnswer.{area-is}
 use Rattle.sound.specs.declared.Verdict.{Verdict}
 use Rattle.sound.specs.declared.Verdict.the-variants.{Sound, Finding}
-use Rattle.lines.specs.Lines.{fileRoom, soundText, soundRoom, unsoundText, unsoundRoom}
+use Rattle.lines.specs.Lines.{soundText, unsoundText}
+use Rattle.lines.specs.Aids.Rooms.{fileRoom, soundRoom, unsoundRoom}
 use Rattle.text.specs.Puts.{PutsIn}
 use Rattle.text.specs.Laws.Puts.{puts-then}
 use Rattle.listing.specs.Listing.{filesText, volumeText, listingBy, listingOf, listingRoom, Lists}

@@ -14,7 +14,7 @@ use Rattle.opened.specs.Places.{isOpen}
 use Rattle.calls.specs.Numbers.{accessDenied}
 use Rattle.calls.specs.Outcome.{Row, Outcome, refusal, decided, refusedBy, answering}
 use Rattle.calls.specs.Refusals.{badAttr, fileSlot}
-use Rattle.calls.specs.Ready.{OnVolume}
+use Rattle.calls.specs.Aids.Ready.{OnVolume}
 use Rattle.calls.specs.Laws.Ready.{on-kind}
 use Rattle.calls.specs.Laws.Rows.{Stops, stops-at, stops-past, stopped}
 use Rattle.calls.specs.Laws.Named.{FileNamed}

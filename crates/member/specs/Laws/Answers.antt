@@ -8,7 +8,7 @@ use mathlib.Core.Path.{_≡_, refl, sym, _∙_, ap}
 use lib.ListN.{length}
 use borrow.Author.Tests.{le-leb, lt-leb, ne-eqb}
 use Rattle.diskette.specs.Images.{kindOfImage}
-use Rattle.diskette.specs.Kinds.{Usable}
+use Rattle.diskette.specs.Aids.Usable.{Usable}
 use Rattle.diskette.specs.Places.{rootEntries, slotAt}
 use Rattle.diskette.specs.Laws.Images.{image-of-kind, image-usable, image-has-area}
 use Rattle.diskette.specs.Laws.Places.{slot-before-data}

@@ -12,9 +12,9 @@ use borrow.Author.Tests.{eq-eqb, ne-eqb}
 use mir.Syntax.{w64}
 use mir.Val.{Fits}
 use Rattle.chains.specs.Values.{Link, linkb}
-use Rattle.chains.specs.Chain.{Chain, Leads}
+use Rattle.chains.specs.Aids.Chain.{Leads, Chain}
 use Rattle.chains.specs.Lists.{_∈_}
-use Rattle.chains.specs.Sizes.{Geometry}
+use Rattle.chains.specs.Aids.Sizes.{Geometry}
 use Rattle.chains.specs.Laws.Chain.{chain-length}
 use Rattle.chains.specs.Laws.Tests.{clash, true-says, false-says}
 use Rattle.chains.specs.Laws.Values.{says-link}
@@ -23,7 +23,7 @@ use Rattle.search.specs.Laws.Meaning.{LowestIs, lowest-is}
 use Rattle.search.specs.declared.Found.{Found}
 use Rattle.search.specs.declared.Found.the-variants.{At, Nothing}
 use Rattle.diskette.specs.Images.{kindOfImage}
-use Rattle.diskette.specs.Kinds.{Usable}
+use Rattle.diskette.specs.Aids.Usable.{Usable}
 use Rattle.diskette.specs.Places.{firstData, clusters, lastCluster, rootEntries, rootAt}
 use Rattle.diskette.specs.Laws.Images.{image-of-kind, image-usable, image-has-area}
 use Rattle.diskette.specs.declared.Kind.{Kind}
@@ -34,7 +34,7 @@ use Rattle.values.specs.declared.Meaning.{Meaning}
 use Rattle.table.specs.Entries.{tableOf}
 use Rattle.fields.specs.Fields.{startOf}
 use Rattle.directory.specs.Slots.{standingOf, isPlain}
-use Rattle.walks.specs.Walks.{ValueIs}
+use Rattle.walks.specs.Aids.Walks.{ValueIs}
 use Rattle.member.specs.Answers.{refusalAnswer}
 use Rattle.member.specs.Clusters.{meaningTold, clusterTold, comesTo, holdsAt, slotHolds, foundTold, holderTold}
 

@@ -4,13 +4,13 @@ use Prim.Native.Nat.{_+_, _-_, _≤_}
 use mathlib.Core.Path.{_≡_}
 use lib.ListN.{length, drop}
 use Rattle.names.specs.Spelling.{dot}
-use Rattle.names.specs.Reading.{before}
+use Rattle.names.specs.Reading.{beforeFirst}
 use Rattle.names.specs.Laws.Code.{before-turn, before-found, before-done}
 use Rattle.names.proofs.dot_at.Statement.{statement}
 use Rattle.names.proofs.dot_at.Tie as tie
 
 abbrev Inv-loop : tie.InvT-loop
-Inv-loop s i₀ i = (i ≤ length s) × (i + length (before dot (drop i s)) ≡ length (before dot s))
+Inv-loop s i₀ i = (i ≤ length s) × (i + length (beforeFirst dot (drop i s)) ≡ length (beforeFirst dot s))
 
 abbrev μ-loop : tie.MeasureT-loop
 μ-loop s i₀ i = length s - i

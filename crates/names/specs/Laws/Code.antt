@@ -13,7 +13,9 @@ use lib.Seq.{drop-cons, getD-set-same, getD-set-other, ext-getD, take-all, lengt
 use borrow.Author.Tests.{not-true, not-false, leb-true, eq-eqb, ne-eqb, le-leb, lt-leb, lt-ltb, le-ltb}
 use Rattle.names.specs.Alphabet.{within, largeLetter, smallLetter, digit, signs, among, plain, allowed, capital}
 use Rattle.names.specs.Spelling.{dot, space, every, Parts, eleven}
-use Rattle.names.specs.Reading.{before, after, fitting, paddedByte, nameByte, spelledAs, nameOf}
+use Rattle.names.specs.Reading.{beforeFirst, afterFirst, fitting, nameGiven}
+use Rattle.names.specs.Aids.Reading.{spelledAs}
+use Rattle.names.specs.Aids.Bytes.{paddedByte, nameByte}
 use Rattle.names.specs.Laws.Tests.{and-left, fitting-parts}
 use Rattle.names.specs.Laws.Parts.{take-before, drop-after, length-eleven, eleven-at}
 use Rattle.names.specs.declared.Spelled.{Spelled}
@@ -87,17 +89,17 @@ all-done s i b inv h = rw (drop-of-length-le s h) at inv
 
 -- ---- the first dot
 
-module _ (d : ℕ) (s : List ℕ) (i m : ℕ) (inv : i + length (before d (drop i s)) ≡ m) where
-  pub before-turn : i < length s → getD s i 0 ≢ d → i + 1 + length (before d (drop (i + 1) s)) ≡ m
-  unfolding before
+module _ (d : ℕ) (s : List ℕ) (i m : ℕ) (inv : i + length (beforeFirst d (drop i s)) ≡ m) where
+  pub before-turn : i < length s → getD s i 0 ≢ d → i + 1 + length (beforeFirst d (drop (i + 1) s)) ≡ m
+  unfolding beforeFirst
   before-turn h n = let p = rw (ne-eqb (getD s i 0) d n) at (rw (drop-next s i h) at inv) in omega arith
 
   pub before-found : i < length s → getD s i 0 ≡ d → i ≡ m
-  unfolding before
+  unfolding beforeFirst
   before-found h e = let p = rw (eq-eqb (getD s i 0) d e) at (rw (drop-next s i h) at inv) in omega arith
 
   pub before-done : length s ≤ i → i ≡ m
-  unfolding before
+  unfolding beforeFirst
   before-done h = let p = rw (drop-of-length-le s h) at inv in omega arith
 
 -- ---- the parts
@@ -170,18 +172,18 @@ module _ (s : List ℕ) (at : ℕ) where
   pub length-front : at < length s → at ≡ length (take at s)
   length-front h = sym (length-take-le at s (omega arith))
 
-  module _ (r : Spelled) (is : at ≡ length (before dot s)) where
-    pub given-dot : r ≡ spelledAs (take at s) (take (length s - (at + 1)) (drop (at + 1) s)) → r ≡ nameOf s
-    unfolding nameOf
+  module _ (r : Spelled) (is : at ≡ length (beforeFirst dot s)) where
+    pub given-dot : r ≡ spelledAs (take at s) (take (length s - (at + 1)) (drop (at + 1) s)) → r ≡ nameGiven s
+    unfolding nameGiven
     given-dot e =
-        let a : take at s ≡ before dot s = rw is (take-before dot s) in
-        let b : drop (at + 1) s ≡ after dot s = rw (is, add-one (length (before dot s))) (drop-after dot s) in
+        let a : take at s ≡ beforeFirst dot s = rw is (take-before dot s) in
+        let b : drop (at + 1) s ≡ afterFirst dot s = rw (is, add-one (length (beforeFirst dot s))) (drop-after dot s) in
         let t : take (length s - (at + 1)) (drop (at + 1) s) ≡ drop (at + 1) s = take-all (length s - (at + 1)) (drop (at + 1) s) (simp length-drop (omega arith)) in
         e ∙ rw (t, a, b)
 
-    pub given-plain : length s ≤ at → r ≡ spelledAs s [] → r ≡ nameOf s
-    unfolding nameOf
+    pub given-plain : length s ≤ at → r ≡ spelledAs s [] → r ≡ nameGiven s
+    unfolding nameGiven
     given-plain h e =
-        let a : before dot s ≡ s = sym (take-before dot s) ∙ take-all (length (before dot s)) s (omega arith) in
-        let b : after dot s ≡ [] = sym (drop-after dot s) ∙ drop-of-length-le s {i = suc (length (before dot s))} (omega arith) in
+        let a : beforeFirst dot s ≡ s = sym (take-before dot s) ∙ take-all (length (beforeFirst dot s)) s (omega arith) in
+        let b : afterFirst dot s ≡ [] = sym (drop-after dot s) ∙ drop-of-length-le s {i = suc (length (beforeFirst dot s))} (omega arith) in
         e ∙ rw (a, b)

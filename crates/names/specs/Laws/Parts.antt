@@ -12,53 +12,54 @@ use lib.Seq.{getD-append-add}
 use borrow.Author.Tests.{eqb-true, ne-eqb, lt-ltb, le-ltb}
 use Rattle.names.specs.Alphabet.{capital}
 use Rattle.names.specs.Spelling.{every, Parts, space, padded, eleven}
-use Rattle.names.specs.Reading.{before, after, paddedByte, nameByte}
+use Rattle.names.specs.Reading.{beforeFirst, afterFirst}
+use Rattle.names.specs.Aids.Bytes.{paddedByte, nameByte}
 use Rattle.names.specs.Laws.Tests.{and-left, and-right}
 use Rattle.names.specs.Laws.Alphabet.{told}
 
 -- ---- cut at the first d
 
-pub take-before : (d : ℕ) (s : List ℕ) → take (length (before d s)) s ≡ before d s
-unfolding before
+pub take-before : (d : ℕ) (s : List ℕ) → take (length (beforeFirst d s)) s ≡ beforeFirst d s
+unfolding beforeFirst
 take-before d [] = refl
 take-before d (c ∷ cs) = go (eqb c d) (take-before d cs)
   where
-    go : (b : Bool) → take (length (before d cs)) cs ≡ before d cs → take (length (cond b [] (c ∷ before d cs))) (c ∷ cs) ≡ cond b [] (c ∷ before d cs)
+    go : (b : Bool) → take (length (beforeFirst d cs)) cs ≡ beforeFirst d cs → take (length (cond b [] (c ∷ beforeFirst d cs))) (c ∷ cs) ≡ cond b [] (c ∷ beforeFirst d cs)
     go true h = refl
     go false h = ap (λ (l : List ℕ). c ∷ l) h
 
-pub drop-after : (d : ℕ) (s : List ℕ) → drop (suc (length (before d s))) s ≡ after d s
-unfolding before after
+pub drop-after : (d : ℕ) (s : List ℕ) → drop (suc (length (beforeFirst d s))) s ≡ afterFirst d s
+unfolding beforeFirst afterFirst
 drop-after d [] = refl
 drop-after d (c ∷ cs) = go (eqb c d) (drop-after d cs)
   where
-    go : (b : Bool) → drop (suc (length (before d cs))) cs ≡ after d cs → drop (length (cond b [] (c ∷ before d cs))) cs ≡ cond b cs (after d cs)
+    go : (b : Bool) → drop (suc (length (beforeFirst d cs))) cs ≡ afterFirst d cs → drop (length (cond b [] (c ∷ beforeFirst d cs))) cs ≡ cond b cs (afterFirst d cs)
     go true h = refl
     go false h = h
 
 -- s is cut there, or whole
-pub cut : (d : ℕ) (s : List ℕ) → ((s ≡ before d s) × (after d s ≡ [])) ⊎ (s ≡ before d s ++ (d ∷ after d s))
-unfolding before after
+pub cut : (d : ℕ) (s : List ℕ) → ((s ≡ beforeFirst d s) × (afterFirst d s ≡ [])) ⊎ (s ≡ beforeFirst d s ++ (d ∷ afterFirst d s))
+unfolding beforeFirst afterFirst
 cut d [] = inl (refl, refl)
 cut d (c ∷ cs) = go (eqb c d) refl (cut d cs)
   where
-    go : (b : Bool) → eqb c d ≡ b → ((cs ≡ before d cs) × (after d cs ≡ [])) ⊎ (cs ≡ before d cs ++ (d ∷ after d cs))
-        → ((c ∷ cs ≡ cond b [] (c ∷ before d cs)) × (cond b cs (after d cs) ≡ [])) ⊎ (c ∷ cs ≡ cond b [] (c ∷ before d cs) ++ (d ∷ cond b cs (after d cs)))
+    go : (b : Bool) → eqb c d ≡ b → ((cs ≡ beforeFirst d cs) × (afterFirst d cs ≡ [])) ⊎ (cs ≡ beforeFirst d cs ++ (d ∷ afterFirst d cs))
+        → ((c ∷ cs ≡ cond b [] (c ∷ beforeFirst d cs)) × (cond b cs (afterFirst d cs) ≡ [])) ⊎ (c ∷ cs ≡ cond b [] (c ∷ beforeFirst d cs) ++ (d ∷ cond b cs (afterFirst d cs)))
     go true e h = inr (ap (λ (x : ℕ). x ∷ cs) (eqb-true c d e))
     go false e (inl h) = inl (ap (λ (l : List ℕ). c ∷ l) (h .0), h .1)
     go false e (inr h) = inr (ap (λ (l : List ℕ). c ∷ l) h)
 
 -- a run without d stands before the first d
 module _ (p : ℕ → Bool) (d : ℕ) (never : p d ≡ false) where
-  pub before-skip : (b r : List ℕ) → every p b ≡ true → before d (b ++ r) ≡ b ++ before d r
-  unfolding before every
+  pub before-skip : (b r : List ℕ) → every p b ≡ true → beforeFirst d (b ++ r) ≡ b ++ beforeFirst d r
+  unfolding beforeFirst every
   before-skip [] r e = refl
   before-skip (c ∷ cs) r e =
       let n : eqb c d ≡ false = ne-eqb c d (told p c d (and-left (p c) (every p cs) e) never) in
       rw (n, before-skip cs r (and-right (p c) (every p cs) e))
 
-  pub after-skip : (b r : List ℕ) → every p b ≡ true → after d (b ++ r) ≡ after d r
-  unfolding after every
+  pub after-skip : (b r : List ℕ) → every p b ≡ true → afterFirst d (b ++ r) ≡ afterFirst d r
+  unfolding afterFirst every
   after-skip [] r e = refl
   after-skip (c ∷ cs) r e =
       let n : eqb c d ≡ false = ne-eqb c d (told p c d (and-left (p c) (every p cs) e) never) in

@@ -10,7 +10,8 @@ use lib.ListN.{length, getD, List·getD-eq-default}
 use borrow.Author.Tests.{lt-ltb, le-ltb}
 use Rattle.names.specs.Alphabet.{plain, allowed}
 use Rattle.names.specs.Spelling.{dot, space, every, Parts, eleven, Proper}
-use Rattle.names.specs.Reading.{before, after, paddedByte, nameByte, nameOf}
+use Rattle.names.specs.Reading.{beforeFirst, afterFirst, nameGiven}
+use Rattle.names.specs.Aids.Bytes.{paddedByte, nameByte}
 use Rattle.names.specs.Laws.Alphabet.{told, plain-below, capital-plain, every-at}
 use Rattle.names.specs.Laws.Parts.{length-eleven, eleven-at}
 use Rattle.names.specs.Laws.Meaning.{fits-spells, fits-name}
@@ -59,9 +60,9 @@ module _ (base ext : List ℕ) (p : Parts base ext) where
         dotted = told plain (getD (eleven base ext) 0 0) dot opening refl;
       }
 
-pub proper : (s : List ℕ) → nameOf s .fits ≡ true → Proper (nameOf s .name)
-proper s e = rw (fits-name s e) (proper-eleven (before dot s) (after dot s) (fits-spells s e .parts))
+pub proper : (s : List ℕ) → nameGiven s .fits ≡ true → Proper (nameGiven s .name)
+proper s e = rw (fits-name s e) (proper-eleven (beforeFirst dot s) (afterFirst dot s) (fits-spells s e .parts))
 
 -- Names found on a volume may hold other bytes; they are then out of a caller's reach.
-pub out-of-reach : (n : List ℕ) → (Proper n → ⊥) → (s : List ℕ) → nameOf s .fits ≡ true → nameOf s .name ≢ n
+pub out-of-reach : (n : List ℕ) → (Proper n → ⊥) → (s : List ℕ) → nameGiven s .fits ≡ true → nameGiven s .name ≢ n
 out-of-reach n h s e q = h (rw q at (proper s e))

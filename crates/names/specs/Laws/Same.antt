@@ -10,7 +10,7 @@ use lib.Seq.{take-at, drop-at}
 use borrow.Author.Tests.{ne-eqb}
 use Rattle.names.specs.Alphabet.{plain, allowed, capital}
 use Rattle.names.specs.Spelling.{dot, space, every, Parts, Spells, padded, eleven, withoutLastDot, plainly}
-use Rattle.names.specs.Reading.{before, after, fitting, answered, nameOf}
+use Rattle.names.specs.Reading.{beforeFirst, afterFirst, fitting, spelledIf, nameGiven}
 use Rattle.names.specs.Laws.Tests.{and-left, and-right}
 use Rattle.names.specs.Laws.Alphabet.{told, capital-plain, every-map}
 use Rattle.names.specs.Laws.Parts.{before-skip, after-skip, length-padded}
@@ -62,19 +62,19 @@ no-plain-dot : plain dot ≡ false
 unfolding plain
 no-plain-dot = refl
 
-before-spaces : (n : ℕ) → before space (replicate n space) ≡ []
-unfolding before
+before-spaces : (n : ℕ) → beforeFirst space (replicate n space) ≡ []
+unfolding beforeFirst
 before-spaces zero = refl
 before-spaces (suc n) = refl
 
-unpadded : (n : ℕ) (t : List ℕ) → every plain t ≡ true → before space (padded n t) ≡ t
+unpadded : (n : ℕ) (t : List ℕ) → every plain t ≡ true → beforeFirst space (padded n t) ≡ t
 unpadded n t e = before-skip plain space no-plain-space t (replicate (n - length t) space) e ∙ ap (λ (l : List ℕ). t ++ l) (before-spaces (n - length t)) ∙ append-nil t
 
-unjoined : (b e : List ℕ) → every plain b ≡ true → (before dot (joined b e) ≡ b) × (after dot (joined b e) ≡ e)
-unfolding joined before after
+unjoined : (b e : List ℕ) → every plain b ≡ true → (beforeFirst dot (joined b e) ≡ b) × (afterFirst dot (joined b e) ≡ e)
+unfolding joined beforeFirst afterFirst
 unjoined b [] p = (
-  ap (before dot) (sym (append-nil b)) ∙ before-skip plain dot no-plain-dot b [] p ∙ append-nil b,
-  ap (after dot) (sym (append-nil b)) ∙ after-skip plain dot no-plain-dot b [] p,
+  ap (beforeFirst dot) (sym (append-nil b)) ∙ before-skip plain dot no-plain-dot b [] p ∙ append-nil b,
+  ap (afterFirst dot) (sym (append-nil b)) ∙ after-skip plain dot no-plain-dot b [] p,
 )
 unjoined b (c ∷ cs) p = (
   before-skip plain dot no-plain-dot b (dot ∷ (c ∷ cs)) p ∙ append-nil b,
@@ -91,19 +91,19 @@ module _ (base ext : List ℕ) (p : Parts base ext) where
   eight : length (padded 8 (map capital base)) ≡ 8
   eight = length-padded 8 (map capital base) (rw (length-map base capital) (p .eight))
 
-  base-of-eleven : before space (take 8 (eleven base ext)) ≡ map capital base
+  base-of-eleven : beforeFirst space (take 8 (eleven base ext)) ≡ map capital base
   unfolding eleven
-  base-of-eleven = ap (before space) (take-at (padded 8 (map capital base)) (padded 3 (map capital ext)) 8 eight) ∙ unpadded 8 (map capital base) plain-base
+  base-of-eleven = ap (beforeFirst space) (take-at (padded 8 (map capital base)) (padded 3 (map capital ext)) 8 eight) ∙ unpadded 8 (map capital base) plain-base
 
-  ext-of-eleven : before space (drop 8 (eleven base ext)) ≡ map capital ext
+  ext-of-eleven : beforeFirst space (drop 8 (eleven base ext)) ≡ map capital ext
   unfolding eleven
-  ext-of-eleven = ap (before space) (drop-at (padded 8 (map capital base)) (padded 3 (map capital ext)) 8 eight) ∙ unpadded 3 (map capital ext) plain-ext
+  ext-of-eleven = ap (beforeFirst space) (drop-at (padded 8 (map capital base)) (padded 3 (map capital ext)) 8 eight) ∙ unpadded 3 (map capital ext) plain-ext
 
 module _ (b e c f : List ℕ) (p : Parts b e) (q : Parts c f) where
   same-joined : eleven b e ≡ eleven c f → joined (map capital b) (map capital e) ≡ joined (map capital c) (map capital f)
   same-joined h =
-      let x : map capital b ≡ map capital c = sym (base-of-eleven b e p) ∙ ap (λ (n : List ℕ). before space (take 8 n)) h ∙ base-of-eleven c f q in
-      let y : map capital e ≡ map capital f = sym (ext-of-eleven b e p) ∙ ap (λ (n : List ℕ). before space (drop 8 n)) h ∙ ext-of-eleven c f q in
+      let x : map capital b ≡ map capital c = sym (base-of-eleven b e p) ∙ ap (λ (n : List ℕ). beforeFirst space (take 8 n)) h ∙ base-of-eleven c f q in
+      let y : map capital e ≡ map capital f = sym (ext-of-eleven b e p) ∙ ap (λ (n : List ℕ). beforeFirst space (drop 8 n)) h ∙ ext-of-eleven c f q in
       rw (x, y)
 
   same-eleven : joined (map capital b) (map capital e) ≡ joined (map capital c) (map capital f) → eleven b e ≡ eleven c f
@@ -111,8 +111,8 @@ module _ (b e c f : List ℕ) (p : Parts b e) (q : Parts c f) where
   same-eleven h =
       let u = unjoined (map capital b) (map capital e) (plain-base b e p) in
       let v = unjoined (map capital c) (map capital f) (plain-base c f q) in
-      let x : map capital b ≡ map capital c = sym (u .0) ∙ ap (before dot) h ∙ v .0 in
-      let y : map capital e ≡ map capital f = sym (u .1) ∙ ap (after dot) h ∙ v .1 in
+      let x : map capital b ≡ map capital c = sym (u .0) ∙ ap (beforeFirst dot) h ∙ v .0 in
+      let y : map capital e ≡ map capital f = sym (u .1) ∙ ap (afterFirst dot) h ∙ v .1 in
       rw (x, y)
 
 -- ---- the theorem
@@ -129,19 +129,19 @@ spells-same s b e t c f w v =
       λ h. same-eleven b e c f (w .parts) (v .parts) (sym x ∙ h ∙ y),
     )
 
-pub same : (s t : List ℕ) → nameOf s .fits ≡ true → nameOf t .fits ≡ true → (nameOf s .name ≡ nameOf t .name) ↔ (plainly s ≡ plainly t)
+pub same : (s t : List ℕ) → nameGiven s .fits ≡ true → nameGiven t .fits ≡ true → (nameGiven s .name ≡ nameGiven t .name) ↔ (plainly s ≡ plainly t)
 same s t f g =
     rw (fits-name s f, fits-name t g)
-    (spells-same s (before dot s) (after dot s) t (before dot t) (after dot t) (fits-spells s f) (fits-spells t g))
+    (spells-same s (beforeFirst dot s) (afterFirst dot s) t (beforeFirst dot t) (afterFirst dot t) (fits-spells s f) (fits-spells t g))
 
 -- "TARE." equals "TARE"
 abbrev pub tare : List ℕ
 tare = 0x54 ∷ 0x41 ∷ 0x52 ∷ 0x45 ∷ []
 
-pub tare-bytes : nameOf tare ≡ answered true (tare ++ replicate 7 space)
-unfolding nameOf before after fitting every plain allowed capital eleven
+pub tare-bytes : nameGiven tare ≡ spelledIf true (tare ++ replicate 7 space)
+unfolding nameGiven beforeFirst afterFirst fitting every plain allowed capital eleven
 tare-bytes = refl
 
-pub tare-dot : nameOf (tare ++ (dot ∷ [])) ≡ nameOf tare
-unfolding nameOf before after fitting every plain allowed capital eleven
+pub tare-dot : nameGiven (tare ++ (dot ∷ [])) ≡ nameGiven tare
+unfolding nameGiven beforeFirst afterFirst fitting every plain allowed capital eleven
 tare-dot = refl

@@ -9,7 +9,7 @@ use lib.Signed.{ltZ, nonNeg}
 use mir.Syntax.{w32, w64}
 use mir.Val.{Fits, SFits}
 use borrow.Author.Tests.{ltb-true, ltb-false, le-leb, lt-leb}
-use Rattle.offset.specs.Offset.{within}
+use Rattle.offset.specs.Offset.{asPointer}
 use Rattle.offset.specs.declared.Moved.{Moved}
 use Rattle.offset.specs.declared.Moved.the-variants.{To, Beyond}
 
@@ -23,18 +23,18 @@ sum-fits a (negsuc n) h f = go (ltb a (suc n))
 
 -- ---- the tests, on the whole number z
 
-pub below-zero : (z : ℤ) → ltZ z (pos 0) ≡ true → Beyond ≡ within z
+pub below-zero : (z : ℤ) → ltZ z (pos 0) ≡ true → Beyond ≡ asPointer z
 below-zero (pos n) t = absurd (omega (arith, ltb-true n 0 t))
 below-zero (negsuc n) t = refl
 
-pub above-top : (z : ℤ) → ltZ (pos 4294967295) z ≡ true → Beyond ≡ within z
+pub above-top : (z : ℤ) → ltZ (pos 4294967295) z ≡ true → Beyond ≡ asPointer z
 above-top (pos n) t = rw (lt-leb n 4294967295 (ltb-true 4294967295 n t))
 above-top (negsuc n) t = refl
 
 -- a number of 32 bits, and the answer
 pub record Inside (z : ℤ) : Type 0 where
   pub whole : T (nonNeg z) × Fits w32 (natAbs z)
-  pub is : To (natAbs z) ≡ within z
+  pub is : To (natAbs z) ≡ asPointer z
 
 pub inside : (z : ℤ) → ltZ z (pos 0) ≡ false → ltZ (pos 4294967295) z ≡ false → Inside z
 inside (pos n) l h =

@@ -4,7 +4,8 @@ use Prim.Native.Nat.{_-_, _≤_}
 use mathlib.Core.Path.{_≡_}
 use Rattle.search.specs.Search.{lowest}
 use Rattle.directory.specs.Laws.Search.{lowest-miss}
-use Rattle.opened.specs.Places.{namesSlot, isOpen}
+use Rattle.opened.specs.Places.{isOpen}
+use Rattle.opened.specs.Aids.Places.{namesSlot}
 use Rattle.opened.specs.Records.{placeCount}
 use Rattle.opened.specs.Laws.Code.{search-all, found-hit, found-end}
 use Rattle.opened.proofs.is_open.Statement.{statement}

@@ -4,7 +4,8 @@ use Prim.Native.Nat.{_-_, _≤_}
 use mathlib.Core.Path.{_≡_}
 use Rattle.search.specs.Search as find
 use Rattle.directory.specs.Laws.Search.{lowest-end}
-use Rattle.opened.specs.Places.{unusedAt, lowestUnused}
+use Rattle.opened.specs.Places.{lowestUnused}
+use Rattle.opened.specs.Aids.Places.{unusedAt}
 use Rattle.opened.specs.Records.{placeCount}
 use Rattle.opened.specs.Laws.Code.{search-all, unused-hit, unused-miss}
 use Rattle.opened.proofs.lowest_unused.Statement.{statement}

@@ -6,13 +6,14 @@ use mathlib.Core.List.{List}
 use mathlib.Core.Path.{_≡_, sym, _∙_, ap}
 use lib.Dec.{eqb, leb, ltb}
 use borrow.Author.Tests.{lt-ltb, le-ltb, le-leb, lt-leb, not-true, not-false}
-use Rattle.search.specs.Search.{lowest}
+use Rattle.search.specs.Search.{lowest, isFound}
 use Rattle.search.specs.declared.Found.{Found}
 use Rattle.search.specs.declared.Found.the-variants.{At, Nothing}
 use Rattle.directory.specs.Slots.{standingOf, isPlain}
 use Rattle.directory.specs.Laws.Search.{lowest-hit, lowest-miss, lowest-end}
 use Rattle.opened.specs.Records.{placeCount, usedOf, slotOf, accessOf}
-use Rattle.opened.specs.Places.{holdsFile, isLive, liveSlot, namesSlot, isFound, unusedAt}
+use Rattle.opened.specs.Places.{holdsFile, isLive}
+use Rattle.opened.specs.Aids.Places.{liveSlot, namesSlot, unusedAt}
 
 -- ---- searches: what is left goes on from here; b is the test's answer
 

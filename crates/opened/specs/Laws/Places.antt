@@ -7,15 +7,16 @@ use mathlib.Core.Logic.{_↔_}
 use mathlib.Core.Path.{_≡_, refl, sym, _∙_}
 use lib.Dec.{eqb, leb, ltb}
 use borrow.Author.Tests.{ltb-true, leb-true, eqb-true, lt-ltb, le-leb, eq-eqb, not-true}
-use Rattle.search.specs.Search.{lowest, Answers}
+use Rattle.search.specs.Search.{lowest, Answers, isFound}
 use Rattle.search.specs.Laws.Below.{lowest-answers}
 use Rattle.search.specs.declared.Found.{Found}
 use Rattle.search.specs.declared.Found.the-variants.{At, Nothing}
 use Rattle.directory.specs.Slots.{standingOf, isPlain}
-use Rattle.directory.specs.Search.{slotFrom}
+use Rattle.diskette.specs.Places.{slotFrom}
 use Rattle.directory.specs.Laws.Slots.{plain-is}
 use Rattle.opened.specs.Records.{placeCount, usedOf, slotOf, accessOf}
-use Rattle.opened.specs.Places.{LiveAt, holdsFile, isLive, liveSlot, NamesAt, namesSlot, isFound, isOpen, unusedAt, lowestUnused}
+use Rattle.opened.specs.Places.{LivePlace, holdsFile, isLive, NamesAt, isOpen, lowestUnused}
+use Rattle.opened.specs.Aids.Places.{liveSlot, namesSlot, unusedAt}
 
 both : (a b : Bool) → (a && b) ≡ true → (a ≡ true) × (b ≡ true)
 both true b e = (refl, e)
@@ -24,11 +25,11 @@ both false b e = absurd (let z : _≡_ {A = ℕ} 0 1 = cc in omega arith)
 -- ---- live places
 
 module _ (t : List ℕ) (h : ℕ) (l : List ℕ) (root count : ℕ) where
-  pub live-is : (isLive t h l root count ≡ true) ↔ LiveAt t h l root count
+  pub live-is : (isLive t h l root count ≡ true) ↔ LivePlace t h l root count
   unfolding isLive
   live-is = (to, from)
     where
-      to : isLive t h l root count ≡ true → LiveAt t h l root count
+      to : isLive t h l root count ≡ true → LivePlace t h l root count
       to e =
           let x = both (ltb h (placeCount t)) (usedOf t h && (leb (accessOf t h) 2 && holdsFile l root count (slotOf t h))) e in
           let y = both (usedOf t h) (leb (accessOf t h) 2 && holdsFile l root count (slotOf t h)) (x .1) in
@@ -42,7 +43,7 @@ module _ (t : List ℕ) (h : ℕ) (l : List ℕ) (root count : ℕ) where
             plain = plain-is l (slotFrom root (slotOf t h)) .0 (w .1);
           }
 
-      from : LiveAt t h l root count → isLive t h l root count ≡ true
+      from : LivePlace t h l root count → isLive t h l root count ≡ true
       from v =
           rw (lt-ltb h (placeCount t) (v .counted), v .used, le-leb (accessOf t h) 2 (v .access), lt-ltb (slotOf t h) count (v .slot))
           (plain-is l (slotFrom root (slotOf t h)) .1 (v .plain))
@@ -52,13 +53,13 @@ module _ (t : List ℕ) (h : ℕ) (l : List ℕ) (root count : ℕ) where
   by b e = rw e
 
   -- a handle reaches the slot that its place names, where the place is live
-  pub live-slot-at : LiveAt t h l root count → liveSlot t h l root count ≡ At (slotOf t h)
+  pub live-slot-at : LivePlace t h l root count → liveSlot t h l root count ≡ At (slotOf t h)
   live-slot-at v = by true (live-is .1 v)
 
-  pub live-slot-is : (s : ℕ) → liveSlot t h l root count ≡ At s → LiveAt t h l root count × (slotOf t h ≡ s)
+  pub live-slot-is : (s : ℕ) → liveSlot t h l root count ≡ At s → LivePlace t h l root count × (slotOf t h ≡ s)
   live-slot-is s e = cases (isLive t h l root count) refl
     where
-      cases : (b : Bool) → isLive t h l root count ≡ b → LiveAt t h l root count × (slotOf t h ≡ s)
+      cases : (b : Bool) → isLive t h l root count ≡ b → LivePlace t h l root count × (slotOf t h ≡ s)
       cases true f = (live-is .0 f, same (sym (by true f) ∙ e))
         where
           same : At (slotOf t h) ≡ At s → slotOf t h ≡ s
@@ -66,13 +67,13 @@ module _ (t : List ℕ) (h : ℕ) (l : List ℕ) (root count : ℕ) where
       cases false f = absurd (let g = sym (by false f) ∙ e in let z : _≡_ {A = ℕ} 0 1 = cc in omega arith)
 
   -- and nothing where it is not
-  pub live-slot-none : (liveSlot t h l root count ≡ Nothing) ↔ ¬ LiveAt t h l root count
+  pub live-slot-none : (liveSlot t h l root count ≡ Nothing) ↔ ¬ LivePlace t h l root count
   live-slot-none = (λ e v. clash (sym (live-slot-at v) ∙ e), λ n. cases n (isLive t h l root count) refl)
     where
       clash : At (slotOf t h) ≡ Nothing → ⊥
       clash e = let z : _≡_ {A = ℕ} 0 1 = cc in omega arith
 
-      cases : ¬ LiveAt t h l root count → (b : Bool) → isLive t h l root count ≡ b → liveSlot t h l root count ≡ Nothing
+      cases : ¬ LivePlace t h l root count → (b : Bool) → isLive t h l root count ≡ b → liveSlot t h l root count ≡ Nothing
       cases n true f = absurd (n (live-is .0 f))
       cases n false f = by false f
 

@@ -10,12 +10,13 @@ use mathlib.Core.Path.{_≡_, ap}
 use lib.Dec.{eqb}
 use lib.ListN.{length, getD}
 use Rattle.image.specs.Bytes.{Bytes}
-use Rattle.image.specs.Store.{stored, Outside, Apart}
+use Rattle.image.specs.Store.{stored}
+use Rattle.image.specs.Aids.Ranges.{Outside, Apart}
 use Rattle.image.specs.Numbers.{number}
 use Rattle.image.specs.Laws.Store.{length-stored, stored-outside}
 use Rattle.image.specs.Laws.Numbers.{number-small, number-apart}
 use Rattle.opened.specs.Records.{placeCount, placeAt, usedOf, slotOf, accessOf, pointerOf, writtenOf}
-use Rattle.opened.specs.Changes.{SamePlace, OnlyAt}
+use Rattle.opened.specs.Aids.Changes.{SamePlace, OnlyAt}
 
 -- ---- how large a field is
 

@@ -14,21 +14,23 @@ use Rattle.image.specs.Numbers.{number, digits}
 use Rattle.image.specs.Laws.Store.{bytes-one, bytes-append, and-then, bytes-stored, stored-inside}
 use Rattle.image.specs.Laws.Numbers.{length-digits, bytes-digits, number-same, number-stored}
 use Rattle.directory.specs.Laws.Entries.{byte-back}
-use Rattle.opened.specs.Records.{placeCount, placeAt, usedOf, slotOf, accessOf, pointerOf, writtenOf, mark, markBytes, numberBytes, recordBytes, withRecord, withPointer, withWritten, cleared}
-use Rattle.opened.specs.Changes.{Holds, OnlyAt}
+use Rattle.opened.specs.Records.{placeCount, placeAt, usedOf, slotOf, accessOf, pointerOf, writtenOf, recordBytes, withRecord, withPointer, withWritten, cleared}
+use Rattle.opened.specs.Aids.Records.{markBytes, numberBytes}
+use Rattle.chains.specs.Sums.{bit}
+use Rattle.opened.specs.Aids.Changes.{PlaceHolds, OnlyAt}
 use Rattle.opened.specs.Laws.Records.{untouched, only-place}
 
 -- ---- the bytes of a record
 
-pub length-record : (access slot pointer : ℕ) (written : Bool) → length (recordBytes access slot pointer written) ≡ 16
+pub length-record : (access slot pointer : ℕ) (written : Bool) → length (recordBytes true access slot pointer written) ≡ 16
 unfolding recordBytes markBytes numberBytes digits
 length-record access slot pointer written = refl
 
-mark-small : (b : Bool) → mark b < 256
+mark-small : (b : Bool) → bit b < 256
 mark-small true = omega arith
 mark-small false = omega arith
 
-mark-back : (b : Bool) → not (eqb (mark b) 0) ≡ b
+mark-back : (b : Bool) → not (eqb (bit b) 0) ≡ b
 mark-back true = refl
 mark-back false = refl
 
@@ -57,7 +59,7 @@ module _ (t : List ℕ) (p : ℕ) (s : List ℕ) (long : length s ≡ 16) (k : p
       number-same (stored t (placeAt p) s) s (placeAt p + o) o 4
       (λ i j. let e : placeAt p + o + i ≡ placeAt p + (o + i) = omega arith in rw e (byte (o + i) (omega arith)))
 
-  pub whole-place : Holds (stored t (placeAt p) s) p (usedOf s 0) (accessOf s 0) (slotOf s 0) (pointerOf s 0) (writtenOf s 0)
+  pub whole-place : PlaceHolds (stored t (placeAt p) s) p (usedOf s 0) (accessOf s 0) (slotOf s 0) (pointerOf s 0) (writtenOf s 0)
   unfolding usedOf accessOf slotOf pointerOf writtenOf
   whole-place =
       let e : placeAt p + 0 ≡ placeAt p = omega arith in
@@ -76,13 +78,13 @@ module _ (t : List ℕ) (p : ℕ) (k : p < placeCount t) where
     pub record-only : OnlyAt p (withRecord t p access slot pointer written) t
     unfolding withRecord
     record-only =
-        only-place t (placeAt p) 16 (recordBytes access slot pointer written) (length-record access slot pointer written) p
+        only-place t (placeAt p) 16 (recordBytes true access slot pointer written) (length-record access slot pointer written) p
         (omega arith) (omega arith) k
 
-    pub record-holds : slot < 4294967296 → pointer < 4294967296 → Holds (withRecord t p access slot pointer written) p true access slot pointer written
+    pub record-holds : slot < 4294967296 → pointer < 4294967296 → PlaceHolds (withRecord t p access slot pointer written) p true access slot pointer written
     unfolding withRecord usedOf accessOf slotOf pointerOf writtenOf recordBytes markBytes numberBytes digits number
     record-holds h j =
-        let w = whole-place t p (recordBytes access slot pointer written) (length-record access slot pointer written) k in
+        let w = whole-place t p (recordBytes true access slot pointer written) (length-record access slot pointer written) k in
         record {
           used = w .used;
           access = w .access;
@@ -92,9 +94,9 @@ module _ (t : List ℕ) (p : ℕ) (k : p < placeCount t) where
         }
 
     pub record-bytes : Bytes t → access < 256 → Bytes (withRecord t p access slot pointer written)
-    unfolding withRecord recordBytes
+    unfolding withRecord recordBytes markBytes numberBytes
     record-bytes b h =
-        bytes-stored t (placeAt p) (recordBytes access slot pointer written) b
+        bytes-stored t (placeAt p) (recordBytes true access slot pointer written) b
         (bytes-append (markBytes access written) (numberBytes slot pointer) (bytes-marks access written h) (bytes-numbers slot pointer))
 
   module _ (v : ℕ) where
@@ -102,7 +104,7 @@ module _ (t : List ℕ) (p : ℕ) (k : p < placeCount t) where
     unfolding withPointer
     pointer-only = only-place t (placeAt p + 8) 4 (digits v 4) (length-digits v 4) p (omega arith) (omega arith) k
 
-    pub pointer-holds : v < 4294967296 → Holds (withPointer t p v) p (usedOf t p) (accessOf t p) (slotOf t p) v (writtenOf t p)
+    pub pointer-holds : v < 4294967296 → PlaceHolds (withPointer t p v) p (usedOf t p) (accessOf t p) (slotOf t p) v (writtenOf t p)
     unfolding withPointer pointerOf
     pointer-holds h =
         let u = untouched t (placeAt p + 8) 4 (digits v 4) (length-digits v 4) p in
@@ -122,7 +124,7 @@ module _ (t : List ℕ) (p : ℕ) (k : p < placeCount t) where
   unfolding withWritten
   written-only = only-place t (placeAt p + 2) 1 (1 ∷ []) refl p (omega arith) (omega arith) k
 
-  pub written-holds : Holds (withWritten t p) p (usedOf t p) (accessOf t p) (slotOf t p) (pointerOf t p) true
+  pub written-holds : PlaceHolds (withWritten t p) p (usedOf t p) (accessOf t p) (slotOf t p) (pointerOf t p) true
   unfolding withWritten writtenOf
   written-holds =
       let u = untouched t (placeAt p + 2) 1 (1 ∷ []) refl p in
@@ -142,7 +144,7 @@ module _ (t : List ℕ) (p : ℕ) (k : p < placeCount t) where
   unfolding cleared
   cleared-only = only-place t (placeAt p) 16 (replicate 16 0) refl p (omega arith) (omega arith) k
 
-  pub cleared-holds : Holds (cleared t p) p false 0 0 0 false
+  pub cleared-holds : PlaceHolds (cleared t p) p false 0 0 0 false
   unfolding cleared usedOf accessOf slotOf pointerOf writtenOf number
   cleared-holds =
       let w = whole-place t p (replicate 16 0) refl k in
@@ -178,5 +180,5 @@ numbers-stored t t₁ t₂ t₃ p slot pointer e f g =
 pub record-stored : (t t₁ t₂ : List ℕ) (p access slot pointer : ℕ)
     → t₁ ≡ stored t (placeAt p) (markBytes access false) → t₂ ≡ stored t₁ (placeAt p + 4) (numberBytes slot pointer)
     → t₂ ≡ withRecord t p access slot pointer false
-unfolding withRecord recordBytes markBytes
+unfolding withRecord recordBytes markBytes numberBytes
 record-stored t t₁ t₂ p access slot pointer e f = and-then t t₁ t₂ (placeAt p) (placeAt p + 4) (markBytes access false) (numberBytes slot pointer) e f refl

@@ -7,11 +7,12 @@ use mathlib.Core.List.{List}
 use mathlib.Core.Logic.{_≢_}
 use mathlib.Core.Path.{_≡_, sym, _∙_, ap}
 use lib.ListN.{length}
-use Rattle.search.specs.Search.{lowest}
+use Rattle.search.specs.Search.{lowest, isFound}
 use Rattle.search.specs.Laws.Meaning.{lowest-same}
 use Rattle.opened.specs.Records.{placeCount, usedOf, slotOf, accessOf, pointerOf, writtenOf, withRecord, withPointer, withWritten}
-use Rattle.opened.specs.Changes.{Holds, OnlyAt, SameUse, SameUses}
-use Rattle.opened.specs.Places.{isLive, liveSlot, NamesAt, namesSlot, isFound, isOpen, unusedAt, lowestUnused}
+use Rattle.opened.specs.Aids.Changes.{PlaceHolds, OnlyAt, SameUse, SameUses}
+use Rattle.opened.specs.Places.{isLive, NamesAt, isOpen, lowestUnused}
+use Rattle.opened.specs.Aids.Places.{liveSlot, namesSlot, unusedAt}
 use Rattle.opened.specs.Laws.Places.{names-not, open-is}
 use Rattle.opened.specs.Laws.Stores.{record-only, record-holds, pointer-only, pointer-holds, written-only, written-holds}
 
@@ -45,7 +46,7 @@ module _ (m t : List ℕ) (same : SameUses m t) where
   unfolding isOpen
   same-open slot = ap isFound (search-same m t (same .count) (namesSlot m slot) (namesSlot t slot) (λ p k. let u = same .each p k in rw (u .used, u .slot)))
 
-use-of : (m t : List ℕ) (q y : ℕ) (v : Bool) → Holds m q (usedOf t q) (accessOf t q) (slotOf t q) y v → SameUse m t q
+use-of : (m t : List ℕ) (q y : ℕ) (v : Bool) → PlaceHolds m q (usedOf t q) (accessOf t q) (slotOf t q) y v → SameUse m t q
 use-of m t q y v h = record { used = h .used; access = h .access; slot = h .slot }
 
 -- ---- all places but p
@@ -78,7 +79,7 @@ record-opens t p access slot pointer written k h j =
 
 -- ---- a pointer moved, a place marked as written
 
-module _ (t m : List ℕ) (p : ℕ) (x : ℕ) (w : Bool) (only : OnlyAt p m t) (own : Holds m p (usedOf t p) (accessOf t p) (slotOf t p) x w) where
+module _ (t m : List ℕ) (p : ℕ) (x : ℕ) (w : Bool) (only : OnlyAt p m t) (own : PlaceHolds m p (usedOf t p) (accessOf t p) (slotOf t p) x w) where
   pub same-uses : SameUses m t
   same-uses = record {
     count = only-count p m t only;

@@ -9,26 +9,27 @@ use lib.Dec.{eqb}
 use lib.ListN.{length}
 use borrow.Author.Tests.{eq-eqb, ne-eqb}
 use Rattle.image.specs.Bytes.{Bytes}
-use Rattle.chains.specs.Chain.{Chain}
-use Rattle.chains.specs.Growth.{lacking}
-use Rattle.chains.specs.Lists as lists
-use Rattle.chains.specs.Sizes.{clustersFor}
-use Rattle.chains.specs.Steps.{followed}
+use Rattle.chains.specs.Aids.Chain.{Chain}
+use Rattle.chains.specs.Lists.{headOf}
+use Rattle.chains.specs.Sizes.{clustersFor, lacking}
+use Rattle.chains.specs.Aids.Steps.{followed}
 use Rattle.diskette.specs.Places.{clusterBytes, copyTwo, lastCluster, slotAt}
 use Rattle.diskette.specs.declared.Kind.{Kind}
 use Rattle.fields.specs.Fields.{startOf, sizeOf, withStart, withSize}
 use Rattle.table.specs.Entries.{wordAt, tableOf}
-use Rattle.links.specs.Linked.{endOf, newClusters, linkedFrom, Added}
-use Rattle.links.specs.Leaves.{Holds}
+use Rattle.links.specs.Linked.{endOf, newClusters}
+use Rattle.links.specs.Aids.Linked.{linkedFrom, Added}
+use Rattle.links.specs.Aids.Leaves.{HasTable}
 use Rattle.links.specs.Laws.Linked.{end-behind, end-followed}
 use Rattle.links.specs.Laws.New.{added-linked}
-use Rattle.sound.specs.Files.{valueOf}
-use Rattle.calls.specs.Ready.{OnVolume}
+use Rattle.sound.specs.Files.{valueOf, IsFile}
+use Rattle.calls.specs.Aids.Ready.{OnVolume}
 use Rattle.calls.specs.Laws.Ready.{on-usable}
-use Rattle.holding.specs.Holding.{fileChain, FileIn}
+use Rattle.holding.specs.Holding.{fileChain}
 use Rattle.holding.specs.Laws.Clusters.{copies-reach}
 use Rattle.holding.specs.Laws.Chain.{file-chain, chain-long, file-within}
-use Rattle.putting.specs.Longer.{newFor, lengthened, CanGrow, AddedBehind, Grows, Lengthens}
+use Rattle.putting.specs.Longer.{newFor, lengthened}
+use Rattle.putting.specs.Aids.Longer.{CanGrow, AddedBehind, Grows, Lengthens}
 use Rattle.putting.specs.Laws.Longer.{own-less, start-small, linked-length, longer-area, longer-found, after-holds}
 
 -- where a chain starts
@@ -39,7 +40,7 @@ module _ (own start first : ℕ) where
   pub starts-old : own ≢ 0 → start ≡ cond (eqb own 0) first start
   starts-old e = rw (ne-eqb own 0 e)
 
-module _ (img : List ℕ) (k : Kind) (v : OnVolume img k) (slot : ℕ) (i : FileIn img k slot) where
+module _ (img : List ℕ) (k : Kind) (v : OnVolume img k) (slot : ℕ) (i : IsFile k img slot) where
   pub own-is : (a size n : ℕ) → a ≡ slotAt k slot → size ≡ sizeOf img a → n ≡ clustersFor (clusterBytes k) size → n ≡ length (fileChain k img slot)
   own-is a size n ea es en = en ∙ rw (es, ea) (sym (chain-long img k v slot i))
 
@@ -61,7 +62,7 @@ module _ (img : List ℕ) (k : Kind) (v : OnVolume img k) (slot : ℕ) (i : File
   pub added-is : Bytes img → (second last end n answer : ℕ) (m : List ℕ) → second ≡ copyTwo k → last ≡ lastCluster k → end ≡ endOf (fileChain k img slot)
       → Added second last img end n answer m → AddedBehind k img slot n answer m
   added-is b second last end n answer m es el ee x =
-      let h : Holds (copyTwo k) (lastCluster k) img = record { small = on-usable img k v .below-aside; bytes = b; reaches = copies-reach img k v (copyTwo k) (lastCluster k) refl refl } in
+      let h : HasTable (copyTwo k) (lastCluster k) img = record { small = on-usable img k v .below-aside; bytes = b; reaches = copies-reach img k v (copyTwo k) (lastCluster k) refl refl } in
       record {
         first = x .first ∙ rw el;
         image = x .image ∙ rw (es, el, ee)
@@ -75,7 +76,7 @@ module _ (k : Kind) (img : List ℕ) (slot size : ℕ) (g : CanGrow k img slot s
   pub more-needed : (own n : ℕ) → own ≡ length (fileChain k img slot) → n ≡ clustersFor (clusterBytes k) size → own ≤ n
   more-needed own n eo en = omega (arith, own-less k img slot size g)
 
-  start-by : (xs new : List ℕ) (start first : ℕ) → Chain (lastCluster k) (valueOf k img) start xs → first ≡ lists.startOf new → cond (eqb (length xs) 0) first start ≡ lists.startOf (xs ++ new)
+  start-by : (xs new : List ℕ) (start first : ℕ) → Chain (lastCluster k) (valueOf k img) start xs → first ≡ headOf new → cond (eqb (length xs) 0) first start ≡ headOf (xs ++ new)
   start-by [] new start first p e = e
   start-by (x ∷ xs) new start first p e = rw (ne-eqb (length (x ∷ xs)) 0 (omega arith)) (p .0)
 
@@ -83,7 +84,7 @@ module _ (k : Kind) (img : List ℕ) (slot size : ℕ) (g : CanGrow k img slot s
       → AddedBehind k img slot (n - own) first m → then ≡ cond (eqb own 0) first start → Grows k img slot size then m
   unfolding lacking
   grown-is own n a start first then m eo en ea es x e =
-      let q : first ≡ lists.startOf (newFor k img slot size) = rw (eo, en) at (x .first) in
+      let q : first ≡ headOf (newFor k img slot size) = rw (eo, en) at (x .first) in
       record {
         start = e ∙ rw (eo, es, ea) (start-by (fileChain k img slot) (newFor k img slot size) (startOf img (slotAt k slot)) first (file-chain img k (g .on) slot (g .file)) q);
         image = x .image ∙ rw (eo, en);

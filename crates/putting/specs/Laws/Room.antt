@@ -6,10 +6,11 @@ use mathlib.Core.List.{List, _++_}
 use mathlib.Core.Logic.{inl, inr}
 use mathlib.Core.Path.{_≡_}
 use lib.ListN.{length, length-append}
-use Rattle.chains.specs.Chain.{Chain}
+use Rattle.chains.specs.Aids.Chain.{Chain}
 use Rattle.chains.specs.Free.{freeClusters}
-use Rattle.chains.specs.Lists.{_∈_, Once, occ}
-use Rattle.chains.specs.Sizes.{Geometry}
+use Rattle.chains.specs.Lists.{_∈_}
+use Rattle.chains.specs.Aids.Lists.{occ, Once}
+use Rattle.chains.specs.Aids.Sizes.{Geometry}
 use Rattle.chains.specs.Values.{Link}
 use Rattle.chains.specs.Laws.Chain.{chain-mem, chain-once}
 use Rattle.chains.specs.Laws.Free.{free-mem, free-once, free-length}
@@ -20,13 +21,12 @@ use Rattle.diskette.specs.Places.{clusters, clusterBytes, lastCluster, slotAt}
 use Rattle.diskette.specs.declared.Kind.{Kind}
 use Rattle.fields.specs.Fields.{sizeOf}
 use Rattle.sound.specs.Counts.{freeOf}
-use Rattle.sound.specs.Files.{valueOf}
+use Rattle.sound.specs.Files.{valueOf, IsFile}
 use Rattle.sound.specs.Laws.Geometry.{geometry}
-use Rattle.calls.specs.Ready.{OnVolume}
+use Rattle.calls.specs.Aids.Ready.{OnVolume}
 use Rattle.calls.specs.Laws.Ready.{on-usable}
-use Rattle.holding.specs.Holding.{fileChain, FileIn}
+use Rattle.holding.specs.Holding.{fileChain}
 use Rattle.holding.specs.Laws.Chain.{file-chain, file-holds}
-use Rattle.putting.specs.Longer.{roomOf}
 
 -- a chain and clusters that may be taken have none in common
 pub apart-once : (G : Geometry) (f : ℕ → ℕ) (start : ℕ) (cs new : List ℕ) → Chain (G .last) f start cs → ((a : ℕ) → a ∈ new → f a ≡ 0) → Once new → Once (cs ++ new)
@@ -37,7 +37,7 @@ apart-once G f start cs new p free o a = elim (dec-mem a new) [
   | no n ↦ omega (arith, occ-append a cs new, occ-not a new n, chain-once G f start cs p a)
 ]
 
-module _ (img : List ℕ) (k : Kind) (v : OnVolume img k) (slot : ℕ) (i : FileIn img k slot) where
+module _ (img : List ℕ) (k : Kind) (v : OnVolume img k) (slot : ℕ) (i : IsFile k img slot) where
   G : Geometry
   G = geometry k (on-usable img k v)
 
@@ -56,17 +56,15 @@ module _ (img : List ℕ) (k : Kind) (v : OnVolume img k) (slot : ℕ) (i : File
       let once : Once all = apart-once G (valueOf k img) _ cs _ (file-chain img k v slot i) (λ a m. free-mem G (valueOf k img) a m .1) (free-once G (valueOf k img)) in
       omega (arith, pigeon G all within once, length-append cs (freeClusters (lastCluster k) (valueOf k img)), free-length G (valueOf k img))
 
-  room-small : roomOf k img slot ≤ clusters k * clusterBytes k
-  unfolding roomOf
+  room-small : (length cs + freeOf k img) * clusterBytes k ≤ clusters k * clusterBytes k
   room-small = let h = room-clusters in mul-le-mul-right (clusterBytes k) h
 
   -- 4,078 clusters of 4,096 bytes at most
-  pub room-fits : roomOf k img slot < 4294967296
+  pub room-fits : (length (fileChain k img slot) + freeOf k img) * clusterBytes k < 4294967296
   room-fits =
       let few : clusters k ≤ 4078 = omega (arith, on-usable img k v .below-aside) in
       let h : clusters k * clusterBytes k ≤ 4078 * clusterBytes k = mul-le-mul-right (clusterBytes k) few in
       omega (arith, room-small, on-usable img k v .per-high)
 
-  pub room-own : sizeOf img (slotAt k slot) ≤ roomOf k img slot
-  unfolding roomOf
+  pub room-own : sizeOf img (slotAt k slot) ≤ (length (fileChain k img slot) + freeOf k img) * clusterBytes k
   room-own = omega (arith, file-holds img k v slot i)

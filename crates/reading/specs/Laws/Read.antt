@@ -13,7 +13,8 @@ use Rattle.image.specs.Laws.Store.{length-part, stored-outside}
 use Rattle.chains.specs.Content.{content}
 use Rattle.chains.specs.Laws.Content.{content-length}
 use Rattle.contents.specs.Laws.Chain.{chain-room}
-use Rattle.contents.specs.Contents.{chainFrom, fetched}
+use Rattle.contents.specs.Contents.{chainFrom}
+use Rattle.contents.specs.Aids.Contents.{fetched}
 use Rattle.contents.specs.Laws.Read.{fetched-content}
 use Rattle.diskette.specs.Places.{firstData, clusterBytes, lastCluster, rootAt, rootEntries, slotAt}
 use Rattle.diskette.specs.declared.Kind.{Kind}
@@ -21,11 +22,12 @@ use Rattle.search.specs.declared.Found.{Found}
 use Rattle.search.specs.declared.Found.the-variants.{At}
 use Rattle.fields.specs.Fields.{startOf, sizeOf}
 use Rattle.opened.specs.Records.{accessOf, pointerOf, withPointer}
-use Rattle.opened.specs.Places.{liveSlot}
+use Rattle.opened.specs.Aids.Places.{liveSlot}
 use Rattle.calls.specs.Outcome.{Row, Outcome, refusal, decided, refusedBy, answering}
 use Rattle.calls.specs.Numbers.{accessDenied}
-use Rattle.calls.specs.Ready.{OnVolume}
-use Rattle.holding.specs.Holding.{fileChain, fileBytes, FileIn}
+use Rattle.calls.specs.Aids.Ready.{OnVolume}
+use Rattle.holding.specs.Holding.{fileChain, fileBytes}
+use Rattle.sound.specs.Files.{IsFile}
 use Rattle.holding.specs.Laws.Clusters.{on-clusters}
 use Rattle.holding.specs.Laws.Chain.{file-holds}
 use Rattle.reading.specs.Read.{readCount, readRows, readOutcome, Reads}
@@ -51,7 +53,7 @@ count-short img k slot room size pointer n e a sized ae = rw (← ae, ← sized)
 -- ---- the bytes of a file of a volume that is ready
 
 module _ (img : List ℕ) (k : Kind) (v : OnVolume img k) where
-  module _ (slot : ℕ) (i : FileIn img k slot) (pointer n : ℕ) (short : n ≤ sizeOf img (slotAt k slot) - pointer) where
+  module _ (slot : ℕ) (i : IsFile k img slot) (pointer n : ℕ) (short : n ≤ sizeOf img (slotAt k slot) - pointer) where
     module _ (some : n ≢ 0) (cb last : ℕ) (ce : cb ≡ clusterBytes k) (le : last ≡ lastCluster k) where
       module _ (a start : ℕ) (ae : a ≡ slotAt k slot) (se : start ≡ startOf img a) where
         pub copy-room : pointer + n ≤ length (chainFrom last img start) * cb
@@ -92,7 +94,7 @@ read-stops t h access has q rows = stops-at _ accessDenied rows (rw (← has) (e
 -- ---- what it means
 
 -- as many bytes are moved as are answered
-module _ (img : List ℕ) (k : Kind) (v : OnVolume img k) (slot : ℕ) (i : FileIn img k slot) (pointer n : ℕ) (short : n ≤ sizeOf img (slotAt k slot) - pointer) where
+module _ (img : List ℕ) (k : Kind) (v : OnVolume img k) (slot : ℕ) (i : IsFile k img slot) (pointer n : ℕ) (short : n ≤ sizeOf img (slotAt k slot) - pointer) where
   pub moved-length : length (part (fileBytes k img slot) pointer n) ≡ n
   unfolding fileBytes
   moved-length = elim (decLt 0 n) [

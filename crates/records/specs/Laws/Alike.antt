@@ -7,11 +7,12 @@ use mathlib.Core.List.{List}
 use mathlib.Core.Path.{_≡_, refl, sym, ap, _∙_}
 use lib.Dec.{ltb, lt→ltb, ltb→lt, not-T}
 use lib.ListN.{length, getD}
-use Rattle.search.specs.Search.{lowest}
+use Rattle.search.specs.Search.{lowest, isFound}
 use Rattle.search.specs.Laws.Meaning.{lowest-same}
 use Rattle.opened.specs.Records.{placeCount, usedOf, slotOf, accessOf, pointerOf, writtenOf}
-use Rattle.opened.specs.Places.{unusedAt, lowestUnused, namesSlot, isFound, isOpen}
-use Rattle.opened.specs.Changes.{Holds}
+use Rattle.opened.specs.Places.{lowestUnused, isOpen}
+use Rattle.opened.specs.Aids.Places.{namesSlot, unusedAt}
+use Rattle.opened.specs.Aids.Changes.{PlaceHolds}
 use Rattle.records.specs.declared.OpenRecord.{OpenRecord}
 use Rattle.records.specs.Row.{unused, recordOf, rowFrom, rowOf, rowCount, recordAt, unusedIn, lowestUnusedIn, namesIn, isOpenIn}
 use Rattle.records.specs.Laws.Row.{record-within, record-over, record-past}
@@ -43,7 +44,7 @@ module _ (t : List ℕ) where
 
 -- ---- a record and the five fields of its bytes
 
-pub fields-of : (t : List ℕ) (p : ℕ) (r : OpenRecord) → recordOf t p ≡ r → Holds t p (r .used) (r .access) (r .slot) (r .pointer) (r .written)
+pub fields-of : (t : List ℕ) (p : ℕ) (r : OpenRecord) → recordOf t p ≡ r → PlaceHolds t p (r .used) (r .access) (r .slot) (r .pointer) (r .written)
 unfolding recordOf
 fields-of t p r e = record {
   used = ap (λ (x : OpenRecord). x .used) e;
@@ -53,7 +54,7 @@ fields-of t p r e = record {
   written = ap (λ (x : OpenRecord). x .written) e;
 }
 
-pub record-of : (t : List ℕ) (p : ℕ) (r : OpenRecord) → Holds t p (r .used) (r .access) (r .slot) (r .pointer) (r .written) → recordOf t p ≡ r
+pub record-of : (t : List ℕ) (p : ℕ) (r : OpenRecord) → PlaceHolds t p (r .used) (r .access) (r .slot) (r .pointer) (r .written) → recordOf t p ≡ r
 unfolding recordOf
 record-of t p r h = rw (h .used, h .access, h .slot, h .pointer, h .written)
 

@@ -6,7 +6,7 @@ use mathlib.Core.List.{List}
 use mathlib.Core.Path.{_≡_, refl, sym, ap, _∙_}
 use borrow.Author.Tests.{lt-ltb, le-ltb}
 use Rattle.opened.specs.Records.{placeCount, withRecord, withWritten, cleared}
-use Rattle.opened.specs.Changes.{Holds}
+use Rattle.opened.specs.Aids.Changes.{PlaceHolds}
 use Rattle.opened.specs.Laws.Stores.{record-only, record-holds, written-holds, cleared-holds}
 use Rattle.opened.specs.Laws.Uses.{only-count}
 use Rattle.records.specs.declared.OpenRecord.{OpenRecord}
@@ -42,7 +42,7 @@ module _ (t : List ℕ) (p : ℕ) (k : p < placeCount t) (r : OpenRecord) where
     abbrev m : List ℕ
     m = withRecord t p (r .access) (r .slot) (r .pointer) false
 
-    holds : Holds m p true (r .access) (r .slot) (r .pointer) false
+    holds : PlaceHolds m p true (r .access) (r .slot) (r .pointer) false
     holds = record-holds t p k (r .access) (r .slot) (r .pointer) false slot-fits pointer-fits
 
     still : p < placeCount m

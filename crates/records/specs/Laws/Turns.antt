@@ -6,10 +6,9 @@ use mathlib.Core.List.{List}
 use mathlib.Core.Path.{_≡_, refl, ap}
 use lib.Dec.{T}
 use lib.ListN.{length}
-use Rattle.search.specs.Search.{lowest}
+use Rattle.search.specs.Search.{lowest, isFound}
 use Rattle.search.specs.Laws.Turns.{lowest-hit, lowest-miss, lowest-done}
 use Rattle.search.specs.declared.Found.the-variants.{At, Nothing}
-use Rattle.opened.specs.Places.{isFound}
 use Rattle.records.specs.declared.OpenRecord.{OpenRecord}
 use Rattle.records.specs.Row.{rowCount, unusedIn, lowestUnusedIn, namesIn, isOpenIn}
 

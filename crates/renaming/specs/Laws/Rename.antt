@@ -9,18 +9,19 @@ use Rattle.search.specs.declared.Found.{Found}
 use Rattle.search.specs.declared.Found.the-variants.{At, Nothing}
 use Rattle.fields.specs.Fields.{withName}
 use Rattle.directory.specs.Search.{slotNamed}
-use Rattle.names.specs.Reading.{nameOf}
+use Rattle.names.specs.Reading.{nameGiven}
 use Rattle.names.specs.declared.Spelled.{Spelled}
 use Rattle.opened.specs.Places.{isOpen}
 use Rattle.calls.specs.Outcome.{Outcome, refusal, decided, refusedBy, answering}
 use Rattle.calls.specs.Refusals.{isNothing, readOnly}
-use Rattle.calls.specs.Ready.{OnVolume}
+use Rattle.calls.specs.Aids.Ready.{OnVolume}
 use Rattle.calls.specs.Laws.Rows.{Stops, stopped}
 use Rattle.calls.specs.Laws.Ready.{on-kind}
 use Rattle.calls.specs.Laws.Files.{found-is}
 use Rattle.calls.specs.Laws.Named.{FileNamed}
 use Rattle.calls.specs.declared.Answer.{Answer}
-use Rattle.renaming.specs.Rename.{renameRows, renameOutcome, Renames, lastRows, RenamesSlot}
+use Rattle.renaming.specs.Rename.{renameRows, renameOutcome, Renames, lastRows}
+use Rattle.renaming.specs.Aids.Rename.{RenamesSlot}
 
 pub renames-only : {img t s n : List ℕ} {r r′ : Answer} {m m′ : List ℕ} → Renames img t s n r m → Renames img t s n r′ m′
     → (r .number ≡ r′ .number) × (r .value ≡ r′ .value) × (m ≡ m′)
@@ -35,7 +36,7 @@ module _ (img t s n : List ℕ) (a : Answer) where
   unfolding renameOutcome
   rename-refused number x q = record { is = rw x (sym (stopped _ number q _ img t [])) }
 
-  pub rename-rest : (k : Kind) → OnVolume img k → (w : Spelled) → w ≡ nameOf n → not (w .fits) ≡ false → (slot : ℕ) (m : List ℕ) → RenamesSlot img t k slot (w .name) a m
+  pub rename-rest : (k : Kind) → OnVolume img k → (w : Spelled) → w ≡ nameGiven n → not (w .fits) ≡ false → (slot : ℕ) (m : List ℕ) → RenamesSlot img t k slot (w .name) a m
       → FileNamed img s slot → Renames img t s n a m
   unfolding renameOutcome decided refusal
   rename-rest k v w new fits slot m y i = record {

@@ -11,16 +11,18 @@ use lib.ListN.{length, take}
 use borrow.Author.Tests.{eq-eqb, ne-eqb}
 use Rattle.image.specs.Store.{stored}
 use Rattle.chains.specs.Content.{content}
-use Rattle.chains.specs.Holders.{Holder, Owns, fileHolder, none-of-it, as-many}
-use Rattle.chains.specs.Sizes.{Geometry, clustersFor}
-use Rattle.chains.specs.Tests.{Says}
+use Rattle.chains.specs.Aids.Holders.{Holder, Owns, fileHolder}
+use Rattle.chains.specs.Sizes.{clustersFor}
+use Rattle.chains.specs.Aids.Sizes.{Geometry}
+use Rattle.chains.specs.Aids.Tests.{Says}
 use Rattle.chains.specs.Laws.Chain.{chain-length}
-use Rattle.chains.specs.Laws.Clusters.{file-owns, chain-clusters, clusters-chain}
+use Rattle.sound.specs.Laws.Clusters.{file-owns, chain-clusters, clusters-chain}
 use Rattle.chains.specs.Laws.Content.{content-length}
 use Rattle.chains.specs.Laws.Holders.{file-fits}
 use Rattle.chains.specs.Laws.Sizes.{clusters-some}
 use Rattle.chains.specs.Laws.Tests.{says-eq, says-not, says-map, says-true, false-says}
-use Rattle.contents.specs.Contents.{chainFrom, fetched}
+use Rattle.contents.specs.Contents.{chainFrom}
+use Rattle.contents.specs.Aids.Contents.{fetched}
 use Rattle.contents.specs.Laws.Chain.{chain-is, chain-room}
 use Rattle.contents.specs.Laws.Read.{fetched-content}
 use Rattle.diskette.specs.Images.{kindOfImage}
@@ -29,10 +31,10 @@ use Rattle.diskette.specs.declared.Kind.{Kind}
 use Rattle.diskette.specs.declared.WhichKind.the-variants.{Known}
 use Rattle.fields.specs.Fields.{startOf, sizeOf}
 use Rattle.table.specs.Entries.{tableOf}
-use Rattle.sound.specs.Files.{valueOf, ChainOf}
+use Rattle.sound.specs.Files.{valueOf, ChainOf, none-of-it, as-many, IsFile}
 use Rattle.sound.specs.Findings.{BadChain}
 use Rattle.sound.specs.Laws.Geometry.{geometry}
-use Rattle.holding.specs.Holding.{fileChain, fileBytes, FileIn}
+use Rattle.holding.specs.Holding.{fileChain, fileBytes}
 use Rattle.rescuing.specs.Rescue.{endsAfter, goodChain}
 use Rattle.rescuing.specs.Laws.Ends.{LeadsTo, says-ends}
 use Rattle.rescuing.specs.Laws.Kinds.{usable, clusters-inside}
@@ -86,7 +88,7 @@ module _ (img : List ℕ) (k : Kind) (e : kindOfImage img ≡ Known k) (slot : �
     | inr h ↦ rw (some-is h) (says-map (to-clusters h) (from-clusters h) (says-ends (lastCluster k) f start needed))
   ]
 
-  module _ (i : FileIn img k slot) where
+  module _ (i : IsFile k img slot) where
     -- row 5 stands exactly where finding 5 holds of the slot
     pub says-bad-chain : Says (not (goodChain k img slot)) (BadChain k img slot)
     says-bad-chain = says-map (λ never. ((i .below, i .plain), λ cs c. never (cs, c))) (λ b r. b .1 (r .0) (r .1)) (says-not says-chain)

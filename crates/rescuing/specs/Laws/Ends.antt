@@ -7,8 +7,8 @@ use mathlib.Core.Path.{_≡_, refl, sym, ap, _∙_}
 use lib.Dec.{leb}
 use lib.ListN.{length}
 use borrow.Author.Tests.{le-leb, lt-leb}
-use Rattle.chains.specs.Chain.{Leads}
-use Rattle.chains.specs.Tests.{Says}
+use Rattle.chains.specs.Aids.Chain.{Leads}
+use Rattle.chains.specs.Aids.Tests.{Says}
 use Rattle.chains.specs.Values.{Link, End, linkb, endb}
 use Rattle.chains.specs.Laws.Tests.{says-and, says-map}
 use Rattle.chains.specs.Laws.Values.{says-end, says-link}

@@ -4,10 +4,10 @@ use native.Mathlib.Omega.{arith}
 use mathlib.Core.List.{List}
 use mathlib.Core.Path.{_≡_}
 use lib.ListN.{length}
-use Rattle.contents.specs.Contents.{Area}
+use Rattle.contents.specs.Aids.Contents.{Area}
 use Rattle.contents.specs.Laws.Kinds.{area-kind}
 use Rattle.diskette.specs.Images.{kindOfImage}
-use Rattle.diskette.specs.Kinds.{Usable}
+use Rattle.diskette.specs.Aids.Usable.{Usable}
 use Rattle.diskette.specs.Laws.Images.{image-of-kind, image-usable, image-has-area}
 use Rattle.diskette.specs.Places.{firstData, clusterBytes, lastCluster, rootAt, rootEntries, slotAt}
 use Rattle.diskette.specs.declared.Kind.{Kind}

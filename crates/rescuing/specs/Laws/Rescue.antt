@@ -20,11 +20,12 @@ use Rattle.names.specs.declared.Spelled.{Spelled}
 use Rattle.calls.specs.Outcome.{Outcome, refusal, decided, refusedBy, answering}
 use Rattle.calls.specs.Refusals.{isUnknown, kindFound, theKind, notOfKind, fileFound}
 use Rattle.calls.specs.declared.Answer.{Answer}
-use Rattle.holding.specs.Holding.{fileBytes, FileIn}
+use Rattle.holding.specs.Holding.{fileBytes}
+use Rattle.sound.specs.Files.{IsFile}
 use Rattle.holding.specs.Laws.Found.{named-file}
 use Rattle.rescuing.specs.Rescue.{goodChain, rescueCount, rescueOutcome, Rescues}
 use Rattle.rescuing.specs.Laws.Kinds.{slot-inside}
-use Rattle.names.specs.Reading as reading
+use Rattle.names.specs.Reading.{nameGiven}
 
 pub rescues-only : {img s out : List ℕ} {r r′ : Answer} {b b′ : List ℕ} → Rescues img s out r b → Rescues img s out r′ b′
     → (r .number ≡ r′ .number) × (r .value ≡ r′ .value) × (b ≡ b′)
@@ -54,7 +55,7 @@ module _ (img s out : List ℕ) where
   pub known-by : (w : WhichKind) → w ≡ kindOfImage img → (k : Kind) → w ≡ Known k → kindOfImage img ≡ Known k
   known-by w e k q = sym e ∙ q
 
-  module _ (k : Kind) (e : kindOfImage img ≡ Known k) (g : Spelled) (given : g ≡ reading.nameOf s) where
+  module _ (k : Kind) (e : kindOfImage img ≡ Known k) (g : Spelled) (given : g ≡ nameGiven s) where
     passed : notOfKind img ≡ false
     passed = ap isUnknown e
 
@@ -72,7 +73,7 @@ module _ (img s out : List ℕ) where
       unfolding fileFound
       found-is = rw (is-kind, ← given, found, re, ce)
 
-      pub found-file : (slot : ℕ) → f ≡ At slot → FileIn img k slot
+      pub found-file : (slot : ℕ) → f ≡ At slot → IsFile k img slot
       found-file slot at = named-file img k (g .name) f (rw (re, ce) at found) slot at
 
       pub rescue-2 : f ≡ Nothing → Refuses 2

@@ -3,7 +3,7 @@ use Prim.Native.Nat.{ℕ, _*_}
 use mathlib.Core.List.{List}
 use mathlib.Core.Path.{_≡_}
 use lib.ListN.{length, getD}
-use Rattle.chains.specs.Content.{InCluster}
+use Rattle.chains.specs.Aids.Content.{InCluster}
 use Rattle.chains.specs.Lists.{_∈_}
 use Rattle.diskette.specs.Places.{firstData, clusterBytes, slotAt}
 use Rattle.diskette.specs.declared.Kind.{Kind}

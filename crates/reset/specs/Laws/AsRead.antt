@@ -14,16 +14,17 @@ use Rattle.diskette.specs.Places.{rootAt, rootEntries, slotAt}
 use Rattle.diskette.specs.declared.Kind.{Kind}
 use Rattle.fields.specs.Fields.{sizeOf}
 use Rattle.stamps.specs.declared.Stamp.{Stamp}
-use Rattle.opened.specs.Changes.{Holds}
+use Rattle.opened.specs.Changes.{PlaceHolds}
 use Rattle.opened.specs.Records.{placeCount, writtenOf, withRecord, withPointer}
 use Rattle.opened.specs.Laws.Places.{live-is}
 use Rattle.opened.specs.Laws.Stores.{record-only, record-holds, pointer-holds}
 use Rattle.opened.specs.Laws.Uses.{only-count, same-live, pointer-uses}
 use Rattle.calls.specs.Outcome.{Outcome, outcome, refusal, decided}
-use Rattle.calls.specs.Ready.{OnVolume}
+use Rattle.calls.specs.Aids.Ready.{OnVolume}
 use Rattle.calls.specs.Refusals.{theKind, badName, noFile, fileSlot, noPlace, freePlace, notLive, badStamp}
 use Rattle.calls.specs.Laws.Ready.{on-kind, known-passed, sound-passed}
-use Rattle.holding.specs.Holding.{fileBytes, FileIn}
+use Rattle.holding.specs.Holding.{fileBytes}
+use Rattle.sound.specs.Files.{IsFile}
 use Rattle.opening.specs.Open.{openRows, openEffect, openOutcome}
 use Rattle.closing.specs.Close.{closeOutcome}
 use Rattle.reading.specs.Read.{readOutcome}
@@ -40,7 +41,7 @@ use Rattle.reset.specs.AsRead.{readThen, closedThen, SameAsRead, RescueA
 
 module _ (k : Kind) (img : List ℕ) (v : OnVolume img k) (name : List ℕ) where
   -- a file of a sound volume has a good chain
-  good-chain : FileIn img k (fileSlot img name) → goodChain k img (fileSlot img name) ≡ true
+  good-chain : IsFile k img (fileSlot img name) → goodChain k img (fileSlot img name) ≡ true
   good-chain i = true-says (says-chain img k (v .known) (fileSlot img name))
       (on-sound k img v .0 (fileSlot img name), on-sound k img v .1 .chains (fileSlot img name) (i .below, i .plain))
 
@@ -71,7 +72,7 @@ module _ (k : Kind) (img : List ℕ) (v : OnVolume img k) (name : List ℕ) wher
       counts : p < placeCount t
       counts = place-counts t free
 
-      taken : Holds T p true 0 slot 0 false
+      taken : PlaceHolds T p true 0 slot 0 false
       taken = record-holds t p counts 0 slot 0 false (named-small k img v name there) (omega arith)
 
       counts-then : p < placeCount T

@@ -8,11 +8,12 @@ use mathlib.Core.Path.{_≡_, sym, _∙_}
 use lib.ListN.{length, getD}
 use Rattle.diskette.specs.Places.{firstData, rootEntries, slotAt}
 use Rattle.diskette.specs.declared.Kind.{Kind}
-use Rattle.directory.specs.Entries.{SameBytes, SameFields}
+use Rattle.directory.specs.Entries.{SameBytes}
+use Rattle.directory.specs.Aids.Entries.{SameFields}
 use Rattle.directory.specs.Laws.Entries.{same-fields}
 use Rattle.fields.specs.Fields.{nameOf}
 use Rattle.sound.specs.Files.{IsFile}
-use Rattle.calls.specs.Ready.{OnVolume}
+use Rattle.calls.specs.Aids.Ready.{OnVolume}
 use Rattle.calls.specs.Laws.Ready.{on-area}
 use Rattle.changes.specs.Laws.Changed.{on-sound}
 use Rattle.reset.specs.Torn.{sectorBytes, Torn}

@@ -11,14 +11,14 @@ use Rattle.search.specs.declared.Found.the-variants.{At}
 use Rattle.chains.specs.Laws.Tests.{true-says}
 use Rattle.diskette.specs.Images.{kindOfImage}
 use Rattle.diskette.specs.Laws.Images.{image-of-kind, image-usable, image-has-area}
-use Rattle.diskette.specs.Places.{firstData, rootAt, rootEntries, slotAt}
+use Rattle.diskette.specs.Places.{firstData, rootAt, rootEntries, slotAt, slotFrom}
 use Rattle.diskette.specs.declared.Kind.{Kind}
 use Rattle.diskette.specs.declared.WhichKind.the-variants.{Known}
-use Rattle.directory.specs.Search.{slotFrom, slotNamed}
+use Rattle.directory.specs.Search.{slotNamed}
 use Rattle.directory.specs.Slots.{PlainAt}
 use Rattle.directory.specs.Laws.Search.{slot-named-answers}
 use Rattle.fields.specs.Fields.{nameOf, sizeOf}
-use Rattle.names.specs.Reading as reading
+use Rattle.names.specs.Reading.{nameGiven}
 use Rattle.names.specs.Spelling.{Means}
 use Rattle.names.specs.Laws.Meaning.{accepted}
 use Rattle.names.specs.Laws.Proper.{proper}
@@ -40,17 +40,17 @@ module _ (m : List ℕ) (k : Kind) (e : kindOfImage m ≡ Known k) (s : ℕ) (f 
   root-in : rootAt k + 32 * rootEntries k ≤ length m
   root-in = let a : 512 * firstData k ≤ length m = image-has-area m k (image-of-kind m k .0 e) (image-usable m k e) in omega arith
 
-  spelled : nameOf m (slotAt k s) ≡ reading.nameOf name .name
+  spelled : nameOf m (slotAt k s) ≡ nameGiven name .name
   spelled = h .name ∙ sym (accepted name (f .name) .1 means .1)
 
   -- slot r holds a plain file of the name
   abbrev Named : ℕ → Type 0
-  Named r = PlainAt m (slotFrom (rootAt k) r) × (nameOf m (slotFrom (rootAt k) r) ≡ reading.nameOf name .name)
+  Named r = PlainAt m (slotFrom (rootAt k) r) × (nameOf m (slotFrom (rootAt k) r) ≡ nameGiven name .name)
 
   found : fileFound m name ≡ At s
   unfolding fileFound
   found =
-      let n = reading.nameOf name .name in
+      let n = nameGiven name .name in
       rw is-kind (only-answer Named (rootEntries k) (slotNamed m (rootAt k) (rootEntries k) n) (At s)
       (slot-named-answers m (rootAt k) (rootEntries k) root-in n (proper name (accepted name (f .name) .1 means .0) .long))
       (record {

@@ -6,32 +6,32 @@ use mathlib.Core.Logic.{_≢_}
 use mathlib.Core.Path.{_≡_, refl, sym, ap, _∙_, subst}
 use lib.ListN.{length, getD}
 use Rattle.image.specs.Bytes.{Bytes}
-use Rattle.chains.specs.Content.{clusterAt, content}
-use Rattle.chains.specs.Holders.{Holder, fileHolder, Owns}
+use Rattle.chains.specs.Content.{clusterBegin, content}
+use Rattle.chains.specs.Aids.Holders.{Holder, fileHolder, Owns}
 use Rattle.chains.specs.Lists.{_∈_}
-use Rattle.chains.specs.Sizes.{Geometry}
+use Rattle.chains.specs.Aids.Sizes.{Geometry}
 use Rattle.chains.specs.Values.{Link}
 use Rattle.chains.specs.Laws.Chain.{chain-frame, chain-mem}
-use Rattle.chains.specs.Laws.Clusters.{owns-file, file-owns}
+use Rattle.sound.specs.Laws.Clusters.{owns-file, file-owns}
 use Rattle.chains.specs.Laws.Content.{cluster-high}
 use Rattle.chains.specs.Laws.Holders.{file-fits}
 use Rattle.chains.specs.Laws.Replace.{foreign, same-table}
 use Rattle.chains.specs.Laws.Touched.{content-same}
 use Rattle.diskette.specs.Places.{firstData, clusterBytes, lastCluster, slotAt}
 use Rattle.diskette.specs.declared.Kind.{Kind}
-use Rattle.directory.specs.Entries.{SameFields}
+use Rattle.directory.specs.Aids.Entries.{SameFields}
 use Rattle.directory.specs.Laws.Entries.{same-fields}
 use Rattle.fields.specs.Fields.{startOf, sizeOf}
 use Rattle.sound.specs.Files.{valueOf, IsFile, ChainOf}
-use Rattle.sound.specs.Holders.{rootHolders, rootChains}
+use Rattle.sound.specs.Aids.Holders.{rootHolders, rootChains}
 use Rattle.sound.specs.Laws.Chains.{file-owns-chain}
 use Rattle.sound.specs.Laws.Geometry.{geometry}
 use Rattle.sound.specs.Laws.Holders.{root-holder}
 use Rattle.sound.specs.Laws.Sound.{chain-only}
-use Rattle.calls.specs.Ready.{OnVolume}
+use Rattle.calls.specs.Aids.Ready.{OnVolume}
 use Rattle.calls.specs.Laws.Ready.{on-usable, on-area}
 use Rattle.holding.specs.Laws.Clusters.{on-clusters}
-use Rattle.changes.specs.Changed.{SlotChanged}
+use Rattle.changes.specs.Aids.Changed.{SlotChanged}
 use Rattle.changes.specs.Files.{File, Holds}
 use Rattle.changes.specs.Laws.Changed.{on-theory}
 use Rattle.reset.specs.Torn.{Torn}
@@ -113,7 +113,7 @@ module _ (k : Kind) (l : List ℕ) (v : OnVolume l k) (s : ℕ) (i : IsFile k l 
         (owns-file (lastCluster k) (clusterBytes k) (G .wide) (valueOf k m) _ _ cs
         (record { chain = chain-frame G (valueOf k l) (valueOf k m) (holder .start) cs (x .values) (owns .chain); long = owns .long }))
 
-    whole : (d : ℕ) → Link (lastCluster k) d → clusterAt (512 * firstData k) (clusterBytes k) d + clusterBytes k ≤ length l
+    whole : (d : ℕ) → Link (lastCluster k) d → clusterBegin (512 * firstData k) (clusterBytes k) d + clusterBytes k ≤ length l
     whole d h = omega (arith, on-clusters l k v .clusters, cluster-high (512 * firstData k) (clusterBytes k) (G .wide) G d h)
 
     -- their first bytes, as many as the size says

@@ -12,7 +12,7 @@ use Rattle.diskette.specs.declared.WhichKind.the-variants.{Known}
 use Rattle.sound.specs.Files.{IsFile, ChainOf}
 use Rattle.sound.specs.Findings.{InChain}
 use Rattle.sound.specs.Laws.Sound.{chain-only}
-use Rattle.calls.specs.Ready.{OnVolume}
+use Rattle.calls.specs.Aids.Ready.{OnVolume}
 use Rattle.calls.specs.Laws.Ready.{on-usable, on-of-kind}
 use Rattle.reset.specs.Torn.{Torn, Stands}
 use Rattle.reset.specs.Aids.Same.{SameIn}

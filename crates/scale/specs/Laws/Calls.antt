@@ -26,9 +26,9 @@ use Rattle.calls.specs.declared.Answer.{Answer}
 use Rattle.creating.specs.Create.{createOutcome, Creates}
 use Rattle.viewing.specs.View.{ViewNumbers}
 use Rattle.stamps.specs.declared.Stamp.{Stamp}
-use Rattle.packing.specs.Packing.{Packs}
+use Rattle.packing.specs.Aids.Packing.{Packs}
 use Rattle.packing.specs.Laws.Packing.{same-halves}
-use Rattle.scale.specs.Out.{put, words, fields}
+use Rattle.scale.specs.Out.{putOut, words, fields}
 use Rattle.scale.specs.Calls.{Leaves, formatCall, toldOf, verdictTold, checkCall, checkSystemCall, spaceTold, freeSpaceCall, entryTaken, entryCall, viewNumberCall}
 
 -- ---- no second outcome satisfies the contract of a call
@@ -72,7 +72,7 @@ told-leaves img o r m s = record { is = ap (toldOf img) (s .is) }
 -- ---- check: v is the verdict
 
 module _ (out : List ℕ) (v : Verdict) (r : ℕ) where
-  pub sound-leaves : (files free held aside : ℕ) (m : List ℕ) → v ≡ Sound files free held aside → m ≡ put out (words (files ∷ free ∷ held ∷ aside ∷ [])) → Packs 0 0 r → Leaves (verdictTold v out) r [] [] m
+  pub sound-leaves : (files free held aside : ℕ) (m : List ℕ) → v ≡ Sound files free held aside → m ≡ putOut out (words (files ∷ free ∷ held ∷ aside ∷ [])) → Packs 0 0 r → Leaves (verdictTold v out) r [] [] m
   unfolding verdictTold
   sound-leaves files free held aside m e p h = record { is = rw (e, p, h .number-is, h .value-is) }
 
@@ -89,7 +89,7 @@ module _ (out : List ℕ) (v : Verdict) (r : ℕ) where
 -- ---- free space: a is what it answered
 
 module _ (out : List ℕ) (a : FreeAnswer) (r : ℕ) where
-  pub space-put : (m : List ℕ) → a .number ≡ 0 → m ≡ put out (words (a .free ∷ a .clusters ∷ a .sector ∷ a .per ∷ [])) → Packs 0 (a .free) r → Leaves (spaceTold a out) r [] [] m
+  pub space-put : (m : List ℕ) → a .number ≡ 0 → m ≡ putOut out (words (a .free ∷ a .clusters ∷ a .sector ∷ a .per ∷ [])) → Packs 0 (a .free) r → Leaves (spaceTold a out) r [] [] m
   unfolding spaceTold
   space-put m e p h = record { is = rw (eq-eqb (a .number) 0 e, p, h .number-is, h .value-is) }
 
@@ -103,7 +103,7 @@ module _ (out : List ℕ) (a : FreeAnswer) (r : ℕ) where
 -- ---- entry: e is what it answered
 
 module _ (out : List ℕ) (e : EntryAnswer) (r : ℕ) where
-  pub entry-put : (m : List ℕ) → e .found ≡ true → m ≡ put out (fields (e .name) (e .attr) (e .time) (e .date) (e .start) (e .size)) → Packs 0 1 r → Leaves (entryTaken e out) r [] [] m
+  pub entry-put : (m : List ℕ) → e .found ≡ true → m ≡ putOut out (fields (e .name) (e .attr) (e .time) (e .date) (e .start) (e .size)) → Packs 0 1 r → Leaves (entryTaken e out) r [] [] m
   unfolding entryTaken
   entry-put m f p h = record { is = rw (f, p, h .number-is, h .value-is) }
 

@@ -7,26 +7,26 @@ use mathlib.Core.Logic.{inl, inr}
 use mathlib.Core.Path.{_≡_, refl, sym, subst}
 use lib.Dec.{ltb, eqb}
 use lib.ListN.{length, getD}
-use Rattle.chains.specs.Holders.{none-of-it, as-many}
 use Rattle.chains.specs.Lists.{_∈_}
-use Rattle.chains.specs.Sums.{tally}
-use Rattle.chains.specs.Tests.{bit}
+use Rattle.chains.specs.Sums.{tally, bit}
 use Rattle.chains.specs.Values.{Link}
 use Rattle.chains.specs.Verdict.{None, OrElse}
 use Rattle.chains.specs.Laws.Tests.{says-dec}
 use Rattle.diskette.specs.Images.{kindOfImage, kindOfArea}
-use Rattle.diskette.specs.Kinds.{named, Usable}
-use Rattle.diskette.specs.Places.{lastCluster, rootEntries, rootAt}
+use Rattle.diskette.specs.Kinds.{named}
+use Rattle.diskette.specs.Aids.Usable.{Usable}
+use Rattle.diskette.specs.Places.{lastCluster, rootEntries}
 use Rattle.diskette.specs.Laws.Images.{image-of-kind, area-of-kind, image-usable, area-usable}
 use Rattle.diskette.specs.Laws.Kinds.{OfKnown, of-cond}
 use Rattle.diskette.specs.declared.Kind.{Kind}
 use Rattle.diskette.specs.declared.WhichKind.{WhichKind}
 use Rattle.diskette.specs.declared.WhichKind.the-variants.{Known, Unknown}
-use Rattle.chaincheck.specs.Held.{plainSlot}
+use Rattle.sound.specs.Counts.{isFile}
 use Rattle.sound.specs.Answer.{AnswersOf, AnswersBy, Checked, CheckedArea}
-use Rattle.sound.specs.Files.{ChainOf}
+use Rattle.sound.specs.Files.{ChainOf, none-of-it, as-many}
 use Rattle.sound.specs.Findings.{TablesDiffer, BadValue, BadSlot, BadChain, InTwoChains, Lost}
-use Rattle.sound.specs.FromFinding.{FromLost, FromTwo, FromChains, FromSlots, FromValues, Counted, NoFinding}
+use Rattle.sound.specs.Aids.FromFinding.{FromLost, FromTwo, FromChains, FromSlots, FromValues, Counted}
+use Rattle.sound.specs.Sound.{NoFinding}
 use Rattle.sound.specs.Laws.IsSound.{known-says}
 use Rattle.sound.specs.Laws.Sound.{sound-exactly}
 use Rattle.sound.specs.Laws.Total.{total}
@@ -36,7 +36,7 @@ use Rattle.calls.specs.Numbers.{ofNoKind, unsound}
 use Rattle.freespace.specs.FreeSpace.{noSpace, freeSpace, Spaced}
 use Rattle.freespace.specs.declared.FreeAnswer.{FreeAnswer}
 use Rattle.freespace.specs.Laws.FreeSpace.{space-unknown, space-unsound, space-sound}
-use Rattle.scale.specs.Fits.{Fits, VerdictFits, SpaceFits}
+use Rattle.scale.specs.Aids.Fits.{Fits, VerdictFits, SpaceFits}
 
 -- ---- what bounds them
 
@@ -87,7 +87,7 @@ module _ (k : Kind) (u : Usable k) (f : k .fat ≤ 2) (l : List ℕ) where
   counts-fit : (v : Verdict) → NoFinding k l → Counted k l v → VerdictFits v
   counts-fit v n e =
       let t = total k u l (sound-exactly k u l .1 n) in
-      let files = tally-low (plainSlot l (rootAt k)) (rootEntries k) 0 in
+      let files = tally-low (isFile k l) (rootEntries k) 0 in
       let c = u .below-aside in
       let r = u .few-slots in
       subst VerdictFits (sym e) (record { numbers = (omega arith, omega arith, omega arith, omega arith) })
@@ -97,7 +97,7 @@ module _ (k : Kind) (u : Usable k) (f : k .fat ≤ 2) (l : List ℕ) where
       after (TablesDiffer k l) 2 (FromValues k l) v (omega arith) (λ p b. let x = b .0 in omega arith) (λ n2.
       after (BadValue k l) 3 (FromSlots k l) v (omega arith) (λ p b. let x = b .0 .1 in omega (arith, u .below-aside)) (λ n3.
       after (BadSlot k l) 4 (FromChains k l) v (omega arith) (λ p b. let x = b .0 in omega (arith, u .few-slots)) (λ n4.
-      after (BadChain k l) 5 (FromTwo k l) v (omega arith) (λ p b. let x = b .0 .0 in omega (arith, u .few-slots)) (λ n5.
+      after (BadChain k l) 5 (FromTwo k l) v (omega arith) (λ p b. let x = b .0 .below in omega (arith, u .few-slots)) (λ n5.
       after (InTwoChains k l) 6 (FromLost k l) v (omega arith) (λ p b. let x = chain-link k l (b .0) p (b .3 .1 .0) (b .3 .1 .1) (b .3 .1 .2) .1 in omega (arith, u .below-aside)) (λ n6.
       after (Lost k l) 7 (Counted k l) v (omega arith) (λ p b. let x = b .0 .1 in omega (arith, u .below-aside)) (λ n7.
       counts-fit v (record { tables = n2; values = n3; slots = n4; chains = n5; two = n6; lost = n7 })))))))

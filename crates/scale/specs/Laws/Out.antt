@@ -10,7 +10,7 @@ use Rattle.image.specs.Numbers.{digits}
 use Rattle.image.specs.Laws.Numbers.{length-digits}
 use Rattle.image.specs.Laws.Store.{stored-append}
 use Rattle.fields.specs.Fields.{tailBytes}
-use Rattle.scale.specs.Out.{words, fields, put}
+use Rattle.scale.specs.Out.{words, fields, putOut}
 
 beside : (l m k : List ℕ) (a b : ℕ) (s t : List ℕ) → m ≡ stored l a s → k ≡ stored m b t → b ≡ a + length s → k ≡ stored l a (s ++ t)
 beside l m k a b s t p q e = rw (q, p, e, stored-append l a s t)
@@ -18,12 +18,12 @@ beside l m k a b s t p q e = rw (q, p, e, stored-append l a s t)
 -- ---- whether it fits
 
 module _ (l s : List ℕ) (n : ℕ) (e : length s ≡ n) where
-  put-short : length l < n → l ≡ put l s
-  unfolding put
+  put-short : length l < n → l ≡ putOut l s
+  unfolding putOut
   put-short h = rw (lt-ltb (length l) (length s) (omega arith))
 
-  put-whole : n ≤ length l → (m : List ℕ) → m ≡ stored l 0 s → m ≡ put l s
-  unfolding put
+  put-whole : n ≤ length l → (m : List ℕ) → m ≡ stored l 0 s → m ≡ putOut l s
+  unfolding putOut
   put-whole h m p = p ∙ rw (le-ltb (length l) (length s) (omega arith))
 
 -- ---- words
@@ -51,12 +51,12 @@ module _ (l : List ℕ) (a b c d : ℕ) where
   abbrev four : List ℕ
   four = words (a ∷ b ∷ c ∷ d ∷ [])
 
-  pub four-short : length l < 16 → l ≡ put l four
+  pub four-short : length l < 16 → l ≡ putOut l four
   four-short = put-short l four 16 (words-length (a ∷ b ∷ c ∷ d ∷ []))
 
   pub four-stored : (l₁ l₂ l₃ l₄ : List ℕ) → 16 ≤ length l
       → l₁ ≡ stored l 0 (digits a 4) → l₂ ≡ stored l₁ 4 (digits b 4) → l₃ ≡ stored l₂ 8 (digits c 4) → l₄ ≡ stored l₃ 12 (digits d 4)
-      → l₄ ≡ put l four
+      → l₄ ≡ putOut l four
   unfolding words stored
   four-stored l₁ l₂ l₃ l₄ h p q r s =
       put-whole l four 16 (words-length (a ∷ b ∷ c ∷ d ∷ [])) h l₄
@@ -91,10 +91,10 @@ module _ (l name : List ℕ) (attr time date start size : ℕ) (n : length name 
   unfolding fields
   whole-length = omega (arith, length-append name (attr ∷ rest), length-tail time date start size)
 
-  pub fields-short : length l < 22 → l ≡ put l whole
+  pub fields-short : length l < 22 → l ≡ putOut l whole
   fields-short = put-short l whole 22 whole-length
 
-  pub fields-stored : (l₁ l₂ l₃ : List ℕ) → 22 ≤ length l → l₁ ≡ stored l 0 name → l₂ ≡ stored l₁ 11 (attr ∷ []) → l₃ ≡ stored l₂ 12 rest → l₃ ≡ put l whole
+  pub fields-stored : (l₁ l₂ l₃ : List ℕ) → 22 ≤ length l → l₁ ≡ stored l 0 name → l₂ ≡ stored l₁ 11 (attr ∷ []) → l₃ ≡ stored l₂ 12 rest → l₃ ≡ putOut l whole
   unfolding fields
   fields-stored l₁ l₂ l₃ h p q r =
       let x : l₃ ≡ stored l₁ 11 (attr ∷ rest) = beside l₁ l₂ l₃ 11 12 (attr ∷ []) rest q r refl in

@@ -4,8 +4,7 @@ use native.Mathlib.Omega.{arith}
 use mathlib.Core.Bool.{Bool, true, false, cond}
 use mathlib.Core.Option.{Option, none, some}
 use mathlib.Core.Path.{_≡_, refl}
-use Rattle.chains.specs.Tests.{pick}
-use Rattle.chains.specs.Verdict.{first}
+use Rattle.chains.specs.Aids.Verdict.{first}
 use Rattle.search.specs.Search.{lowest}
 use Rattle.search.specs.declared.Found.{Found}
 use Rattle.search.specs.declared.Found.the-variants.{At, Nothing}
@@ -19,6 +18,6 @@ unfolding lowest first
 lowest-first p s zero = refl
 lowest-first p s (suc n) = let e : s + 1 ≡ suc s = omega arith in by (p s) (rw e at (lowest-first p (s + 1) n))
   where
-    by : (b : Bool) → optional (lowest p (suc s) n) ≡ first p n (suc s) → optional (cond b (At s) (lowest p (s + 1) n)) ≡ pick b (some s) (first p n (suc s))
+    by : (b : Bool) → optional (lowest p (suc s) n) ≡ first p n (suc s) → optional (cond b (At s) (lowest p (s + 1) n)) ≡ cond b (some s) (first p n (suc s))
     by true h = refl
     by false h = let e : s + 1 ≡ suc s = omega arith in rw e h

@@ -10,7 +10,8 @@ use mir.Val.{SFits, toZ, ofZ}
 use mir.Facts.{toZ-ofZ}
 use Rattle.image.specs.Store.{stored}
 use Rattle.image.specs.Numbers.{digits}
-use Rattle.opened.specs.Records.{mark, markBytes, numberBytes, recordBytes, withRecord}
+use Rattle.opened.specs.Records.{recordBytes, withRecord}
+use Rattle.chains.specs.Sums.{bit}
 use Rattle.stamps.specs.declared.Stamp.{Stamp}
 use Rattle.calls.specs.Outcome.{Outcome, outcome}
 use Rattle.calls.specs.declared.Answer.{Answer}
@@ -27,8 +28,8 @@ use Rattle.single.specs.Rows.{placeBytes, bytesOf, LeavesRow}
 
 -- a used record's bytes, with the two marks as they are to be
 pub table-made : (held : OpenRecord) (t : List ℕ) → t ≡ withRecord (replicate 16 0) 0 (held .access) (held .slot) (held .pointer) false
-    → (u : ℕ) → u ≡ mark (held .used) → (w : ℕ) → w ≡ mark (held .written) → set (set t 0 u) 2 w ≡ bytesOf (held ∷ [])
-unfolding bytesOf placeBytes withRecord stored recordBytes markBytes numberBytes digits
+    → (u : ℕ) → u ≡ bit (held .used) → (w : ℕ) → w ≡ bit (held .written) → set (set t 0 u) 2 w ≡ bytesOf (held ∷ [])
+unfolding bytesOf placeBytes withRecord stored recordBytes digits
 table-made held t e u x w y = rw (e, x, y)
 
 -- ---- the calls

@@ -15,7 +15,7 @@ use Rattle.records.specs.Row.{unused}
 use Rattle.records.specs.declared.OpenRecord.{OpenRecord}
 use Rattle.single.specs.declared.held.Done.{Done}
 use Rattle.single.specs.Rows.{bytesOf, LeavesRow}
-use Rattle.single.specs.OpenAt.{spareFor, OpensAt}
+use Rattle.single.specs.Aids.OpenAt.{spareFor, OpensAt}
 
 pub spare-free : (free : Found) (p : ℕ) → free ≡ At p → unused ≡ spareFor free
 unfolding spareFor

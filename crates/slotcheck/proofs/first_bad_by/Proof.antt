@@ -3,10 +3,10 @@ use borrow.Author.Needs.{needs}
 use mathlib.Core.Path.{_≡_}
 use Prim.Native.Nat.{_-_, _≤_}
 use lib.ListN.{length}
-use Rattle.chains.specs.Verdict.{first}
+use Rattle.chains.specs.Aids.Verdict.{first}
 use Rattle.chains.specs.Laws.SearchTurns.{slots-start, first-end}
-use Rattle.slotcheck.specs.Slots.{anyBelow, neverUsedSlot, labelSlot, badSlotAt}
-use Rattle.slotcheck.specs.Checksums.{NamesMet}
+use Rattle.slotcheck.specs.Aids.Slots.{anyBelow, neverUsedSlot, labelSlot, badSlotAt}
+use Rattle.slotcheck.specs.Aids.Checksums.{NamesMet}
 use Rattle.slotcheck.specs.Laws.Slots.{any-more, bad-found, bad-not-here}
 use Rattle.slotcheck.proofs.first_bad_by.Statement.{statement}
 use Rattle.slotcheck.proofs.first_bad_by.Tie as tie

@@ -1,5 +1,5 @@
 -- The test of the first byte is the definition's own.
-use Rattle.slotcheck.specs.Slots.{neverUsedSlot}
+use Rattle.slotcheck.specs.Aids.Slots.{neverUsedSlot}
 use borrow.Author.Needs.{needs}
 use Rattle.slotcheck.proofs.is_never_used.Statement.{statement}
 use Rattle.slotcheck.proofs.is_never_used.Tie as tie

@@ -9,16 +9,18 @@ use mathlib.Core.Path.{_≡_, refl, sym, _∙_, ap}
 use lib.ListN.{length, length-set, getD, set, replicate, length-replicate}
 use lib.Seq.{getD-set-same, getD-set-other}
 use Rattle.image.specs.Laws.Store.{length-part, part-at}
-use Rattle.chains.specs.Tests.{aye, nay}
+use Rattle.chains.specs.Aids.Tests.{aye, nay}
 use Rattle.chains.specs.Laws.Tests.{clash, not-true, not-false}
 use Rattle.fields.specs.Fields.{nameOf}
 use Rattle.directory.specs.Slots.{PlainAt, standingOf, isPlain}
-use Rattle.directory.specs.Search.{slotFrom, slotNamed}
+use Rattle.directory.specs.Search.{slotNamed}
+use Rattle.diskette.specs.Places.{slotFrom}
 use Rattle.directory.specs.Laws.Slots.{plain-is}
 use Rattle.directory.specs.Laws.Search.{slot-named-answers}
 use Rattle.search.specs.declared.Found.{Found}
-use Rattle.slotcheck.specs.Slots.{isFound, badSlotBy}
-use Rattle.slotcheck.specs.Checksums.{withByte, checksumFrom, checksum, NamesMet, NameTold, SlotTold}
+use Rattle.slotcheck.specs.Aids.Slots.{badSlotBy}
+use Rattle.search.specs.Search.{isFound}
+use Rattle.slotcheck.specs.Aids.Checksums.{withByte, checksumFrom, checksum, NamesMet, NameTold, SlotTold}
 use Rattle.slotcheck.specs.Laws.Slots.{says-found, twice-other, twice-plain}
 
 -- ---- a checksum, byte by byte: bytes from i on are left

@@ -8,17 +8,18 @@ use mathlib.Core.Option.{Option, some}
 use mathlib.Core.Path.{_≡_, refl, sym, _∙_, ap}
 use lib.ListN.{getD}
 use borrow.Author.Tests.{eq-eqb, ne-eqb}
-use Rattle.chains.specs.Tests.{Says, aye, nay}
-use Rattle.chains.specs.Verdict.{first}
+use Rattle.chains.specs.Aids.Tests.{Says, aye, nay}
+use Rattle.chains.specs.Aids.Verdict.{first}
 use Rattle.chains.specs.Laws.SearchTurns.{first-hit, first-miss}
 use Rattle.fields.specs.Fields.{nameOf, attrOf}
 use Rattle.directory.specs.Slots.{hasBit, standingOf, isPlain}
-use Rattle.directory.specs.Search.{slotFrom, slotNamed}
+use Rattle.directory.specs.Search.{slotNamed}
+use Rattle.diskette.specs.Places.{slotFrom}
 use Rattle.directory.specs.declared.Standing.{Standing}
-use Rattle.search.specs.Search.{Answers}
+use Rattle.search.specs.Search.{Answers, isFound}
 use Rattle.search.specs.declared.Found.{Found}
 use Rattle.search.specs.declared.Found.the-variants.{At, Nothing}
-use Rattle.slotcheck.specs.Slots.{anyBelow, isLabel, isLive, isFound, neverUsedSlot, labelSlot, strange, strangeSlot, nameTwiceSlot, badSlotBy, badSlotAt}
+use Rattle.slotcheck.specs.Aids.Slots.{anyBelow, isLabel, isLiveEntry, neverUsedSlot, labelSlot, strange, strangeSlot, nameTwiceSlot, badSlotBy, badSlotAt}
 
 -- ---- a first byte or an attribute that is strange, bit by bit
 
@@ -48,7 +49,7 @@ module _ (l : List ℕ) (root s : ℕ) where
   unfolding labelSlot
   label-tested st e r p = p ∙ ap isLabel e
 
-  module _ (st : Standing) (is : st ≡ standingOf l (slotFrom root s)) (live : Bool) (lives : live ≡ isLive st) where
+  module _ (st : Standing) (is : st ≡ standingOf l (slotFrom root s)) (live : Bool) (lives : live ≡ isLiveEntry st) where
     pub strange-open : live ≡ false → false ≡ strangeSlot l root s
     unfolding strangeSlot
     strange-open f = rw (← is, ← lives, f)

@@ -10,20 +10,20 @@ use Rattle.chains.specs.Laws.Findings.{check-chains}
 use Rattle.chains.specs.Laws.Rows.{found-bad-chain}
 use Rattle.chains.specs.Laws.Verdict.{or-else}
 use Rattle.diskette.specs.Images.{kindOfImage, kindOfArea}
-use Rattle.diskette.specs.Kinds.{Usable}
-use Rattle.diskette.specs.Places.{clusterBytes, lastCluster, rootEntries, rootAt, slotAt, firstData}
+use Rattle.diskette.specs.Aids.Usable.{Usable}
+use Rattle.diskette.specs.Places.{clusterBytes, lastCluster, rootEntries, rootAt, slotAt, firstData, slotFrom}
 use Rattle.diskette.specs.declared.Kind.{Kind}
 use Rattle.diskette.specs.declared.WhichKind.{WhichKind}
 use Rattle.diskette.specs.declared.WhichKind.the-variants.{Known, Unknown}
 use Rattle.diskette.specs.Laws.Images.{image-of-kind, area-of-kind, image-usable, area-usable, image-has-area}
-use Rattle.directory.specs.Search.{slotFrom}
-use Rattle.chaincheck.specs.Entries.{badChainSlot, holderAt}
+use Rattle.chaincheck.specs.Aids.Entries.{badChainSlot, holderAt}
 use Rattle.sound.specs.Answer.{AnswersOf, AnswersBy, Checked, CheckedArea}
 use Rattle.sound.specs.Files.{valueOf}
-use Rattle.sound.specs.FromFinding.{Counted, FromLost, FromTwo, FromChains, FromSlots, FromValues}
+use Rattle.sound.specs.Aids.FromFinding.{Counted, FromLost, FromTwo, FromChains, FromSlots, FromValues}
 use Rattle.sound.specs.Findings.{TablesDiffer, BadValue, BadSlot, BadChain, InTwoChains, Lost}
-use Rattle.sound.specs.Holders.{rootRows}
-use Rattle.sound.specs.Judged.{judged, judgedBy, checkOf, checkOfArea, marksOfFiles, voice}
+use Rattle.sound.specs.Aids.Holders.{rootRows}
+use Rattle.sound.specs.Judged.{checkOf, checkOfArea}
+use Rattle.sound.specs.Aids.Judged.{marksOfFiles, voice, judged, judgedBy}
 use Rattle.sound.specs.Laws.BadSlot.{found-bad-slot}
 use Rattle.sound.specs.Laws.Chains.{bad-chain-as, in-two-as, lost-as}
 use Rattle.sound.specs.Laws.Geometry.{geometry}
@@ -32,7 +32,7 @@ use Rattle.sound.specs.Laws.SamePlaces.{or-else-as, turned}
 use Rattle.sound.specs.Laws.Copies.{found-difference}
 use Rattle.sound.specs.declared.Verdict.{Verdict}
 use Rattle.sound.specs.declared.Verdict.the-variants.{Finding}
-use Rattle.chains.specs.Findings as Theory
+use Rattle.chains.specs.Aids.Findings as Theory
 
 -- the theory's answer from finding 5 on is document 01's
 chains-answer : (k : Kind) (u : Usable k) (l : List ℕ) (v : Verdict) → Theory.FromChains ltb (lastCluster k) (valueOf k l) (holderAt (clusterBytes k) l) (rootRows k) (voice k l) v → FromChains k l v

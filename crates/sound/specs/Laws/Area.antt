@@ -5,21 +5,20 @@ use mathlib.Core.List.{List}
 use mathlib.Core.Logic.{_⊎_, _↔_, inl, inr}
 use mathlib.Core.Path.{_≡_, sym, ap, _∙_}
 use lib.ListN.{getD}
-use Rattle.chains.specs.Tests.{bit}
+use Rattle.chains.specs.Sums.{bit}
 use Rattle.chains.specs.Laws.Sums.{sum-cong, tally-sum}
-use Rattle.diskette.specs.Kinds.{Usable}
-use Rattle.diskette.specs.Places.{clusterBytes, lastCluster, rootEntries, rootAt, copyOne, copyTwo, slotAt}
+use Rattle.diskette.specs.Aids.Usable.{Usable}
+use Rattle.diskette.specs.Places.{lastCluster, rootEntries, copyOne, copyTwo, slotAt}
 use Rattle.diskette.specs.declared.Kind.{Kind}
-use Rattle.directory.specs.Entries.{SameFields}
+use Rattle.directory.specs.Aids.Entries.{SameFields}
 use Rattle.directory.specs.Slots.{NeverUsedAt, LiveAt, LabelAt, PlainAt, isPlain}
 use Rattle.directory.specs.Laws.Entries.{same-fields}
 use Rattle.table.specs.Laws.View.{table-same}
-use Rattle.chaincheck.specs.Held.{plainSlot, heldBy}
-use Rattle.sound.specs.Area.{SameArea}
-use Rattle.sound.specs.Counts.{fileCount, heldOf}
+use Rattle.sound.specs.Aids.Area.{SameArea}
+use Rattle.sound.specs.Counts.{isFile, fileCount, heldBy, heldOf}
 use Rattle.sound.specs.Files.{valueOf, IsFile, ChainOf}
 use Rattle.sound.specs.Findings.{TablesDiffer, BadValue, BadSlot, AfterNeverUsed, StrangeEntry, SecondLabel, NameTwice, BadChain, InChain, InTwoChains, Lost}
-use Rattle.sound.specs.FromFinding.{Counted}
+use Rattle.sound.specs.Aids.FromFinding.{Counted}
 use Rattle.sound.specs.declared.Verdict.{Verdict}
 
 pub area-back : (k : Kind) (m l : List ℕ) → SameArea k m l → SameArea k l m
@@ -72,7 +71,7 @@ module _ (k : Kind) (u : Usable k) (m l : List ℕ) (e : SameArea k m l) where
           inr (inr (inr (plain-to s h v, (t, i, plain-to t (before t i) p, sym (area-fields t (before t i) .name) ∙ q ∙ area-fields s h .name))))
 
   file-to : (s : ℕ) → IsFile k m s → IsFile k l s
-  file-to s i = (i .0, plain-to s (i .0) (i .1))
+  file-to s i = record { below = i .below; plain = plain-to s (i .below) (i .plain) }
 
   chain-to : (s : ℕ) → s < rootEntries k → (cs : List ℕ) → ChainOf k m s cs → ChainOf k l s cs
   chain-to s h cs c =
@@ -80,12 +79,12 @@ module _ (k : Kind) (u : Usable k) (m l : List ℕ) (e : SameArea k m l) where
       rw (f, area-fields s h .start, area-fields s h .size) at c
 
   member-to : (s c : ℕ) → InChain k m s c → InChain k l s c
-  member-to s c r = (file-to s (r .0), (r .1 .0, chain-to s (r .0 .0) (r .1 .0) (r .1 .1), r .1 .2))
+  member-to s c r = (file-to s (r .0), (r .1 .0, chain-to s (r .0 .below) (r .1 .0) (r .1 .1), r .1 .2))
 
 -- findings that deny a chain go by the other direction
 module _ (k : Kind) (u : Usable k) (m l : List ℕ) (e : SameArea k m l) where
   bad-chain-to : (s : ℕ) → BadChain k m s → BadChain k l s
-  bad-chain-to s b = (file-to k u m l e s (b .0), λ cs c. b .1 cs (chain-to k u l m (area-back k m l e) s (b .0 .0) cs c))
+  bad-chain-to s b = (file-to k u m l e s (b .0), λ cs c. b .1 cs (chain-to k u l m (area-back k m l e) s (b .0 .below) cs c))
 
   two-to : (c : ℕ) → InTwoChains k m c → InTwoChains k l c
   two-to c b = (b .0, b .1, b .2, member-to k u m l e (b .0) c (b .3), member-to k u m l e (b .1) c (b .4))
@@ -121,11 +120,11 @@ module _ (k : Kind) (u : Usable k) (m l : List ℕ) (e : SameArea k m l) where
   same-table : valueOf k m ≡ valueOf k l
   same-table j c = area-table k u m l e c j
 
-  plain-as : (s : ℕ) → s < rootEntries k → plainSlot m (rootAt k) s ≡ plainSlot l (rootAt k) s
-  unfolding plainSlot
+  plain-as : (s : ℕ) → s < rootEntries k → isFile k m s ≡ isFile k l s
+  unfolding isFile
   plain-as s h = ap isPlain (area-fields k u m l e s h .standing)
 
-  held-as : (s : ℕ) → s < rootEntries k → heldBy (clusterBytes k) m (rootAt k) s ≡ heldBy (clusterBytes k) l (rootAt k) s
+  held-as : (s : ℕ) → s < rootEntries k → heldBy k m s ≡ heldBy k l s
   unfolding heldBy
   held-as s h = rw (plain-as s h, area-fields k u m l e s h .size)
 
@@ -136,7 +135,7 @@ module _ (k : Kind) (u : Usable k) (m l : List ℕ) (e : SameArea k m l) where
       rw (files, same-table, held) at q
     where
       tally-as : fileCount k m ≡ fileCount k l
-      tally-as = tally-sum (plainSlot m (rootAt k)) (rootEntries k) 0 ∙ sum-cong (rootEntries k) _ _ (λ i h. ap bit (moved i h)) ∙ sym (tally-sum (plainSlot l (rootAt k)) (rootEntries k) 0)
+      tally-as = tally-sum (isFile k m) (rootEntries k) 0 ∙ sum-cong (rootEntries k) _ _ (λ i h. ap bit (moved i h)) ∙ sym (tally-sum (isFile k l) (rootEntries k) 0)
         where
-          moved : (i : ℕ) → i < rootEntries k → plainSlot m (rootAt k) (i + 0) ≡ plainSlot l (rootAt k) (i + 0)
+          moved : (i : ℕ) → i < rootEntries k → isFile k m (i + 0) ≡ isFile k l (i + 0)
           moved i h = plain-as (i + 0) (omega arith)

@@ -6,16 +6,16 @@ use mathlib.Core.Logic.{_↔_}
 use mathlib.Core.Path.{_≡_, sym, _∙_, subst}
 use lib.Dec.{ltb}
 use Rattle.diskette.specs.Images.{OfKind, AreaOf, kindOfImage, kindOfArea}
-use Rattle.diskette.specs.Kinds.{Usable}
+use Rattle.diskette.specs.Aids.Usable.{Usable}
 use Rattle.diskette.specs.declared.Kind.{Kind}
 use Rattle.diskette.specs.declared.WhichKind.{WhichKind}
 use Rattle.diskette.specs.declared.WhichKind.the-variants.{Known}
 use Rattle.diskette.specs.Laws.Images.{image-of-kind, area-of-kind, image-usable}
 use Rattle.sound.specs.Answer.{AnswersOf, AnswersBy, Checked, CheckedArea}
-use Rattle.sound.specs.Area.{SameArea}
+use Rattle.sound.specs.Aids.Area.{SameArea}
 use Rattle.sound.specs.Findings.{TablesDiffer, BadValue, BadSlot, BadChain, InTwoChains, Lost}
-use Rattle.sound.specs.FromFinding.{Counted, FromLost, FromTwo, FromChains, FromSlots, FromValues, NoFinding}
-use Rattle.sound.specs.Sound.{Sound}
+use Rattle.sound.specs.Aids.FromFinding.{Counted, FromLost, FromTwo, FromChains, FromSlots, FromValues}
+use Rattle.sound.specs.Sound.{Sound, NoFinding}
 use Rattle.sound.specs.Laws.Area.{area-back, tables-alike, values-alike, slots-alike, chains-alike, two-alike, lost-alike, counted-as}
 use Rattle.sound.specs.Laws.SamePlaces.{none-as, or-else-as}
 use Rattle.sound.specs.Laws.Sound.{sound-exactly}

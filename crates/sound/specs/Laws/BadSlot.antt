@@ -9,22 +9,22 @@ use mathlib.Core.Path.{_≡_, refl}
 use lib.Dec.{ltb}
 use lib.ListN.{length, getD}
 use Rattle.image.specs.Laws.Store.{length-part}
-use Rattle.chains.specs.Tests.{Says, aye, nay}
-use Rattle.chains.specs.Verdict.{Found, first}
+use Rattle.chains.specs.Aids.Tests.{Says, aye, nay}
+use Rattle.chains.specs.Aids.Verdict.{Found, first}
 use Rattle.chains.specs.Laws.Tests.{says-eq, says-and, says-or, says-not, says-map, by-test, clash}
 use Rattle.chains.specs.Laws.Verdict.{first-found}
-use Rattle.diskette.specs.Places.{firstData, rootEntries, rootAt, slotAt}
+use Rattle.diskette.specs.Places.{firstData, rootEntries, rootAt, slotAt, slotFrom}
 use Rattle.diskette.specs.declared.Kind.{Kind}
 use Rattle.fields.specs.Fields.{nameOf, attrOf}
-use Rattle.directory.specs.Slots.{hasBit, NeverUsedAt, LiveAt, LabelAt, PlainAt, standingOf, isOpen, isPlain}
-use Rattle.directory.specs.Search.{slotFrom, slotNamed}
+use Rattle.directory.specs.Slots.{hasBit, NeverUsedAt, LiveAt, LabelAt, PlainAt, standingOf, isVacant, isPlain}
+use Rattle.directory.specs.Search.{slotNamed}
 use Rattle.directory.specs.Laws.Slots.{standing-label, live-is, plain-is}
 use Rattle.directory.specs.Laws.Search.{slot-named-answers}
 use Rattle.directory.specs.declared.Standing.{Standing}
 use Rattle.directory.specs.declared.Standing.the-variants.{NeverUsed, Erased, Label, Plain}
 use Rattle.search.specs.declared.Found as answer
 use Rattle.slotcheck.specs.Laws.Slots.{says-found}
-use Rattle.slotcheck.specs.Slots.{anyBelow, isLabel, isLive, neverUsedSlot, labelSlot, strange, strangeSlot, nameTwiceSlot, badSlotBy, badSlotAt}
+use Rattle.slotcheck.specs.Aids.Slots.{anyBelow, isLabel, isLiveEntry, neverUsedSlot, labelSlot, strange, strangeSlot, nameTwiceSlot, badSlotBy, badSlotAt}
 use Rattle.sound.specs.Findings.{AfterNeverUsed, StrangeEntry, SecondLabel, NameTwice, BadSlot}
 
 -- ---- tests
@@ -70,10 +70,10 @@ module _ (l : List ℕ) (root s : ℕ) where
       by Label = aye refl refl
       by Plain = nay refl (λ e. let z : _≡_ {A = ℕ} 0 1 = cc in omega arith)
 
-  says-live : Says (isLive (standingOf l (slotFrom root s))) (LiveAt l (slotFrom root s))
+  says-live : Says (isLiveEntry (standingOf l (slotFrom root s))) (LiveAt l (slotFrom root s))
   says-live = says-map (live-is l (slotFrom root s) .0) (live-is l (slotFrom root s) .1) (by (standingOf l (slotFrom root s)))
     where
-      by : (st : Standing) → Says (isLive st) (isOpen st ≡ false)
+      by : (st : Standing) → Says (isLiveEntry st) (isVacant st ≡ false)
       by NeverUsed = nay refl (λ e. clash refl e)
       by Erased = nay refl (λ e. clash refl e)
       by Label = aye refl refl

@@ -5,26 +5,25 @@ use native.Mathlib.Omega.{arith}
 use mathlib.Core.List.{List, []}
 use mathlib.Core.Logic.{_↔_}
 use mathlib.Core.Path.{_≡_, sym, ap, _∙_, subst}
-use Rattle.chains.specs.Holders.{Holder, Owns, nobody, fileHolder}
+use Rattle.chains.specs.Aids.Holders.{Holder, Owns, nobody, fileHolder}
 use Rattle.chains.specs.Lists.{_∈_}
-use Rattle.chains.specs.Laws.Clusters.{owns-file, file-owns}
+use Rattle.sound.specs.Laws.Clusters.{owns-file, file-owns}
 use Rattle.chains.specs.Laws.Holders.{nobody-owns, owns-nobody}
 use Rattle.chains.specs.Laws.Rows.{rows-in, in-rows}
 use Rattle.chains.specs.Laws.Tests.{by-test, clash}
-use Rattle.diskette.specs.Kinds.{Usable}
-use Rattle.diskette.specs.Places.{clusterBytes, lastCluster, rootEntries, rootAt, slotAt}
+use Rattle.diskette.specs.Aids.Usable.{Usable}
+use Rattle.diskette.specs.Places.{clusterBytes, lastCluster, rootEntries, rootAt, slotAt, slotFrom}
 use Rattle.diskette.specs.declared.Kind.{Kind}
 use Rattle.fields.specs.Fields.{startOf, sizeOf}
-use Rattle.directory.specs.Search.{slotFrom}
 use Rattle.directory.specs.Slots.{PlainAt, standingOf, isPlain}
 use Rattle.directory.specs.Laws.Slots.{plain-is}
-use Rattle.chaincheck.specs.Entries.{holderAt}
+use Rattle.chaincheck.specs.Aids.Entries.{holderAt}
 use Rattle.sound.specs.Files.{valueOf, IsFile, ChainOf}
 use Rattle.sound.specs.Findings.{BadChain, InChain, InTwoChains, Lost}
-use Rattle.sound.specs.Holders.{rootList, rootRows}
+use Rattle.sound.specs.Aids.Holders.{rootList, rootRows}
 use Rattle.sound.specs.Laws.Geometry.{geometry}
 use Rattle.sound.specs.Laws.Holders.{plain-holder, no-holder, listed-slot, slot-listed, slot-same}
-use Rattle.chains.specs.Findings as Theory
+use Rattle.chains.specs.Aids.Findings as Theory
 
 dec-plain : (l : List ℕ) (a : ℕ) → Dec (PlainAt l a)
 dec-plain l a = by-test (isPlain (standingOf l a)) (λ e. yes (plain-is l a .0 e)) (λ e. no (λ p. clash (plain-is l a .1 p) e))
@@ -40,7 +39,7 @@ module _ (k : Kind) (u : Usable k) (l : List ℕ) (h : ℕ → Holder) (at : (s 
   -- ---- one slot
 
   file-holder : (s : ℕ) → IsFile k l s → h (slotAt k s) ≡ fileHolder (clusterBytes k) (startOf l (slotAt k s)) (sizeOf l (slotAt k s))
-  file-holder s i = at s (i .0) ∙ plain-holder (clusterBytes k) l (slotAt k s) (i .1)
+  file-holder s i = at s (i .below) ∙ plain-holder (clusterBytes k) l (slotAt k s) (i .plain)
 
   -- the holder at a file's slot owns the file's chain
   pub file-owns-chain : (s : ℕ) (cs : List ℕ) → IsFile k l s → Owns last f (h (slotAt k s)) cs ↔ ChainOf k l s cs
@@ -58,7 +57,7 @@ module _ (k : Kind) (u : Usable k) (l : List ℕ) (h : ℕ → Holder) (at : (s 
   bad-chain-as s = (to, from)
     where
       to : BadChain k l s → Theory.BadChain last f h (rootRows k) s
-      to b = (slotAt k s, in-rows (slotFrom (rootAt k)) 0 (rootEntries k) s (omega arith) (omega (arith, b .0 .0)), λ cs o. b .1 cs (file-owns-chain s cs (b .0) .0 o))
+      to b = (slotAt k s, in-rows (slotFrom (rootAt k)) 0 (rootEntries k) s (omega arith) (omega (arith, b .0 .below)), λ cs o. b .1 cs (file-owns-chain s cs (b .0) .0 o))
 
       from : Theory.BadChain last f h (rootRows k) s → BadChain k l s
       from b =
@@ -66,7 +65,7 @@ module _ (k : Kind) (u : Usable k) (l : List ℕ) (h : ℕ → Holder) (at : (s 
           let i : s < rootEntries k = omega (arith, r .1) in
           let none : (cs : List ℕ) → ¬ Owns last f (h (slotAt k s)) cs = subst (λ (a : ℕ). (cs : List ℕ) → ¬ Owns last f (h a) cs) (r .2) (b .2) in
           elim (dec-plain l (slotAt k s)) [
-            | yes p ↦ ((i, p), λ cs c. none cs (file-owns-chain s cs (i, p) .1 c))
+            | yes p ↦ let j : IsFile k l s = record { below = i; plain = p } in (j, λ cs c. none cs (file-owns-chain s cs j .1 c))
             | no n ↦ absurd (none [] (subst (λ (x : Holder). Owns last f x []) (sym (slot-nobody s i n)) (nobody-owns (geometry k u) f)))
           ]
 
@@ -77,7 +76,7 @@ module _ (k : Kind) (u : Usable k) (l : List ℕ) (h : ℕ → Holder) (at : (s 
 
   pub in-chain-from : (s c : ℕ) → s < rootEntries k → Theory.InChain last f h (slotAt k s) c → InChain k l s c
   in-chain-from s c i r = elim (dec-plain l (slotAt k s)) [
-    | yes p ↦ ((i, p), (r .0, file-owns-chain s (r .0) (i, p) .0 (r .1), r .2))
+    | yes p ↦ let j : IsFile k l s = record { below = i; plain = p } in (j, (r .0, file-owns-chain s (r .0) j .0 (r .1), r .2))
     | no n ↦ absurd (subst (λ (cs : List ℕ). c ∈ cs) (owns-nobody (geometry k u) f (h (slotAt k s)) (r .0) (slot-nobody s i n) (r .1)) (r .2))
   ]
 
@@ -94,8 +93,8 @@ module _ (k : Kind) (u : Usable k) (l : List ℕ) (h : ℕ → Holder) (at : (s 
       slotAt k (b .0),
       slotAt k (b .1),
       λ e. b .2 (slot-same k (b .0) (b .1) e),
-      slot-listed k (b .0) (b .3 .0 .0),
-      slot-listed k (b .1) (b .4 .0 .0),
+      slot-listed k (b .0) (b .3 .0 .below),
+      slot-listed k (b .1) (b .4 .0 .below),
       in-chain-to (b .0) c (b .3),
       in-chain-to (b .1) c (b .4),
     ),
@@ -110,5 +109,5 @@ module _ (k : Kind) (u : Usable k) (l : List ℕ) (h : ℕ → Holder) (at : (s 
   pub lost-as : (c : ℕ) → Lost k l c ↔ Theory.Lost last f h (rootList k) c
   lost-as c = (
     λ b. (b .0, b .1, λ a m r. let x = listed-from a c m r in b .2 (x .0) (x .2)),
-    λ b. (b .0, b .1, λ s r. b .2 (slotAt k s) (slot-listed k s (r .0 .0)) (in-chain-to s c r)),
+    λ b. (b .0, b .1, λ s r. b .2 (slotAt k s) (slot-listed k s (r .0 .below)) (in-chain-to s c r)),
   )

@@ -3,7 +3,7 @@ use Prim.Native.Nat.{ℕ, _*_, _≤_}
 use mathlib.Core.List.{List}
 use mathlib.Core.Path.{_≡_, refl, sym, _∙_, subst}
 use lib.ListN.{length}
-use Rattle.diskette.specs.Kinds.{Usable}
+use Rattle.diskette.specs.Aids.Usable.{Usable}
 use Rattle.diskette.specs.Places.{firstData}
 use Rattle.diskette.specs.Images.{kindOfImage, kindOfArea}
 use Rattle.diskette.specs.Laws.Images.{image-of-kind, image-usable, image-has-area, area-of-kind, area-usable}
@@ -11,7 +11,7 @@ use Rattle.diskette.specs.declared.Kind.{Kind}
 use Rattle.diskette.specs.declared.WhichKind.{WhichKind}
 use Rattle.diskette.specs.declared.WhichKind.the-variants.{Known, Unknown}
 use Rattle.sound.specs.Answer.{AnswersBy, Checked, CheckedArea}
-use Rattle.sound.specs.Judged.{judged}
+use Rattle.sound.specs.Aids.Judged.{judged}
 use Rattle.sound.specs.Laws.Answer.{judged-answers}
 use Rattle.sound.specs.declared.Verdict.{Verdict}
 use Rattle.sound.specs.declared.Verdict.the-variants.{Sound, Finding}

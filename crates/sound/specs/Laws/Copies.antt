@@ -8,15 +8,16 @@ use mathlib.Core.Logic.{_⊎_, inl, inr}
 use mathlib.Core.Path.{_≡_, refl, ap, _∙_}
 use lib.Dec.{ltb}
 use lib.ListN.{getD}
-use Rattle.chains.specs.Tests.{Says}
-use Rattle.chains.specs.Verdict.{Found, None, first}
+use Rattle.chains.specs.Aids.Tests.{Says}
+use Rattle.chains.specs.Verdict.{None}
+use Rattle.chains.specs.Aids.Verdict.{Found, first}
 use Rattle.chains.specs.Laws.Tests.{says-eq, says-and, says-or, says-not, says-map}
 use Rattle.chains.specs.Laws.Verdict.{first-found}
-use Rattle.diskette.specs.Kinds.{Usable}
+use Rattle.diskette.specs.Aids.Usable.{Usable}
 use Rattle.diskette.specs.Places.{copyOne, copyTwo}
 use Rattle.diskette.specs.declared.Kind.{Kind}
-use Rattle.table.specs.Entries.{Agree}
-use Rattle.tablecheck.specs.Copies.{differsAt}
+use Rattle.table.specs.Aids.Copies.{Agree}
+use Rattle.tablecheck.specs.Aids.Copies.{differsAt}
 use Rattle.sound.specs.Findings.{TablesDiffer}
 
 pub says-differs : (k : Kind) (l : List ℕ) (j : ℕ) → j < 512 * k .fat → Says (differsAt (copyTwo k) l j) (TablesDiffer k l j)

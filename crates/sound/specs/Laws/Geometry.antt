@@ -1,7 +1,7 @@
 -- A usable kind has what the theory of chains asks of a volume.
 use native.Mathlib.Omega.{arith}
-use Rattle.chains.specs.Sizes.{Geometry}
-use Rattle.diskette.specs.Kinds.{Usable}
+use Rattle.chains.specs.Aids.Sizes.{Geometry}
+use Rattle.diskette.specs.Aids.Usable.{Usable}
 use Rattle.diskette.specs.Places.{clusterBytes, lastCluster}
 use Rattle.diskette.specs.declared.Kind.{Kind}
 

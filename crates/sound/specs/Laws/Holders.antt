@@ -4,21 +4,21 @@ use native.Mathlib.Omega.{arith}
 use mathlib.Core.List.{List}
 use mathlib.Core.Path.{_≡_, refl, sym, ap, _∙_}
 use borrow.Author.Tests.{eq-eqb, ne-eqb}
-use Rattle.chains.specs.Holders.{Holder, nobody, fileHolder}
-use Rattle.chains.specs.Lists.{_∈_, occ, Once}
+use Rattle.chains.specs.Aids.Holders.{Holder, nobody, fileHolder}
+use Rattle.chains.specs.Lists.{_∈_}
+use Rattle.chains.specs.Aids.Lists.{occ, Once}
 use Rattle.chains.specs.Laws.Lists.{mem-occ, occ-not, dec-mem}
 use Rattle.chains.specs.Laws.Rows.{row-holder, holder-row, rows-once}
-use Rattle.diskette.specs.Places.{clusterBytes, rootEntries, rootAt, slotAt}
+use Rattle.diskette.specs.Places.{clusterBytes, rootEntries, rootAt, slotAt, slotFrom}
 use Rattle.diskette.specs.declared.Kind.{Kind}
-use Rattle.directory.specs.Entries.{SameFields}
+use Rattle.directory.specs.Aids.Entries.{SameFields}
 use Rattle.fields.specs.Fields.{startOf, sizeOf}
-use Rattle.directory.specs.Search.{slotFrom}
 use Rattle.directory.specs.Slots.{PlainAt, standingOf}
 use Rattle.directory.specs.Laws.Slots.{standing-plain}
 use Rattle.directory.specs.declared.Standing.{Standing}
 use Rattle.directory.specs.declared.Standing.the-variants.{NeverUsed, Erased, Label, Plain}
-use Rattle.chaincheck.specs.Entries.{holderBy, holderAt}
-use Rattle.sound.specs.Holders.{rootList, among, rootHolders}
+use Rattle.chaincheck.specs.Aids.Entries.{holderBy, holderAt}
+use Rattle.sound.specs.Aids.Holders.{rootList, onlyAmong, rootHolders}
 
 -- ---- at one address
 
@@ -37,12 +37,12 @@ no-holder cb l a n = go (standingOf l a) refl
 -- ---- the holders of a list
 
 module _ (is : List ℕ) (h : ℕ → Holder) (a : ℕ) where
-  pub among-in : a ∈ is → among is h a ≡ h a
-  unfolding among
+  pub among-in : a ∈ is → onlyAmong is h a ≡ h a
+  unfolding onlyAmong
   among-in m = rw (ne-eqb (occ a is) 0 (omega (arith, mem-occ a is m)))
 
-  pub among-out : ¬ (a ∈ is) → among is h a ≡ nobody
-  unfolding among
+  pub among-out : ¬ (a ∈ is) → onlyAmong is h a ≡ nobody
+  unfolding onlyAmong
   among-out n = rw (eq-eqb (occ a is) 0 (occ-not a is n))
 
 -- ---- the root's

@@ -6,7 +6,7 @@ use mathlib.Core.List.{List}
 use mathlib.Core.Logic.{_↔_, inl, inr}
 use mathlib.Core.Path.{_≡_, refl, sym, ap, _∙_, subst}
 use lib.Dec.{ltb}
-use Rattle.chains.specs.Tests.{Says, aye, nay}
+use Rattle.chains.specs.Aids.Tests.{Says, aye, nay}
 use Rattle.chains.specs.Verdict.{None, OrElse}
 use Rattle.chains.specs.Laws.Tests.{says-true, says-false, true-says, false-says, says-map}
 use Rattle.diskette.specs.Images.{kindOfImage, kindOfArea, OfKind, AreaOf}
@@ -14,12 +14,13 @@ use Rattle.diskette.specs.declared.Kind.{Kind}
 use Rattle.diskette.specs.declared.WhichKind.{WhichKind}
 use Rattle.diskette.specs.declared.WhichKind.the-variants.{Known, Unknown}
 use Rattle.diskette.specs.Laws.Images.{image-of-kind, area-of-kind, image-usable, area-usable}
-use Rattle.diskette.specs.Kinds.{Usable}
+use Rattle.diskette.specs.Aids.Usable.{Usable}
 use Rattle.sound.specs.Answer.{AnswersOf, AnswersBy}
 use Rattle.sound.specs.Findings.{TablesDiffer, BadValue, BadSlot, BadChain, InTwoChains, Lost}
-use Rattle.sound.specs.FromFinding.{FromLost, FromTwo, FromChains, FromSlots, FromValues, Counted, NoFinding}
-use Rattle.sound.specs.Judged.{checkOf, checkOfArea, isSound, isSoundVerdict}
-use Rattle.sound.specs.Sound.{Sound}
+use Rattle.sound.specs.Aids.FromFinding.{FromLost, FromTwo, FromChains, FromSlots, FromValues, Counted}
+use Rattle.sound.specs.Judged.{checkOf, checkOfArea, isSound}
+use Rattle.sound.specs.Aids.Judged.{isSoundVerdict}
+use Rattle.sound.specs.Sound.{Sound, NoFinding}
 use Rattle.sound.specs.Laws.Answer.{check-answers, area-answers}
 use Rattle.sound.specs.Laws.Sound.{sound-exactly}
 use Rattle.sound.specs.declared.Verdict.{Verdict}

@@ -4,26 +4,27 @@ use mathlib.Core.List.{List}
 use mathlib.Core.Option.{Option, none, some}
 use mathlib.Core.Path.{_≡_, refl, sym, _∙_}
 use lib.ListN.{replicate}
-use Rattle.chains.specs.Verdict.{first, orElse}
-use Rattle.chains.specs.Check.{badValue, inTwo, lost, checkLost, checkTwo, checkChains}
+use Rattle.chains.specs.Aids.Verdict.{orElse, first}
+use Rattle.chains.specs.Aids.Check.{badValue, inTwo, lost, checkLost, checkTwo, checkChains}
 use Rattle.search.specs.Laws.Theory.{optional}
 use Rattle.search.specs.declared.Found.{Found}
 use Rattle.search.specs.declared.Found.the-variants.{At, Nothing}
 use Rattle.diskette.specs.Places.{clusterBytes, lastCluster, rootEntries, rootAt, copyTwo}
 use Rattle.diskette.specs.declared.Kind.{Kind}
 use Rattle.table.specs.Entries.{tableOf}
-use Rattle.tablecheck.specs.Copies.{differsAt}
-use Rattle.tablecheck.specs.Values.{censusBy, censusOf}
+use Rattle.tablecheck.specs.Aids.Copies.{differsAt}
+use Rattle.tablecheck.specs.Aids.Values.{censusBy, censusOf}
 use Rattle.tablecheck.specs.declared.Census.{Census}
 use Rattle.tablecheck.specs.declared.Census.the-variants.{BadValue, Values}
-use Rattle.slotcheck.specs.Slots.{badSlotAt}
-use Rattle.chaincheck.specs.Entries.{badChainSlot}
-use Rattle.chaincheck.specs.Visits.{chainsBy, chainsFound, FilesVisited}
+use Rattle.slotcheck.specs.Aids.Slots.{badSlotAt}
+use Rattle.chaincheck.specs.Aids.Entries.{badChainSlot}
+use Rattle.chaincheck.specs.Aids.Held.{plainSlot, heldSlot}
+use Rattle.chaincheck.specs.Aids.Visits.{chainsBy, chainsFound, FilesVisited}
 use Rattle.chaincheck.specs.declared.Chains.{Chains}
 use Rattle.chaincheck.specs.declared.Chains.the-variants.{BadChain, Held}
 use Rattle.sound.specs.Files.{valueOf}
-use Rattle.sound.specs.Counts.{fileCount, freeOf, heldOf, asideOf}
-use Rattle.sound.specs.Judged.{marksOfFiles, voice, marksJudged, chainsJudged, judged}
+use Rattle.sound.specs.Counts.{isFile, freeOf, heldBy, asideOf}
+use Rattle.sound.specs.Aids.Judged.{marksOfFiles, voice, marksJudged, chainsJudged, judged}
 use Rattle.sound.specs.Laws.Visited.{files-visited-marks}
 use Rattle.sound.specs.declared.Verdict.{Verdict}
 use Rattle.sound.specs.declared.Verdict.the-variants.{Sound, Finding}
@@ -63,7 +64,7 @@ chains-say (some s) files held r e rest = rw e
 
 module _ (k : Kind) (l : List ℕ) (free aside : ℕ) (r : Chains) (e : r ≡ chainsFound (lastCluster k) (clusterBytes k) l (rootAt k) (rootEntries k)) where
   said : (elim r as (λ _. Verdict) [ BadChain s ↦ Finding 5 s | Held a b ↦ marksJudged (lastCluster k) (valueOf k l) (marksOfFiles k l) (Sound a free b aside) ]) ≡ chainsJudged k l free aside
-  unfolding chainsFound chainsJudged
+  unfolding chainsFound chainsJudged plainSlot heldSlot isFile heldBy
   said = chains-say _ _ _ r e (λ a b. marksJudged (lastCluster k) (valueOf k l) (marksOfFiles k l) (Sound a free b aside))
 
   chains-bad : (s : ℕ) → r ≡ BadChain s → Finding 5 s ≡ chainsJudged k l free aside

@@ -3,22 +3,20 @@ use Prim.Native.Nat.{ℕ}
 use mathlib.Core.List.{List}
 use mathlib.Core.Logic.{_↔_}
 use mathlib.Core.Path.{_≡_, subst}
-use Rattle.chains.specs.Holders.{fileHolder}
+use Rattle.chains.specs.Aids.Holders.{fileHolder, FitTogether}
 use Rattle.chains.specs.Lists.{_∈_}
-use Rattle.chains.specs.Laws.Clusters.{file-owns}
+use Rattle.sound.specs.Laws.Clusters.{file-owns}
 use Rattle.chains.specs.Laws.Holders.{owns-same}
-use Rattle.diskette.specs.Kinds.{Usable}
+use Rattle.diskette.specs.Aids.Usable.{Usable}
 use Rattle.diskette.specs.Places.{clusterBytes, lastCluster, slotAt}
 use Rattle.diskette.specs.declared.Kind.{Kind}
 use Rattle.fields.specs.Fields.{startOf, sizeOf}
 use Rattle.sound.specs.Files.{valueOf, ChainOf}
 use Rattle.sound.specs.Findings.{InChain}
-use Rattle.sound.specs.FromFinding.{NoFinding}
-use Rattle.sound.specs.Holders.{rootHolders, rootChains}
-use Rattle.sound.specs.Sound.{SoundBy, Sound}
+use Rattle.sound.specs.Aids.Holders.{rootHolders, rootChains}
+use Rattle.sound.specs.Sound.{SoundBy, Sound, NoFinding}
 use Rattle.sound.specs.Laws.Geometry.{geometry}
 use Rattle.sound.specs.Laws.Theory.{no-finding-theory, theory-sound}
-use Rattle.chains.specs.Holders as Theory
 
 module _ (k : Kind) (u : Usable k) (l : List ℕ) where
   -- a file has one chain only
@@ -45,7 +43,7 @@ module _ (k : Kind) (u : Usable k) (l : List ℕ) where
     }
 
     -- what the proofs of the calls start from
-    pub sound-theory : Theory.Sound (lastCluster k) (valueOf k l) (rootHolders k l) (rootChains k l)
+    pub sound-theory : FitTogether (lastCluster k) (valueOf k l) (rootHolders k l) (rootChains k l)
     sound-theory = no-finding-theory k u l sound-no-finding
 
   -- Sound means that none of the seven holds (finding 1 is about the kind)

@@ -4,30 +4,28 @@ use Prim.Native.Nat.{ℕ}
 use mathlib.Core.List.{List}
 use mathlib.Core.Path.{_≡_, subst}
 use lib.Dec.{ltb}
-use Rattle.chains.specs.Holders.{Names}
+use Rattle.chains.specs.Aids.Holders.{NamesAll, FitTogether}
 use Rattle.chains.specs.Lists.{_∈_}
 use Rattle.chains.specs.Verdict.{None}
 use Rattle.chains.specs.Laws.Findings.{none-sound}
 use Rattle.chains.specs.Laws.Holders.{sound-names}
-use Rattle.diskette.specs.Kinds.{Usable}
+use Rattle.diskette.specs.Aids.Usable.{Usable}
 use Rattle.diskette.specs.Places.{lastCluster, slotAt}
 use Rattle.diskette.specs.declared.Kind.{Kind}
 use Rattle.sound.specs.Files.{valueOf, IsFile}
 use Rattle.sound.specs.Findings.{TablesDiffer, BadSlot, BadChain, InTwoChains, Lost}
-use Rattle.sound.specs.FromFinding.{NoFinding}
-use Rattle.sound.specs.Holders.{rootList, rootRows, rootHolders, rootChains}
-use Rattle.sound.specs.Judged.{voice}
-use Rattle.sound.specs.Sound.{SoundBy}
+use Rattle.sound.specs.Aids.Holders.{rootList, rootRows, rootHolders, rootChains}
+use Rattle.sound.specs.Aids.Judged.{voice}
+use Rattle.sound.specs.Sound.{SoundBy, NoFinding}
 use Rattle.sound.specs.Laws.Chains.{bad-chain-as, in-two-as, lost-as, file-owns-chain, listed-from}
 use Rattle.sound.specs.Laws.Geometry.{geometry}
 use Rattle.sound.specs.Laws.Holders.{root-holder, root-nobody, slot-same, slots-once}
 use Rattle.sound.specs.Laws.SamePlaces.{none-as}
-use Rattle.chains.specs.Holders as Theory
 
 module _ (k : Kind) (u : Usable k) (l : List ℕ) where
   -- ---- to the theory
 
-  pub no-finding-theory : NoFinding k l → Theory.Sound (lastCluster k) (valueOf k l) (rootHolders k l) (rootChains k l)
+  pub no-finding-theory : NoFinding k l → FitTogether (lastCluster k) (valueOf k l) (rootHolders k l) (rootChains k l)
   unfolding rootChains
   no-finding-theory n =
       let h = rootHolders k l in
@@ -39,8 +37,8 @@ module _ (k : Kind) (u : Usable k) (l : List ℕ) where
 
   -- ---- from the theory; χ is any family, as a change of one holder gives it
 
-  module _ (χ : ℕ → List ℕ) (v : Theory.Sound (lastCluster k) (valueOf k l) (rootHolders k l) χ) where
-    pub root-names : Names χ (rootList k)
+  module _ (χ : ℕ → List ℕ) (v : FitTogether (lastCluster k) (valueOf k l) (rootHolders k l) χ) where
+    pub root-names : NamesAll χ (rootList k)
     root-names = sound-names (geometry k u) (valueOf k l) (rootHolders k l) χ v (rootList k) (root-nobody k l) (slots-once k)
 
     -- whoever has a cluster is a file

@@ -7,23 +7,21 @@ use mathlib.Core.Path.{_≡_, refl, ap, _∙_}
 use lib.ListN.{length}
 use Rattle.chains.specs.Lists.{_∈_}
 use Rattle.chains.specs.Sizes.{clustersFor}
-use Rattle.chains.specs.Sums.{sumOver}
+use Rattle.chains.specs.Aids.Sums.{sumOver}
 use Rattle.chains.specs.Laws.Counts.{all-clusters, held-sizes, file-exact, nobody-exact}
 use Rattle.chains.specs.Laws.Rows.{rows-sum}
 use Rattle.chains.specs.Laws.Sizes.{clusters-zero}
 use Rattle.chains.specs.Laws.Sums.{sum-cong}
 use Rattle.chains.specs.Laws.Tests.{clash}
-use Rattle.diskette.specs.Kinds.{Usable}
-use Rattle.diskette.specs.Places.{clusterBytes, clusters, lastCluster, rootEntries, rootAt}
+use Rattle.diskette.specs.Aids.Usable.{Usable}
+use Rattle.diskette.specs.Places.{clusterBytes, clusters, lastCluster, rootEntries, rootAt, slotFrom}
 use Rattle.diskette.specs.declared.Kind.{Kind}
 use Rattle.fields.specs.Fields.{startOf, sizeOf}
-use Rattle.directory.specs.Search.{slotFrom}
 use Rattle.directory.specs.Slots.{standingOf, isPlain}
 use Rattle.directory.specs.Laws.Slots.{plain-is}
-use Rattle.chaincheck.specs.Held.{plainSlot, heldBy}
-use Rattle.sound.specs.Counts.{freeOf, heldOf, asideOf}
+use Rattle.sound.specs.Counts.{isFile, freeOf, heldBy, heldOf, asideOf}
 use Rattle.sound.specs.Files.{valueOf}
-use Rattle.sound.specs.Holders.{rootList, rootHolders, rootChains}
+use Rattle.sound.specs.Aids.Holders.{rootList, rootHolders, rootChains}
 use Rattle.sound.specs.Sound.{Sound}
 use Rattle.sound.specs.Laws.Geometry.{geometry}
 use Rattle.sound.specs.Laws.Holders.{root-listed, plain-holder, no-holder}
@@ -45,8 +43,8 @@ module _ (k : Kind) (u : Usable k) (l : List ℕ) where
       go true p = file-exact cb (startOf l a) (sizeOf l a) (rootHolders k l a) (root-listed k l a m ∙ plain-holder cb l a (plain-is l a .0 p)) n e
       go false p = nobody-exact cb (geometry k u .wide) (rootHolders k l a) (root-listed k l a m ∙ no-holder cb l a (λ q. clash (plain-is l a .1 q) p)) n e
 
-  held-slot : (s : ℕ) → clustersFor cb (bytesAt l (slotFrom (rootAt k) s)) ≡ heldBy cb l (rootAt k) s
-  unfolding heldBy plainSlot
+  held-slot : (s : ℕ) → clustersFor cb (bytesAt l (slotFrom (rootAt k) s)) ≡ heldBy k l s
+  unfolding heldBy isFile
   held-slot s = go (isPlain (standingOf l (slotFrom (rootAt k) s)))
     where
       go : (b : Bool) → clustersFor cb (cond b (sizeOf l (slotFrom (rootAt k) s)) 0) ≡ cond b (clustersFor cb (sizeOf l (slotFrom (rootAt k) s))) 0

@@ -4,15 +4,15 @@ use native.Mathlib.Omega.{arith}
 use mathlib.Core.List.{List}
 use mathlib.Core.Path.{_≡_, subst, _∙_}
 use lib.ListN.{replicate}
-use Rattle.chains.specs.Check.{chainMarks}
-use Rattle.chains.specs.Marks.{marks, marksOf}
+use Rattle.chains.specs.Aids.Check.{chainMarks}
+use Rattle.chains.specs.Aids.Marks.{marks, marksOf}
 use Rattle.diskette.specs.Places.{clusterBytes, lastCluster, rootEntries, rootAt}
 use Rattle.diskette.specs.declared.Kind.{Kind}
-use Rattle.chaincheck.specs.Entries.{chainsOf}
-use Rattle.chaincheck.specs.Visits.{marksIf, FilesVisited}
+use Rattle.chaincheck.specs.Aids.Entries.{chainsOf}
+use Rattle.chaincheck.specs.Aids.Visits.{marksIf, FilesVisited}
 use Rattle.chaincheck.specs.declared.Chains.{Chains}
 use Rattle.chaincheck.specs.declared.Chains.the-variants.{Held}
-use Rattle.sound.specs.Judged.{marksOfFiles}
+use Rattle.sound.specs.Aids.Judged.{marksOfFiles}
 
 module _ (k : Kind) (l m after : List ℕ) (r : Chains) (v : FilesVisited (lastCluster k) (clusterBytes k) l (rootAt k) (rootEntries k) m r after) (files held : ℕ) (t : r ≡ Held files held) where
   -- the marks, in a buffer that was zero

@@ -7,10 +7,11 @@ use mathlib.Core.Logic.{inl, inr, _≢_}
 use mathlib.Core.Path.{_≡_, sym, _∙_}
 use lib.ListN.{length, getD}
 use Rattle.image.specs.Bytes.{Bytes}
-use Rattle.image.specs.Store.{Outside}
+use Rattle.image.specs.Aids.Ranges.{Outside}
 use Rattle.image.specs.Numbers.{number}
 use Rattle.image.specs.Laws.Numbers.{number-same}
-use Rattle.table.specs.Entries.{wordAt, entryAt, entryOf, setAt, setBoth, Reaches, Agree}
+use Rattle.table.specs.Entries.{wordAt, entryAt, entryOf, setAt, setBoth}
+use Rattle.table.specs.Aids.Copies.{Reaches, Agree}
 use Rattle.table.specs.Laws.OneCopy.{entry-same, length-setAt, bytes-setAt, setAt-outside, setAt-inside, number-setAt, setAt-same, setAt-other}
 
 -- ---- which entries both copies hold

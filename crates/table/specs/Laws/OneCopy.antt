@@ -9,7 +9,8 @@ use mathlib.Core.Path.{_≡_, _∙_, ap}
 use lib.ListN.{length, getD}
 use borrow.Author.Tests.{eq-eqb, ne-eqb}
 use Rattle.image.specs.Bytes.{Bytes}
-use Rattle.image.specs.Store.{stored, part, Outside, Apart}
+use Rattle.image.specs.Store.{stored, part}
+use Rattle.image.specs.Aids.Ranges.{Outside, Apart}
 use Rattle.image.specs.Numbers.{number, digits}
 use Rattle.image.specs.Laws.Store.{length-stored, bytes-stored, stored-outside, stored-inside, part-apart}
 use Rattle.image.specs.Laws.Numbers.{length-digits, bytes-digits, number-small, number-stored, number-apart}

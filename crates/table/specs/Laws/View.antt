@@ -14,7 +14,8 @@ use Rattle.image.specs.Bytes.{Bytes}
 use Rattle.image.specs.Store.{stored}
 use Rattle.image.specs.Laws.Store.{stored-outside}
 use Rattle.image.specs.Laws.Numbers.{number-same}
-use Rattle.table.specs.Entries.{wordAt, entryOf, setBoth, Reaches, Agree, tableOf}
+use Rattle.table.specs.Entries.{wordAt, entryOf, setBoth, tableOf}
+use Rattle.table.specs.Aids.Copies.{Reaches, Agree}
 use Rattle.table.specs.Laws.OneCopy.{entry-same}
 use Rattle.table.specs.Laws.Copies.{setBoth-same, setBoth-other}
 

@@ -2,9 +2,9 @@
 use borrow.Author.Needs.{needs}
 use Prim.Native.Nat.{_-_}
 use mathlib.Core.Path.{_≡_}
-use Rattle.chains.specs.Verdict.{first}
+use Rattle.chains.specs.Aids.Verdict.{first}
 use Rattle.chains.specs.Laws.SearchTurns.{slots-start}
-use Rattle.tablecheck.specs.Copies.{differsAt}
+use Rattle.tablecheck.specs.Aids.Copies.{differsAt}
 use Rattle.tablecheck.specs.Laws.Tables.{difference-hit, difference-miss, difference-end}
 use Rattle.tablecheck.proofs.first_difference.Statement.{statement}
 use Rattle.tablecheck.proofs.first_difference.Tie as tie

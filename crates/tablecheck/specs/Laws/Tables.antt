@@ -13,11 +13,11 @@ use lib.ListN.{getD}
 use borrow.Author.Tests.{eqb-true, eq-eqb, ne-eqb}
 use Rattle.image.specs.Bytes.{Bytes}
 use Rattle.image.specs.Numbers.{number}
-use Rattle.chains.specs.Check.{badValue}
-use Rattle.chains.specs.Sums.{tally}
-use Rattle.chains.specs.Values.{freeAt, asideAt, freeCount, asideCount, freeb, linkb, endb, asideb, Valid, free, used, aside}
-use Rattle.chains.specs.Verdict.{first}
-use Rattle.chains.specs.Tests.{bit}
+use Rattle.chains.specs.Aids.Check.{badValue}
+use Rattle.chains.specs.Sums.{tally, bit}
+use Rattle.chains.specs.Values.{freeCount, asideCount, freeb, linkb, asideb, Valid, free, used, aside, endb}
+use Rattle.chains.specs.Aids.Values.{freeAt, asideAt}
+use Rattle.chains.specs.Aids.Verdict.{first}
 use Rattle.chains.specs.Laws.Tests.{says-not, true-says, false-says, clash}
 use Rattle.chains.specs.Laws.Values.{says-valid, says-aside}
 use Rattle.chains.specs.Laws.TallyTurns.{tally-hit, tally-miss, tally-end}
@@ -33,8 +33,8 @@ use Rattle.values.specs.Laws.Values.{meaning-is}
 use Rattle.table.specs.Entries.{tableOf, entryOf}
 use Rattle.table.specs.Laws.OneCopy.{entry-small}
 use Rattle.table.specs.Laws.View.{table-inside}
-use Rattle.tablecheck.specs.Copies.{differsAt, Alike, FourAlike}
-use Rattle.tablecheck.specs.Values.{censusBy, censusOf}
+use Rattle.tablecheck.specs.Aids.Copies.{differsAt, Alike, FourAlike}
+use Rattle.tablecheck.specs.Aids.Values.{censusBy, censusOf}
 use Rattle.tablecheck.specs.declared.Census.the-variants.{BadValue, Values}
 
 -- ---- the copies at offset j

@@ -11,16 +11,16 @@ use borrow.Author.Tests.{lt-ltb, le-ltb}
 use Rattle.image.specs.Store.{stored}
 use Rattle.image.specs.Laws.Store.{stored-append, stored-swap}
 use Rattle.text.specs.Puts.{Puts, PutsIn}
-use Rattle.text.specs.Digits.{digit, inDigits, widthIn, width, decimal}
+use Rattle.text.specs.Digits.{digitSign, inDigits, widthIn, width, decimal}
 
 -- ---- a sign
 
-pub sign-figure : (d : ℕ) → d < 10 → 0x30 + d ≡ digit d
-unfolding digit
+pub sign-figure : (d : ℕ) → d < 10 → 0x30 + d ≡ digitSign d
+unfolding digitSign
 sign-figure d h = rw (lt-ltb d 10 h)
 
-pub sign-letter : (d : ℕ) → 10 ≤ d → 0x41 + (d - 10) ≡ digit d
-unfolding digit
+pub sign-letter : (d : ℕ) → 10 ≤ d → 0x41 + (d - 10) ≡ digitSign d
+unfolding digitSign
 sign-letter d h = rw (le-ltb d 10 h)
 
 -- ---- how many digits
@@ -72,23 +72,23 @@ width-done n m w h inv = omega (arith, width-one n (omega arith))
 pub length-digits : (base w n : ℕ) → length (inDigits base w n) ≡ w
 unfolding inDigits
 length-digits base zero n = refl
-length-digits base (suc w) n = rw (length-append (inDigits base w (n / base)) (digit (n % base) ∷ [])) (omega (arith, length-digits base w (n / base)))
+length-digits base (suc w) n = rw (length-append (inDigits base w (n / base)) (digitSign (n % base) ∷ [])) (omega (arith, length-digits base w (n / base)))
 
 pub below-base : (n base : ℕ) → 1 < base → base ≤ 16 → n % base < 16
 below-base n base h k = omega (arith, mod-lt n {m = base} (omega arith))
 
 digits-step : (l : List ℕ) (at base n i : ℕ) → at + (i + 1) ≤ length l
-    → stored (set l (at + i) (digit (n % base))) at (inDigits base i (n / base)) ≡ stored l at (inDigits base (suc i) n)
+    → stored (set l (at + i) (digitSign (n % base))) at (inDigits base i (n / base)) ≡ stored l at (inDigits base (suc i) n)
 unfolding stored inDigits
 digits-step l at base n i f =
     let ds : List ℕ = inDigits base i (n / base) in
-    let x : List ℕ = digit (n % base) ∷ [] in
+    let x : List ℕ = digitSign (n % base) ∷ [] in
     let e : length ds ≡ i = length-digits base i (n / base) in
     stored-swap l (at + i) x at ds (omega arith) (omega arith) (inr (omega arith)) ∙ ap (λ (k : ℕ). stored (stored l at ds) (at + k) x) (sym e) ∙ sym (stored-append l at ds x)
 
 -- ---- in the form of the loop: what is left is stored before what stands there
 
-pub digits-turn : (l l₀ m : List ℕ) (at base n w i b : ℕ) → 0 < i → i ≤ w → length l ≡ length l₀ → at + w ≤ length l₀ → b ≡ digit (n % base)
+pub digits-turn : (l l₀ m : List ℕ) (at base n w i b : ℕ) → 0 < i → i ≤ w → length l ≡ length l₀ → at + w ≤ length l₀ → b ≡ digitSign (n % base)
     → stored l at (inDigits base i n) ≡ m → stored (set l (at + (i - 1)) b) at (inDigits base (i - 1) (n / base)) ≡ m
 digits-turn l l₀ m at base n w zero b h k e f d inv = absurd (omega arith)
 digits-turn l l₀ m at base n w (suc i) b h k e f d inv =

@@ -12,7 +12,7 @@ use borrow.Author.Tests.{eq-eqb, ne-eqb}
 use Rattle.image.specs.Store.{stored}
 use Rattle.names.specs.Alphabet.{plain}
 use Rattle.names.specs.Spelling.{dot, space, every}
-use Rattle.text.specs.Names.{blank, trimmed, shown, partText, extText}
+use Rattle.text.specs.Names.{onlySpaces, trimmed, shown, partText, extText}
 use Rattle.text.specs.Puts.{Puts, PutsIn}
 use Rattle.text.specs.Laws.Puts.{puts-nothing, puts-then}
 
@@ -21,17 +21,17 @@ drop-next s i h = rw (add-one i) (drop-cons s i 0 h)
 
 -- ---- whether only spaces are left
 
-module _ (s : List ℕ) (i : ℕ) (b : Bool) (inv : blank (drop i s) ≡ b) where
-  pub blank-turn : i < length s → getD s i 0 ≡ space → blank (drop (i + 1) s) ≡ b
-  unfolding blank every
+module _ (s : List ℕ) (i : ℕ) (b : Bool) (inv : onlySpaces (drop i s) ≡ b) where
+  pub blank-turn : i < length s → getD s i 0 ≡ space → onlySpaces (drop (i + 1) s) ≡ b
+  unfolding onlySpaces every
   blank-turn h e = rw (eq-eqb (getD s i 0) space e) at (rw (drop-next s i h) at inv)
 
   pub blank-found : i < length s → getD s i 0 ≢ space → false ≡ b
-  unfolding blank every
+  unfolding onlySpaces every
   blank-found h e = rw (ne-eqb (getD s i 0) space e) at (rw (drop-next s i h) at inv)
 
   pub blank-done : length s ≤ i → true ≡ b
-  unfolding blank every
+  unfolding onlySpaces every
   blank-done h = rw (drop-of-length-le s h) at inv
 
 -- ---- a byte
@@ -49,16 +49,16 @@ shown-other c b e t = rw (sym e ∙ t)
 whole-drop : (s : List ℕ) (i : ℕ) → take (length s - i) (drop i s) ≡ drop i s
 whole-drop s i = take-all (length s - i) (drop i s) (omega (arith, length-drop i s))
 
-blank-nothing : (s : List ℕ) → blank s ≡ true → partText s ≡ []
+blank-nothing : (s : List ℕ) → onlySpaces s ≡ true → partText s ≡ []
 unfolding partText trimmed
 blank-nothing [] e = refl
 blank-nothing (c ∷ cs) e = rw e
 
-part-next : (s : List ℕ) (i : ℕ) → i < length s → blank (drop i s) ≡ false → partText (drop i s) ≡ shown (getD s i 0) ∷ partText (drop (i + 1) s)
+part-next : (s : List ℕ) (i : ℕ) → i < length s → onlySpaces (drop i s) ≡ false → partText (drop i s) ≡ shown (getD s i 0) ∷ partText (drop (i + 1) s)
 unfolding partText trimmed
 part-next s i h e =
     let d : drop i s ≡ getD s i 0 ∷ drop (i + 1) s = drop-next s i h in
-    let f : blank (getD s i 0 ∷ drop (i + 1) s) ≡ false = rw d at e in
+    let f : onlySpaces (getD s i 0 ∷ drop (i + 1) s) ≡ false = rw d at e in
     rw (d, f)
 
 pub part-all : (l : List ℕ) (at : ℕ) (s : List ℕ) → stored l (at + 0) (partText (drop 0 s)) ≡ stored l at (partText s)
@@ -77,13 +77,13 @@ module _ (s l₀ l : List ℕ) (at i : ℕ) (bytes : stored l (at + i) (partText
   unfolding partText trimmed
   puts-end h k = puts-none (rw (drop-of-length-le s h)) k
 
-  module _ (b : Bool) (is : b ≡ blank (take (length s - i) (drop i s))) where
+  module _ (b : Bool) (is : b ≡ onlySpaces (take (length s - i) (drop i s))) where
     pub puts-stop : b ≡ true → i ≤ length s → PutsIn (length s) (partText s) l₀ at (at + i) l
-    puts-stop e h = puts-none (blank-nothing (drop i s) (ap blank (sym (whole-drop s i)) ∙ sym is ∙ e)) h
+    puts-stop e h = puts-none (blank-nothing (drop i s) (ap onlySpaces (sym (whole-drop s i)) ∙ sym is ∙ e)) h
 
     module _ (e : b ≡ false) (h : i < length s) where
       more : partText (drop i s) ≡ shown (getD s i 0) ∷ partText (drop (i + 1) s)
-      more = part-next s i h (ap blank (sym (whole-drop s i)) ∙ sym is ∙ e)
+      more = part-next s i h (ap onlySpaces (sym (whole-drop s i)) ∙ sym is ∙ e)
 
       pub part-turn : (c : ℕ) → c ≡ shown (getD s i 0) → stored (set l (at + i) c) (at + (i + 1)) (partText (drop (i + 1) s)) ≡ stored l₀ at (partText s)
       unfolding stored
@@ -96,7 +96,7 @@ module _ (s l₀ l : List ℕ) (at i : ℕ) (bytes : stored l (at + i) (partText
 
 -- ---- an extension
 
-module _ (s : List ℕ) (b : Bool) (is : b ≡ blank s) where
+module _ (s : List ℕ) (b : Bool) (is : b ≡ onlySpaces s) where
   pub puts-no-extension : (l : List ℕ) (at : ℕ) → b ≡ true → Puts (extText s) l at at l
   unfolding extText
   puts-no-extension l at e = rw (sym is ∙ e) (puts-nothing l at)

@@ -6,13 +6,14 @@ use mathlib.Core.List.{List, []}
 use mathlib.Core.Path.{_≡_, refl, sym, ap, _∙_}
 use lib.ListN.{length, getD}
 use Rattle.image.specs.Store.{part}
-use Rattle.contents.specs.Contents.{chainFrom, placeOf}
+use Rattle.contents.specs.Contents.{chainFrom}
+use Rattle.contents.specs.Aids.Contents.{placeOf}
 use Rattle.contents.specs.Laws.Chain.{chain-room}
 use Rattle.diskette.specs.Places.{firstData, clusterBytes, lastCluster, slotAt}
 use Rattle.diskette.specs.declared.Kind.{Kind}
 use Rattle.fields.specs.Fields.{startOf, sizeOf}
 use Rattle.calls.specs.Outcome.{Outcome, refusal, decided}
-use Rattle.calls.specs.Ready.{OnVolume}
+use Rattle.calls.specs.Aids.Ready.{OnVolume}
 use Rattle.calls.specs.Laws.Rows.{Stops, stopped}
 use Rattle.calls.specs.Laws.Ready.{on-kind}
 use Rattle.calls.specs.Laws.Named.{FileNamed}
@@ -20,10 +21,12 @@ use native.Mathlib.Nat.{div-lt-iff-lt-mul, mod-lt}
 use Rattle.chains.specs.Content.{byteAt}
 use Rattle.chains.specs.Laws.Lists.{index-mem}
 use Rattle.chains.specs.Laws.Runs.{content-run}
-use Rattle.holding.specs.Holding.{fileBytes, FileIn}
+use Rattle.holding.specs.Holding.{fileBytes}
+use Rattle.sound.specs.Files.{IsFile}
 use Rattle.holding.specs.Laws.Clusters.{on-clusters}
 use Rattle.holding.specs.Laws.Chain.{file-holds}
-use Rattle.viewing.specs.View.{viewCount, viewAt, viewPart, viewRows, viewOutcome, Views, ViewNumbers, Sees, SeesFile}
+use Rattle.viewing.specs.View.{viewCount, viewAt, viewPart, viewRows, viewOutcome, Views, ViewNumbers}
+use Rattle.viewing.specs.Aids.View.{Sees, SeesFile}
 
 pub views-only : {img s : List ℕ} {offset : ℕ} {p q : List ℕ} → Views img s offset p → Views img s offset q → p ≡ q
 views-only x y = x .is ∙ sym (y .is)
@@ -38,7 +41,7 @@ offset-inside cb offset wide = omega (arith, mod-lt offset wide)
 
 -- ---- the file in a slot of a volume that is ready
 
-module _ (img : List ℕ) (k : Kind) (v : OnVolume img k) (slot : ℕ) (i : FileIn img k slot) (a : ℕ) (ae : a ≡ slotAt k slot) (size : ℕ) (sized : size ≡ sizeOf img a) (offset : ℕ) where
+module _ (img : List ℕ) (k : Kind) (v : OnVolume img k) (slot : ℕ) (i : IsFile k img slot) (a : ℕ) (ae : a ≡ slotAt k slot) (size : ℕ) (sized : size ≡ sizeOf img a) (offset : ℕ) where
   pub see-none : size ≤ offset → SeesFile img k slot offset 0 0 0
   unfolding viewPart
   see-none h = record {
@@ -104,7 +107,7 @@ module _ (img s : List ℕ) (offset : ℕ) where
 
 -- ---- what it means: the part is bytes of the file
 
-pub view-content : (img : List ℕ) (k : Kind) → OnVolume img k → (slot : ℕ) → FileIn img k slot → (offset : ℕ)
+pub view-content : (img : List ℕ) (k : Kind) → OnVolume img k → (slot : ℕ) → IsFile k img slot → (offset : ℕ)
     → viewPart k img slot offset ≡ part (fileBytes k img slot) offset (viewCount (clusterBytes k) (sizeOf img (slotAt k slot)) offset)
 unfolding viewPart fileBytes
 view-content img k v slot i offset =

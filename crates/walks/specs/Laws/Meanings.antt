@@ -5,7 +5,7 @@ use mathlib.Core.Bool.{Bool, true, false}
 use mathlib.Core.List.{List}
 use mathlib.Core.Path.{_≡_, sym, _∙_}
 use Rattle.image.specs.Bytes.{Bytes}
-use Rattle.chains.specs.Values.{endb, linkb}
+use Rattle.chains.specs.Values.{linkb, endb}
 use Rattle.chains.specs.Laws.Tests.{true-says, false-says}
 use Rattle.chains.specs.Laws.Values.{says-end, says-link}
 use Rattle.values.specs.Values.{Values, meaningOf}
@@ -15,7 +15,7 @@ use Rattle.values.specs.declared.Meaning.the-variants.{Free, Next, Aside, End, 
 use Rattle.table.specs.Entries.{entryOf}
 use Rattle.table.specs.Laws.OneCopy.{entry-small}
 use Rattle.table.specs.Laws.View.{table-inside}
-use Rattle.walks.specs.Walks.{ValueIs}
+use Rattle.walks.specs.Aids.Walks.{ValueIs}
 
 pub value-is : (last : ℕ) (l : List ℕ) (c v : ℕ) → Bytes l → 2 ≤ c → c ≤ last → v ≡ entryOf l c → ValueIs last l c v
 value-is last l c v bytes from to r = record { is = r ∙ sym (table-inside last l c from to); small = rw r (entry-small 512 l c bytes) }

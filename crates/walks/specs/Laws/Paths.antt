@@ -5,15 +5,16 @@ use mathlib.Core.List.{List, [], _∷_, _++_}
 use mathlib.Core.Logic.{inl, inr}
 use mathlib.Core.Path.{_≡_, refl, sym, ap, subst, _∙_}
 use lib.ListN.{length, getD}
-use Rattle.chains.specs.Chain.{Chain, Leads}
-use Rattle.chains.specs.Lists.{_∈_, occ}
-use Rattle.chains.specs.Marks.{marks}
-use Rattle.chains.specs.Sizes.{Geometry}
+use Rattle.chains.specs.Aids.Chain.{Leads, Chain}
+use Rattle.chains.specs.Lists.{_∈_}
+use Rattle.chains.specs.Aids.Lists.{occ}
+use Rattle.chains.specs.Aids.Marks.{marks}
+use Rattle.chains.specs.Aids.Sizes.{Geometry}
 use Rattle.chains.specs.Values.{Link}
 use Rattle.chains.specs.Laws.Chain.{chain-once}
 use Rattle.chains.specs.Laws.Lists.{dec-mem, mem-occ, occ-append, occ-not}
 use Rattle.chains.specs.Laws.Marks.{marks-at}
-use Rattle.walks.specs.Walks.{Path, Tails}
+use Rattle.walks.specs.Aids.Walks.{Path, Tails}
 
 -- ---- paths
 

@@ -9,15 +9,15 @@ use lib.ListN.{length, getD, set, replicate, length-append, length-set, getD-rep
 use mir.Syntax.{w64}
 use mir.Val.{Fits}
 use lib.Seq.{getD-set-same, getD-set-other}
-use Rattle.chains.specs.Chain.{Chain, Leads}
+use Rattle.chains.specs.Aids.Chain.{Leads, Chain}
 use Rattle.chains.specs.Lists.{_∈_}
-use Rattle.chains.specs.Marks.{marks}
-use Rattle.chains.specs.Sizes.{Geometry}
+use Rattle.chains.specs.Aids.Marks.{marks}
+use Rattle.chains.specs.Aids.Sizes.{Geometry}
 use Rattle.chains.specs.Values.{Link}
 use Rattle.chains.specs.Laws.Chain.{chain-length}
 use Rattle.chains.specs.Laws.Lists.{dec-mem, mem-append}
 use Rattle.table.specs.Entries.{tableOf}
-use Rattle.walks.specs.Walks.{ValueIs, LeadsTo, Tails, WalkEnds, Walked, walkedBy, leftStored, Visited}
+use Rattle.walks.specs.Aids.Walks.{ValueIs, LeadsTo, Tails, WalkEnds, Walked, walkedBy, leftStored, Visited}
 use Rattle.walks.specs.Laws.Paths.{leads-chain, chain-leads, mark-of, mark-unmet, marks-rising}
 use Rattle.walks.specs.declared.Length.the-variants.{Of, NoEnd}
 use Rattle.walks.specs.declared.Walk.{Walk}

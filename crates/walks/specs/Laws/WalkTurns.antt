@@ -9,10 +9,10 @@ use mir.Syntax.{w8}
 use mir.Val.{Fits}
 use lib.ListN.{length, getD, set, length-append}
 use lib.Seq.{getD-set-same}
-use Rattle.chains.specs.Chain.{Leads}
+use Rattle.chains.specs.Aids.Chain.{Leads}
 use Rattle.chains.specs.Lists.{_∈_}
-use Rattle.chains.specs.Marks.{mark, marks}
-use Rattle.chains.specs.Sizes.{Geometry}
+use Rattle.chains.specs.Aids.Marks.{mark, marks}
+use Rattle.chains.specs.Aids.Sizes.{Geometry}
 use Rattle.chains.specs.Values.{Link}
 use Rattle.chains.specs.Laws.Chain.{chain-length}
 use Rattle.chains.specs.Laws.Marks.{marks-append, marks-length, marks-stay}
@@ -22,7 +22,7 @@ use Rattle.values.specs.Values.{Values, meaningOf}
 use Rattle.values.specs.declared.Meaning.{Meaning}
 use Rattle.values.specs.declared.Meaning.the-variants.{Free, Next, Aside, End, NoneOfThese}
 use Rattle.table.specs.Entries.{tableOf}
-use Rattle.walks.specs.Walks.{ValueIs, Tails, Walked, Walking}
+use Rattle.walks.specs.Aids.Walks.{ValueIs, Tails, Walked, Walking}
 use Rattle.walks.specs.Laws.Meanings.{isEnd, isNext, meaning-says, end-said, link-said}
 use Rattle.walks.specs.Laws.Paths.{path-on, path-leads, path-head, path-rising, leads-chain, path-split, path-once, mark-of, mark-unmet, marks-rising, tail-twice}
 use Rattle.walks.specs.declared.Walk.the-variants.{Ends, Endless}

@@ -8,27 +8,29 @@ use mathlib.Core.Path.{_≡_, refl}
 use lib.ListN.{length}
 use Rattle.image.specs.Bytes.{Bytes}
 use Rattle.image.specs.Numbers.{number, digits}
-use Rattle.diskette.specs.Kinds.{named, kindFE, Usable}
+use Rattle.diskette.specs.Kinds.{named, kindFE}
+use Rattle.diskette.specs.Aids.Usable.{Usable}
 use Rattle.diskette.specs.Places.{rootAt, rootEntries, slotAt}
 use Rattle.diskette.specs.Laws.Kinds.{named-usable}
 use Rattle.search.specs.declared.Found.the-variants.{At, Nothing}
 use Rattle.fields.specs.Fields.{withEntry}
-use Rattle.directory.specs.Search.{lowestOpenSlot, slotNamed}
+use Rattle.directory.specs.Search.{lowestVacant, slotNamed}
 use Rattle.names.specs.Alphabet.{plain, allowed, capital}
-use Rattle.names.specs.Reading.{nameOf, fitting, before, after}
+use Rattle.names.specs.Reading.{nameGiven, fitting, beforeFirst, afterFirst}
 use Rattle.names.specs.Spelling.{every, eleven}
-use Rattle.opened.specs.Places.{LiveAt}
-use Rattle.opened.specs.Records.{usedOf, accessOf, slotOf, pointerOf, recordBytes, markBytes, numberBytes}
+use Rattle.opened.specs.Places.{LivePlace}
+use Rattle.opened.specs.Records.{usedOf, accessOf, slotOf, pointerOf, recordBytes}
+use Rattle.opened.specs.Aids.Records.{markBytes, numberBytes}
 use Rattle.formatting.specs.Format.{blank}
 use Rattle.formatting.specs.Laws.Blank.{blank-bytes, blank-slot}
 use Rattle.formatting.specs.Laws.Sound.{blank-no-file, blank-on}
-use Rattle.calls.specs.Ready.{OnVolume}
+use Rattle.calls.specs.Aids.Ready.{OnVolume}
 use Rattle.calls.specs.Refusals.{badAttr, fileFound, slotForNew}
 use Rattle.calls.specs.Laws.Ready.{on-kind, on-of-kind}
 use Rattle.changes.specs.Files.{File, file, Holds}
 use Rattle.changes.specs.Laws.Changed.{on-sound, changed-on}
 use Rattle.changes.specs.Laws.Made.{new-changed, new-holds}
-use Rattle.changes.specs.Laws.NewSlot.{none-of-name, lowest-open}
+use Rattle.changes.specs.Laws.NewSlot.{none-of-name, lowest-vacant}
 use Rattle.worked.specs.Worked.{Scene}
 
 -- ---- the blank volume
@@ -50,33 +52,33 @@ bytes = blank-bytes kindFE usable refl
 abbrev given : List ℕ
 given = 0x41 ∷ []
 
-fits : (nameOf given .fits ≡ true) × (length (nameOf given .name) ≡ 11)
-unfolding nameOf fitting before after every allowed plain eleven capital
+fits : (nameGiven given .fits ≡ true) × (length (nameGiven given .name) ≡ 11)
+unfolding nameGiven fitting beforeFirst afterFirst every allowed plain eleven capital
 fits = (refl, refl)
 
 may : badAttr 0 ≡ false
 unfolding badAttr
 may = refl
 
-missing : slotNamed (blank kindFE) (rootAt kindFE) (rootEntries kindFE) (nameOf given .name) ≡ Nothing
+missing : slotNamed (blank kindFE) (rootAt kindFE) (rootEntries kindFE) (nameGiven given .name) ≡ Nothing
 unfolding fileFound
 missing = rw (on-kind (blank kindFE) kindFE on-blank) at (none-of-name kindFE (blank kindFE) on-blank (λ s. none) (blank-no-file kindFE usable) given (fits .1) no-other)
   where
-    no-other : (t : ℕ) (f : File) → none ≡ some f → f .name ≡ nameOf given .name → ⊥
+    no-other : (t : ℕ) (f : File) → none ≡ some f → f .name ≡ nameGiven given .name → ⊥
     no-other t f e q = let z : _≡_ {A = ℕ} 0 1 = cc (e) in omega arith
 
-vacant : lowestOpenSlot (blank kindFE) (rootAt kindFE) (rootEntries kindFE) ≡ At 0
+vacant : lowestVacant (blank kindFE) (rootAt kindFE) (rootEntries kindFE) ≡ At 0
 unfolding slotForNew
 vacant = rw (on-kind (blank kindFE) kindFE on-blank) at
-    (lowest-open kindFE (blank kindFE) on-blank (λ s. none) (blank-no-file kindFE usable) 0 (omega arith) (λ t h. absurd (omega arith)) (blank-slot kindFE usable 0 (omega arith)))
+    (lowest-vacant kindFE (blank kindFE) on-blank (λ s. none) (blank-no-file kindFE usable) 0 (omega arith) (λ t h. absurd (omega arith)) (blank-slot kindFE usable 0 (omega arith)))
 
 abbrev image : List ℕ
-image = withEntry (blank kindFE) (slotAt kindFE 0) (nameOf given .name) 0 0 0 0 0
+image = withEntry (blank kindFE) (slotAt kindFE 0) (nameGiven given .name) 0 0 0 0 0
 
 on : OnVolume image kindFE
 on = changed-on kindFE (blank kindFE) on-blank image 0 [] (new-changed kindFE (blank kindFE) on-blank bytes given (fits .0) 0 may 0 0 0 missing vacant)
 
-made : Holds kindFE image 0 (file (nameOf given .name) 0 [])
+made : Holds kindFE image 0 (file (nameGiven given .name) 0 [])
 made = new-holds kindFE (blank kindFE) on-blank bytes given (fits .0) 0 may 0 0 0 missing vacant
 
 -- ---- the only place of the table: slot 0, access 2, pointer 10
@@ -84,7 +86,7 @@ made = new-holds kindFE (blank kindFE) on-blank bytes given (fits .0) 0 may 0 0 
 abbrev table : List ℕ
 table = recordBytes 2 0 10 false
 
-live : LiveAt table 0 image (rootAt kindFE) (rootEntries kindFE)
+live : LivePlace table 0 image (rootAt kindFE) (rootEntries kindFE)
 unfolding usedOf accessOf slotOf recordBytes markBytes numberBytes number digits
 live = record { counted = omega arith; used = refl; access = omega arith; slot = omega arith; plain = made .is-file .1 }
 

@@ -5,7 +5,7 @@ use mathlib.Core.Path.{_≡_, refl, sym}
 use lib.IntN.{negsuc}
 use Rattle.image.specs.Store.{stored}
 use Rattle.image.specs.Numbers.{number, digits}
-use Rattle.chains.specs.Content.{clusterAt}
+use Rattle.chains.specs.Content.{clusterBegin}
 use Rattle.chains.specs.Sizes.{clustersFor}
 use Rattle.chains.specs.Laws.Tests.{true-says}
 use Rattle.diskette.specs.Images.{kindOfImage}
@@ -18,13 +18,13 @@ use Rattle.stamps.specs.Stamps.{packed, timeFits, dateFits}
 use Rattle.stamps.specs.declared.Stamp.{Stamp}
 use Rattle.stamps.specs.declared.Packed.the-variants.{OutOfRange}
 use Rattle.offset.specs.Offset.{movedBy}
-use Rattle.opened.specs.Places.{liveSlot}
+use Rattle.opened.specs.Aids.Places.{liveSlot}
 use Rattle.opened.specs.Records.{slotOf}
 use Rattle.opened.specs.Laws.Places.{live-slot-at}
 use Rattle.sound.specs.Laws.IsSound.{known-says}
 use Rattle.calls.specs.Outcome.{refusal, decided}
 use Rattle.calls.specs.Numbers.{invalidFunction, outOfRange}
-use Rattle.calls.specs.Ready.{OnVolume}
+use Rattle.calls.specs.Aids.Ready.{OnVolume}
 use Rattle.calls.specs.Refusals.{notLive}
 use Rattle.calls.specs.Laws.Rows.{stopped}
 use Rattle.calls.specs.Laws.Ready.{known-passed, sound-passed, volume-past}
@@ -65,5 +65,5 @@ unfolding packed timeFits dateFits
 out = refl
 
 pub worked : WorkedNumbers
-unfolding entryAt setAt taken kept stored number digits packed timeFits dateFits clusterAt clustersFor
+unfolding entryAt setAt taken kept stored number digits packed timeFits dateFits clusterBegin clustersFor
 worked x = rw (close-refused x (stamp 1983 9 1 18 5 30) out, seek-well x, seek-refused x)

@@ -7,25 +7,25 @@ use mathlib.Core.Path.{_≡_, refl, sym, ap, _∙_}
 use lib.Dec.{eqb}
 use lib.ListN.{length, take}
 use borrow.Author.Tests.{eq-eqb, ne-eqb}
-use Rattle.chains.specs.Write.{accepted}
 use Rattle.diskette.specs.Places.{clusterBytes, rootAt, rootEntries}
 use Rattle.diskette.specs.declared.Kind.{Kind}
 use Rattle.search.specs.declared.Found.{Found}
 use Rattle.search.specs.declared.Found.the-variants.{At}
 use Rattle.opened.specs.Records.{accessOf, pointerOf, withPointer, withWritten}
-use Rattle.opened.specs.Places.{liveSlot}
+use Rattle.opened.specs.Aids.Places.{liveSlot}
 use Rattle.sound.specs.Counts.{freeOf}
 use Rattle.calls.specs.Outcome.{Row, Outcome, refusal, decided, refusedBy, answering}
 use Rattle.calls.specs.Numbers.{accessDenied}
-use Rattle.calls.specs.Ready.{OnVolume}
+use Rattle.calls.specs.Aids.Ready.{OnVolume}
 use Rattle.calls.specs.Laws.Rows.{Stops, stops-at, stopped}
 use Rattle.calls.specs.Laws.Ready.{on-kind, on-usable, known-passed, sound-passed}
 use Rattle.calls.specs.Laws.Files.{live-passed, live-slot}
 use Rattle.calls.specs.declared.Answer.{Answer}
-use Rattle.holding.specs.Holding.{fileChain, FileIn}
-use Rattle.putting.specs.Longer.{roomOf}
+use Rattle.holding.specs.Holding.{fileChain}
+use Rattle.sound.specs.Files.{IsFile}
 use Rattle.putting.specs.Written.{writtenIn}
-use Rattle.writing.specs.Write.{writeRows, writeAt, writeOutcome, Writes, WritesAt}
+use Rattle.writing.specs.Write.{writeRows, writeAt, writeOutcome, Writes, accepted, roomOf}
+use Rattle.writing.specs.Aids.Write.{WritesAt}
 use Rattle.putting.specs.Laws.Room.{room-clusters, room-fits}
 
 pub writes-only : {img t : List ℕ} {h : ℕ} {bs : List ℕ} {r r′ : Answer} {l l′ m m′ : List ℕ} → Writes img t h bs r l m → Writes img t h bs r′ l′ m′
@@ -36,12 +36,11 @@ writes-only x y =
 
 -- ---- the room
 
-module _ (img : List ℕ) (k : Kind) (v : OnVolume img k) (slot : ℕ) (i : FileIn img k slot) (own free : ℕ) (eo : own ≡ length (fileChain k img slot)) (ef : free ≡ freeOf k img) where
+module _ (img : List ℕ) (k : Kind) (v : OnVolume img k) (slot : ℕ) (i : IsFile k img slot) (own free : ℕ) (eo : own ≡ length (fileChain k img slot)) (ef : free ≡ freeOf k img) where
   pub clusters-fit : own + free < 18446744073709551616
   clusters-fit = omega (arith, room-clusters img k v slot i, on-usable img k v .below-aside)
 
   pub room-fits-word : (cb : ℕ) → cb ≡ clusterBytes k → (own + free) * cb < 18446744073709551616
-  unfolding roomOf
   room-fits-word cb ec = rw (eo, ef, ec) (omega (arith, room-fits img k v slot i))
 
   pub room-is : (cb : ℕ) → cb ≡ clusterBytes k → (own + free) * cb ≡ roomOf k img slot
@@ -69,11 +68,11 @@ unfolding accepted
 count-within room pointer bs n e = omega arith
 
 module _ (img : List ℕ) (k : Kind) (slot room pointer many n : ℕ) (er : room ≡ roomOf k img slot) (e : n ≡ accepted room pointer many) (some : n ≢ 0) where
-  pub count-reaches : pointer + n ≤ roomOf k img slot
-  unfolding accepted
+  pub count-reaches : pointer + n ≤ (length (fileChain k img slot) + freeOf k img) * clusterBytes k
+  unfolding accepted roomOf
   count-reaches = omega arith
 
-  module _ (v : OnVolume img k) (i : FileIn img k slot) where
+  module _ (v : OnVolume img k) (i : IsFile k img slot) where
     pub pointer-fits : pointer + n < 4294967296
     pointer-fits = omega (arith, count-reaches, room-fits img k v slot i)
 

@@ -4,7 +4,7 @@ use Prim.Native.Nat.{_-_}
 use mathlib.Core.Logic.{⊎-elim}
 use mathlib.Core.Path.{_≡_}
 use lib.ListN.{length}
-use Rattle.chaincheck.specs.Visits.{Underway}
+use Rattle.chaincheck.specs.Aids.Visits.{Underway}
 use Rattle.chaincheck.specs.Laws.FileTurns.{files-begin, files-done, files-bad, files-skip, files-add, held-fits}
 use Rattle.chaincheck.proofs.files.visit_files.Statement.{statement}
 use Rattle.chaincheck.proofs.files.visit_files.Tie as tie

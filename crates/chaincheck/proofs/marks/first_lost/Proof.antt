@@ -2,8 +2,8 @@
 use borrow.Author.Needs.{needs}
 use Prim.Native.Nat.{_-_, _≤_}
 use mathlib.Core.Path.{_≡_}
-use Rattle.chains.specs.Check.{lost}
-use Rattle.chains.specs.Verdict.{first}
+use Rattle.chains.specs.Aids.Check.{lost}
+use Rattle.chains.specs.Aids.Verdict.{first}
 use Rattle.chains.specs.Laws.SearchTurns.{clusters-start}
 use Rattle.table.specs.Entries.{tableOf}
 use Rattle.chaincheck.specs.Laws.Searches.{search-hit, search-miss, search-done}

@@ -10,12 +10,12 @@ root-at-requires c κs = search on-usable
 root-entries-requires : tie.Need-root-entries-requires
 root-entries-requires c κs = search on-usable
 
-lowest-open-slot-requires : tie.Need-lowest-open-slot-requires
-lowest-open-slot-requires c κs = search root-within
+lowest-vacant-requires : tie.Need-lowest-vacant-requires
+lowest-vacant-requires c κs = search root-within
 
 returns : tie.Need-returns
 returns c = cc
 
 pub slot-for-new-spec : {M : Type 1} → statement M
 slot-for-new-spec =
-    tie.close (tie.spec root-at-requires root-entries-requires lowest-open-slot-requires returns)
+    tie.close (tie.spec root-at-requires root-entries-requires lowest-vacant-requires returns)

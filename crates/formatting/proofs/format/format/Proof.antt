@@ -1,6 +1,6 @@
 -- Each way out is one case of the rule.
 use native.Mathlib.Omega.{arith}
-use Rattle.diskette.specs.Kinds.{Usable}
+use Rattle.diskette.specs.Aids.Usable.{Usable}
 use Rattle.diskette.specs.Laws.Kinds.{named-usable}
 use Rattle.formatting.specs.Laws.Format.{no-such-kind, wrong-length, made-blank}
 use borrow.Author.Needs.{needs}

@@ -3,13 +3,13 @@ use borrow.Author.Needs.{needs}
 use Prim.Native.Nat.{_-_, _≤_}
 use mathlib.Core.Path.{_≡_}
 use lib.ListN.{length, drop}
-use Rattle.text.specs.Names.{blank}
+use Rattle.text.specs.Names.{onlySpaces}
 use Rattle.text.specs.Laws.Names.{blank-turn, blank-found, blank-done}
 use Rattle.text.proofs.name.only_spaces.Statement.{statement}
 use Rattle.text.proofs.name.only_spaces.Tie as tie
 
 abbrev Inv-loop : tie.InvT-loop
-Inv-loop part i₀ i = (i ≤ length part) × (blank (drop i part) ≡ blank part)
+Inv-loop part i₀ i = (i ≤ length part) × (onlySpaces (drop i part) ≡ onlySpaces part)
 
 abbrev μ-loop : tie.MeasureT-loop
 μ-loop part i₀ i = length part - i

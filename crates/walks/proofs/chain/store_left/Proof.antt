@@ -4,7 +4,7 @@ use Prim.Native.Nat.{_-_, _≤_}
 use mathlib.Core.Path.{_≡_}
 use lib.ListN.{length}
 use Rattle.table.specs.Entries.{tableOf}
-use Rattle.walks.specs.Walks.{LeadsTo, leftStored}
+use Rattle.walks.specs.Aids.Walks.{LeadsTo, leftStored}
 use Rattle.walks.specs.Laws.Tails.{store-from, store-to, store-at, store-inside, store-on, store-turn, store-end}
 use Rattle.walks.proofs.chain.store_left.Statement.{statement}
 use Rattle.walks.proofs.chain.store_left.Tie as tie

@@ -5,7 +5,7 @@ use Prim.Native.Nat.{_-_}
 use mathlib.Core.Path.{_≡_}
 use lib.ListN.{length}
 use Rattle.table.specs.Entries.{tableOf}
-use Rattle.walks.specs.Walks.{Walking}
+use Rattle.walks.specs.Aids.Walks.{Walking}
 use Rattle.walks.specs.Laws.WalkTurns.{walk-begins, walk-circles, walk-joins, mark-fits, walk-ends-stored, walk-ends, walk-goes-on, walk-free, walk-aside, walk-bad, walk-spent}
 use Rattle.walks.proofs.chain.walk.Statement.{statement}
 use Rattle.walks.proofs.chain.walk.Tie as tie

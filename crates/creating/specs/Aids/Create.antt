@@ -1,0 +1,21 @@
+-- The last rows, of an existing file and of a new one.
+use Prim.Native.Nat.{ℕ}
+use mathlib.Core.List.{List, []}
+use mathlib.Core.Path.{_≡_}
+use Rattle.diskette.specs.Places.{rootAt, rootEntries}
+use Rattle.diskette.specs.declared.Kind.{Kind}
+use Rattle.directory.specs.Search.{lowestVacant}
+use Rattle.calls.specs.Outcome.{outcome, decided}
+use Rattle.calls.specs.Refusals.{placeFound}
+use Rattle.calls.specs.declared.Answer.{Answer}
+use Rattle.freeing.specs.Freed.{chainFreed}
+use Rattle.creating.specs.Create.{oldRows, made, newRows}
+
+pub record Empties (img t : List ℕ) (k : Kind) (slot : ℕ) (name : List ℕ) (attr time date : ℕ) (r : Answer) (after table : List ℕ) : Type 0 where
+  pub is : outcome (r .number) (r .value) after table [] ≡ decided (oldRows img t slot) (made (chainFreed k img slot) t k slot name attr time date) img t []
+
+abbrev pub newSlot : Kind → List ℕ → ℕ
+newSlot k img = placeFound (lowestVacant img (rootAt k) (rootEntries k))
+
+pub record MakesNew (img t : List ℕ) (k : Kind) (name : List ℕ) (attr time date : ℕ) (r : Answer) (after table : List ℕ) : Type 0 where
+  pub is : outcome (r .number) (r .value) after table [] ≡ decided (newRows img t k) (made img t k (newSlot k img) name attr time date) img t []

@@ -1,0 +1,4 @@
+-- Aids to the proofs. No definition beside this folder rests on them.
+pub mod Freed
+pub mod Linked
+pub mod Leaves

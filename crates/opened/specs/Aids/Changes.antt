@@ -1,0 +1,41 @@
+-- What a place holds, and what a change of one place leaves, in the words of the fields.
+use Prim.Native.Nat.{ℕ, _≤_, _<_}
+use mathlib.Core.Bool.{Bool}
+use mathlib.Core.List.{List}
+use mathlib.Core.Logic.{_≢_}
+use mathlib.Core.Path.{_≡_}
+use lib.ListN.{length, getD}
+use Rattle.opened.specs.Records.{placeCount, usedOf, slotOf, accessOf, pointerOf, writtenOf, placeAt}
+
+-- the five fields of place p
+pub record PlaceHolds (t : List ℕ) (p : ℕ) (u : Bool) (a s x : ℕ) (w : Bool) : Type 0 where
+  pub used : usedOf t p ≡ u
+  pub access : accessOf t p ≡ a
+  pub slot : slotOf t p ≡ s
+  pub pointer : pointerOf t p ≡ x
+  pub written : writtenOf t p ≡ w
+
+-- place q of m holds what place q of t holds
+abbrev pub SamePlace : List ℕ → List ℕ → ℕ → Type 0
+SamePlace m t q = PlaceHolds m q (usedOf t q) (accessOf t q) (slotOf t q) (pointerOf t q) (writtenOf t q)
+
+-- byte j of the table stands after the records that are used
+abbrev pub PastPlaces : List ℕ → ℕ → Type 0
+PastPlaces t j = placeAt (placeCount t) ≤ j
+
+-- m is t but for what place p holds
+pub record OnlyAt (p : ℕ) (m t : List ℕ) : Type 0 where
+  pub long : length m ≡ length t
+  pub others : (q : ℕ) → q ≢ p → SamePlace m t q
+  pub past : (j : ℕ) → PastPlaces t j → getD m j 0 ≡ getD t j 0
+
+-- place q of m is taken, or not, for the same file and the same access as place q of t
+pub record SameUse (m t : List ℕ) (q : ℕ) : Type 0 where
+  pub used : usedOf m q ≡ usedOf t q
+  pub access : accessOf m q ≡ accessOf t q
+  pub slot : slotOf m q ≡ slotOf t q
+
+-- so in all places: pointers and written marks alone may differ
+pub record SameUses (m t : List ℕ) : Type 0 where
+  pub count : placeCount m ≡ placeCount t
+  pub each : (q : ℕ) → q < placeCount t → SameUse m t q

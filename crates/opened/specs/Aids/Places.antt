@@ -1,0 +1,19 @@
+-- The slot of a live place, as the code answers it.
+use Prim.Native.Nat.{ℕ}
+use mathlib.Core.Bool.{cond, Bool, _&&_, not}
+use mathlib.Core.List.{List}
+use lib.Dec.{eqb}
+use Rattle.search.specs.declared.Found.{Found}
+use Rattle.search.specs.declared.Found.the-variants.{At, Nothing}
+use Rattle.opened.specs.Places.{isLive}
+use Rattle.opened.specs.Records.{slotOf, usedOf}
+
+-- the slot of a live place
+unfoldable pub liveSlot : List ℕ → ℕ → List ℕ → ℕ → ℕ → Found
+liveSlot t h l root count = cond (isLive t h l root count) (At (slotOf t h)) Nothing
+
+abbrev pub namesSlot : List ℕ → ℕ → ℕ → Bool
+namesSlot t slot p = usedOf t p && eqb (slotOf t p) slot
+
+abbrev pub unusedAt : List ℕ → ℕ → Bool
+unusedAt t p = not (usedOf t p)

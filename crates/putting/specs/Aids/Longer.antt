@@ -1,0 +1,42 @@
+-- When a file can have a size, and what the code answers on the way.
+use Prim.Native.Nat.{ℕ, _+_, _*_, _≤_}
+use mathlib.Core.List.{List}
+use mathlib.Core.Path.{_≡_}
+use lib.ListN.{length}
+use Rattle.image.specs.Bytes.{Bytes}
+use Rattle.chains.specs.Lists.{headOf}
+use Rattle.diskette.specs.Places.{slotAt, lastCluster, copyTwo, firstData, clusterBytes}
+use Rattle.diskette.specs.declared.Kind.{Kind}
+use Rattle.fields.specs.Fields.{sizeOf}
+use Rattle.sound.specs.Counts.{freeOf}
+use Rattle.sound.specs.Files.{IsFile}
+use Rattle.links.specs.Linked.{newClusters, linked, endOf}
+use Rattle.contents.specs.Aids.Contents.{Area}
+use Rattle.contents.specs.Contents.{chainFrom}
+use Rattle.calls.specs.Aids.Ready.{OnVolume}
+use Rattle.holding.specs.Holding.{fileChain}
+use Rattle.putting.specs.Longer.{chainAfter, withClusters, lengthened}
+
+pub record CanGrow (k : Kind) (img : List ℕ) (slot size : ℕ) : Type 0 where
+  pub on : OnVolume img k
+  pub file : IsFile k img slot
+  pub bytes : Bytes img
+  pub grow : sizeOf img (slotAt k slot) ≤ size
+  pub room : size ≤ (length (fileChain k img slot) + freeOf k img) * clusterBytes k
+
+-- n clusters were added behind those of the file: the answer is the first of them
+pub record AddedBehind (k : Kind) (img : List ℕ) (slot n answer : ℕ) (after : List ℕ) : Type 0 where
+  pub first : answer ≡ headOf (newClusters (lastCluster k) img n)
+  pub image : after ≡ linked (copyTwo k) img (endOf (fileChain k img slot)) (newClusters (lastCluster k) img n)
+
+-- the file has the clusters for that size: the answer is where its chain starts
+pub record Grows (k : Kind) (img : List ℕ) (slot size answer : ℕ) (after : List ℕ) : Type 0 where
+  pub start : answer ≡ headOf (chainAfter k img slot size)
+  pub image : after ≡ withClusters k img slot size
+
+-- its entry says so: from the answer on its clusters are found, and they hold the size
+pub record Lengthens (k : Kind) (img : List ℕ) (slot size answer : ℕ) (after : List ℕ) : Type 0 where
+  pub image : after ≡ lengthened k img slot size
+  pub area : Area (512 * firstData k) (clusterBytes k) (lastCluster k) (length after)
+  pub found : chainFrom (lastCluster k) after answer ≡ chainAfter k img slot size
+  pub holds : size ≤ length (chainAfter k img slot size) * clusterBytes k

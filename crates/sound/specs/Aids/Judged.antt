@@ -1,0 +1,58 @@
+-- The answer as the code computes it, by searches, walks and marks. That it is what Answer says is proved in Laws.
+use Prim.Native.Nat.{ℕ, _-_, _*_}
+use mathlib.Core.Bool.{Bool, true, false}
+use mathlib.Core.List.{List}
+use Rattle.chains.specs.Aids.Check.{chainMarks, inTwo, lost, badValue, checkChains}
+use Rattle.chains.specs.Aids.Findings.{Voice}
+use Rattle.chains.specs.Aids.Verdict.{orElse, first}
+use Rattle.diskette.specs.Places.{lastCluster, clusterBytes, rootAt, rootEntries, copyTwo}
+use Rattle.diskette.specs.declared.Kind.{Kind}
+use Rattle.diskette.specs.declared.WhichKind.{WhichKind}
+use Rattle.diskette.specs.declared.WhichKind.the-variants.{Known, Unknown}
+use Rattle.tablecheck.specs.Aids.Copies.{differsAt}
+use Rattle.slotcheck.specs.Aids.Slots.{badSlotAt}
+use Rattle.chaincheck.specs.Aids.Entries.{holderAt, entriesOf, badChainSlot}
+use Rattle.sound.specs.Files.{valueOf}
+use Rattle.sound.specs.Counts.{fileCount, freeOf, heldOf, asideOf}
+use Rattle.sound.specs.declared.Verdict.{Verdict}
+use Rattle.sound.specs.declared.Verdict.the-variants.{Finding, Sound}
+
+-- the marks of all chains of the root, in a buffer that has room for any volume's clusters
+unfoldable pub marksOfFiles : Kind → List ℕ → List ℕ
+marksOfFiles k l = chainMarks 4080 (lastCluster k) (valueOf k l) (holderAt (clusterBytes k) l) (entriesOf (rootAt k) (rootEntries k))
+
+-- how the answer is said
+abbrev pub voice : Kind → List ℕ → Voice ℕ Verdict
+voice k l = record {
+  badChain = Finding 5;
+  inTwo = Finding 6;
+  lost = Finding 7;
+  fine = Sound (fileCount k l) (freeOf k l) (heldOf k l) (asideOf k l);
+}
+
+-- findings 6 and 7 by the marks m, as the code goes
+unfoldable pub marksJudged : ℕ → (ℕ → ℕ) → List ℕ → Verdict → Verdict
+marksJudged last f m fine = orElse (Finding 6) (first (inTwo m) (last - 1) 2) (orElse (Finding 7) (first (lost last f m) (last - 1) 2) fine)
+
+-- findings 5 to 7, as the code goes
+unfoldable pub chainsJudged : Kind → List ℕ → ℕ → ℕ → Verdict
+chainsJudged k l free aside =
+    orElse (Finding 5) (first (badChainSlot (lastCluster k) (clusterBytes k) l (rootAt k)) (rootEntries k) 0)
+    (marksJudged (lastCluster k) (valueOf k l) (marksOfFiles k l) (Sound (fileCount k l) free (heldOf k l) aside))
+
+-- all findings but the first
+unfoldable pub judged : Kind → List ℕ → Verdict
+judged k l =
+    orElse (Finding 2) (first (differsAt (copyTwo k) l) (512 * k .fat) 0)
+    (orElse (Finding 3) (first (badValue (lastCluster k) (valueOf k l)) (lastCluster k - 1) 2)
+    (orElse (Finding 4) (first (badSlotAt l (rootAt k)) (rootEntries k) 0)
+    (checkChains (lastCluster k) (valueOf k l) (marksOfFiles k l) (voice k l) (first (badChainSlot (lastCluster k) (clusterBytes k) l (rootAt k)) (rootEntries k) 0))))
+
+abbrev pub judgedBy : WhichKind → List ℕ → Verdict
+judgedBy (Known k) l = judged k l
+judgedBy Unknown l = Finding 1 0
+
+-- the verdict is sound
+abbrev pub isSoundVerdict : Verdict → Bool
+isSoundVerdict (Sound files free held aside) = true
+isSoundVerdict (Finding number place) = false
