@@ -14,6 +14,7 @@ use Rattle.diskette.specs.Places.{clusterBytes, lastCluster, slotAt}
 use Rattle.diskette.specs.declared.Kind.{Kind}
 use Rattle.fields.specs.Fields.{startOf, sizeOf}
 use Rattle.sound.specs.Files.{valueOf}
+use Rattle.calls.specs.Numbers.{ofNoKind, breaksRules, fileNotFound, accessDenied}
 use Rattle.calls.specs.Outcome.{Row, Outcome, outcome, decided}
 use Rattle.calls.specs.Refusals.{theKind, notOfKind, badName, noFile, fileSlot, addressOf}
 use Rattle.calls.specs.declared.Answer.{Answer}
@@ -35,10 +36,10 @@ goodChain k img slot =
 
 abbrev pub rescueRows : List ℕ → List ℕ → List Row
 rescueRows img s =
-    (notOfKind img, 40)
-    ∷ (badName s, 42)
-    ∷ (noFile img s, 2)
-    ∷ (not (goodChain (theKind img) img (fileSlot img s)), 5)
+    (notOfKind img, ofNoKind)
+    ∷ (badName s, breaksRules)
+    ∷ (noFile img s, fileNotFound)
+    ∷ (not (goodChain (theKind img) img (fileSlot img s)), accessDenied)
     ∷ []
 
 -- as many as out and size allow: room is the length of out

@@ -1,5 +1,6 @@
 // Rescue.
 use calls::Answer;
+use calls::numbers;
 use diskette::Kind;
 use diskette::WhichKind;
 use search::Found;
@@ -109,14 +110,14 @@ fn rescue_on(img: &[u8], k: Kind, s: &[u8], out: &mut [u8]) -> Answer
 {
     let given = names::name_given(s);
     if !given.fits {
-        return Answer::refused(42);
+        return Answer::refused(numbers::BREAKS_RULES);
     }
     let name = given.name;
     match directory::slot_named(img, k.root_at(), k.root_entries(), name) {
-        Found::Nothing => Answer::refused(2),
+        Found::Nothing => Answer::refused(numbers::FILE_NOT_FOUND),
         Found::At(slot) => {
             if !has_good_chain(img, k, slot) {
-                return Answer::refused(5);
+                return Answer::refused(numbers::ACCESS_DENIED);
             }
             let size = fields::size_at(img, k.slot_at(slot));
             let n = count_of(out.len(), size);
@@ -131,6 +132,6 @@ pub fn rescue(img: &[u8], s: &[u8], out: &mut [u8]) -> Answer
 {
     match diskette::kind_of_image(img) {
         WhichKind::Known(k) => rescue_on(img, k, s, out),
-        WhichKind::Unknown => Answer::refused(40),
+        WhichKind::Unknown => Answer::refused(numbers::OF_NO_KIND),
     }
 }

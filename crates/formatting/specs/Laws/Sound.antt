@@ -22,7 +22,7 @@ use Rattle.formatting.specs.Laws.Blank.{blank-head, blank-agrees, blank-
 
 module _ (k : Kind) (u : Usable k) where
   pub blank-no-file : (s : ℕ) → ¬ IsFile k (blank k) s
-  blank-no-file s i = i .1 .0 .0 (blank-slot k u s (i .0))
+  blank-no-file s i = i .plain .0 .0 (blank-slot k u s (i .below))
 
   pub blank-sound : Sound k (blank k)
   blank-sound = (
