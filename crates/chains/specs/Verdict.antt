@@ -1,4 +1,5 @@
--- The first finding in order, at its lowest place. A place is of any type that the test before orders (ltb for numbers), and may differ from finding to finding.
+-- The first finding in order, at its lowest place. A place is of any type that the test before orders (ltb for numbers), and may
+-- differ from finding to finding.
 use mathlib.Core.Path.{_≡_}
 use mathlib.Core.Logic.{_⊎_}
 use mathlib.Core.Bool.{Bool, true}

@@ -1,4 +1,4 @@
 -- Aids to the proofs. No definition beside this folder rests on them.
 pub mod Places
-pub mod Changes
+pub mod Uses
 pub mod Records

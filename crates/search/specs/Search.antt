@@ -8,6 +8,11 @@ unfoldable pub lowest : (ℕ → Bool) → ℕ → ℕ → Found
 lowest p s zero = Nothing
 lowest p s (suc n) = cond (p s) (At s) (lowest p (s + 1) n)
 
+-- something passes
+abbrev pub isFound : Found → Bool
+isFound (At p) = true
+isFound Nothing = false
+
 -- ---- what an answer means, of the numbers below count: it passes and none below does; or none does
 
 pub record LowestBelow (P : ℕ → Type 0) (count s : ℕ) : Type 0 where
@@ -18,7 +23,3 @@ pub record LowestBelow (P : ℕ → Type 0) (count s : ℕ) : Type 0 where
 abbrev pub Answers : (ℕ → Type 0) → ℕ → Found → Type 0
 Answers P count (At s) = LowestBelow P count s
 Answers P count Nothing = (q : ℕ) → q < count → ¬ P q
-
-abbrev pub isFound : Found → Bool
-isFound (At p) = true
-isFound Nothing = false

@@ -10,5 +10,6 @@ use Rattle.directory.specs.Search.{isNamed}
 abbrev pub vacantSlot : List ℕ → ℕ → ℕ → Bool
 vacantSlot l root s = isVacant (standingOf l (slotFrom root s))
 
+-- slot s holds the plain file of that name
 abbrev pub namedSlot : List ℕ → ℕ → List ℕ → ℕ → Bool
 namedSlot l root name s = isNamed l (slotFrom root s) name

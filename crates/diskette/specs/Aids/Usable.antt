@@ -1,4 +1,4 @@
--- What proofs use of a kind.
+-- What every rule may rest on.
 use Prim.Native.Nat.{_+_, _*_, _/_, _≤_, _<_}
 use Rattle.diskette.specs.Places.{clusters, lastCluster, firstData}
 use Rattle.diskette.specs.declared.Kind.{Kind}

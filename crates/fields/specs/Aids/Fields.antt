@@ -1,4 +1,4 @@
--- Bytes 0-21 of an entry, as the code stores them.
+-- The bytes of an entry that the code stores first.
 use Prim.Native.Nat.{ℕ}
 use mathlib.Core.List.{List, _++_, _∷_}
 use lib.ListN.{replicate}

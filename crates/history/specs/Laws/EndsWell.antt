@@ -15,7 +15,7 @@ use Rattle.names.specs.Reading.{nameGiven}
 use Rattle.stamps.specs.Stamps.{packed}
 use Rattle.stamps.specs.declared.Stamp.{Stamp}
 use Rattle.stamps.specs.declared.Packed.the-variants.{Words}
-use Rattle.opened.specs.Aids.Changes.{PlaceHolds}
+use Rattle.opened.specs.Changes.{PlaceHolds}
 use Rattle.opened.specs.Places.{lowestUnused}
 use Rattle.opened.specs.Records.{placeCount, usedOf, withRecord, withPointer, withWritten}
 use Rattle.opened.specs.Laws.Places.{live-is}

@@ -9,7 +9,7 @@ use mathlib.Core.Path.{_≡_, sym, _∙_, subst}
 use Rattle.image.specs.Numbers.{digits}
 use Rattle.image.specs.Laws.Numbers.{length-digits}
 use Rattle.chains.specs.Laws.Tests.{clash}
-use Rattle.opened.specs.Aids.Changes.{OnlyAt}
+use Rattle.opened.specs.Changes.{OnlyAt}
 use Rattle.opened.specs.Places.{NamesAt, isOpen}
 use Rattle.opened.specs.Records.{placeCount, placeAt, usedOf, slotOf, accessOf, writtenOf, withRecord, withPointer, withWritten, cleared}
 use Rattle.opened.specs.Laws.Places.{closed-is}

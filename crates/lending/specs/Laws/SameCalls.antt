@@ -10,7 +10,7 @@ use lib.ListN.{length, take}
 use Rattle.fields.specs.Fields.{sizeOf}
 use Rattle.stamps.specs.declared.Stamp.{Stamp}
 use Rattle.opened.specs.Records.{placeCount, usedOf, slotOf, accessOf, pointerOf, writtenOf, withPointer, withWritten}
-use Rattle.opened.specs.Aids.Changes.{PlaceHolds}
+use Rattle.opened.specs.Changes.{PlaceHolds}
 use Rattle.opened.specs.Laws.Stores.{pointer-only}
 use Rattle.opened.specs.Laws.Uses.{only-count}
 use Rattle.calls.specs.Outcome.{Row, Outcome, outcome, decided}

@@ -5,8 +5,7 @@ use mathlib.Core.List.{List}
 use Rattle.chains.specs.Values.{linkb}
 use Rattle.table.specs.Entries.{setBoth, entryOf}
 
--- the same as code does it along a chain: up to n clusters from c on, the next one read before the entry is cleared; a
--- number that is no cluster ends it
+-- up to n clusters from c on, the next one read before the entry is cleared; a number that is no cluster ends it
 unfoldable pub freedFrom : ℕ → ℕ → List ℕ → ℕ → ℕ → List ℕ
 freedFrom second last l zero c = l
 freedFrom second last l (suc n) c = cond (linkb last c) (freedFrom second last (setBoth second l c 0) n (entryOf l c)) l

@@ -1,4 +1,4 @@
--- The answer for two parts, as the code has them.
+-- The answer for a name, once the code has split it.
 use Prim.Native.Nat.{ℕ}
 use mathlib.Core.List.{List}
 use Rattle.names.specs.Reading.{spelledIf, fitting}

@@ -1,4 +1,4 @@
--- The slot of a live place, as the code answers it.
+-- The slot of a live place, as the code answers it; and the tests that the searches make.
 use Prim.Native.Nat.{ℕ}
 use mathlib.Core.Bool.{cond, Bool, _&&_, not}
 use mathlib.Core.List.{List}
@@ -12,8 +12,10 @@ use Rattle.opened.specs.Records.{slotOf, usedOf}
 unfoldable pub liveSlot : List ℕ → ℕ → List ℕ → ℕ → ℕ → Found
 liveSlot t h l root count = cond (isLive t h l root count) (At (slotOf t h)) Nothing
 
+-- place p is used and names the slot
 abbrev pub namesSlot : List ℕ → ℕ → ℕ → Bool
 namesSlot t slot p = usedOf t p && eqb (slotOf t p) slot
 
+-- place p is unused
 abbrev pub unusedAt : List ℕ → ℕ → Bool
 unusedAt t p = not (usedOf t p)

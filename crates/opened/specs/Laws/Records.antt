@@ -16,7 +16,7 @@ use Rattle.image.specs.Numbers.{number}
 use Rattle.image.specs.Laws.Store.{length-stored, stored-outside}
 use Rattle.image.specs.Laws.Numbers.{number-small, number-apart}
 use Rattle.opened.specs.Records.{placeCount, placeAt, usedOf, slotOf, accessOf, pointerOf, writtenOf}
-use Rattle.opened.specs.Aids.Changes.{SamePlace, OnlyAt}
+use Rattle.opened.specs.Changes.{SamePlace, OnlyAt}
 
 -- ---- how large a field is
 

@@ -17,7 +17,7 @@ use Rattle.directory.specs.Laws.Entries.{byte-back}
 use Rattle.opened.specs.Records.{placeCount, placeAt, usedOf, slotOf, accessOf, pointerOf, writtenOf, recordBytes, withRecord, withPointer, withWritten, cleared}
 use Rattle.opened.specs.Aids.Records.{markBytes, numberBytes}
 use Rattle.chains.specs.Sums.{bit}
-use Rattle.opened.specs.Aids.Changes.{PlaceHolds, OnlyAt}
+use Rattle.opened.specs.Changes.{PlaceHolds, OnlyAt}
 use Rattle.opened.specs.Laws.Records.{untouched, only-place}
 
 -- ---- the bytes of a record

@@ -10,7 +10,8 @@ use lib.ListN.{length}
 use Rattle.search.specs.Search.{lowest, isFound}
 use Rattle.search.specs.Laws.Meaning.{lowest-same}
 use Rattle.opened.specs.Records.{placeCount, usedOf, slotOf, accessOf, pointerOf, writtenOf, withRecord, withPointer, withWritten}
-use Rattle.opened.specs.Aids.Changes.{PlaceHolds, OnlyAt, SameUse, SameUses}
+use Rattle.opened.specs.Changes.{PlaceHolds, OnlyAt}
+use Rattle.opened.specs.Aids.Uses.{SameUse, SameUses}
 use Rattle.opened.specs.Places.{isLive, NamesAt, isOpen, lowestUnused}
 use Rattle.opened.specs.Aids.Places.{liveSlot, namesSlot, unusedAt}
 use Rattle.opened.specs.Laws.Places.{names-not, open-is}

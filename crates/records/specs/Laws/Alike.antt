@@ -12,7 +12,7 @@ use Rattle.search.specs.Laws.Meaning.{lowest-same}
 use Rattle.opened.specs.Records.{placeCount, usedOf, slotOf, accessOf, pointerOf, writtenOf}
 use Rattle.opened.specs.Places.{lowestUnused, isOpen}
 use Rattle.opened.specs.Aids.Places.{namesSlot, unusedAt}
-use Rattle.opened.specs.Aids.Changes.{PlaceHolds}
+use Rattle.opened.specs.Changes.{PlaceHolds}
 use Rattle.records.specs.declared.OpenRecord.{OpenRecord}
 use Rattle.records.specs.Row.{unused, recordOf, rowFrom, rowOf, rowCount, recordAt, unusedIn, lowestUnusedIn, namesIn, isOpenIn}
 use Rattle.records.specs.Laws.Row.{record-within, record-over, record-past}

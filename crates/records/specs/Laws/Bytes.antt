@@ -6,7 +6,7 @@ use mathlib.Core.List.{List}
 use mathlib.Core.Path.{_≡_, refl, sym, ap, _∙_}
 use borrow.Author.Tests.{lt-ltb, le-ltb}
 use Rattle.opened.specs.Records.{placeCount, withRecord, withWritten, cleared}
-use Rattle.opened.specs.Aids.Changes.{PlaceHolds}
+use Rattle.opened.specs.Changes.{PlaceHolds}
 use Rattle.opened.specs.Laws.Stores.{record-only, record-holds, written-holds, cleared-holds}
 use Rattle.opened.specs.Laws.Uses.{only-count}
 use Rattle.records.specs.declared.OpenRecord.{OpenRecord}

@@ -14,7 +14,7 @@ use Rattle.image.specs.Numbers.{number, digits}
 use Rattle.image.specs.Laws.Store.{stored-inside}
 use Rattle.image.specs.Laws.Numbers.{length-digits, number-same}
 use Rattle.opened.specs.Records.{placeCount, placeAt, pointerOf, withRecord, withPointer, withWritten, cleared}
-use Rattle.opened.specs.Aids.Changes.{OnlyAt}
+use Rattle.opened.specs.Changes.{OnlyAt}
 use Rattle.opened.specs.Laws.Records.{untouched}
 use Rattle.opened.specs.Laws.Stores.{record-only, record-holds, pointer-only, pointer-holds, written-only, written-holds, cleared-only, cleared-holds}
 use Rattle.records.specs.declared.OpenRecord.{OpenRecord}

@@ -1,5 +1,5 @@
 -- What a place holds, and what a change of one place leaves, in the words of the fields.
-use Prim.Native.Nat.{ℕ, _≤_, _<_}
+use Prim.Native.Nat.{ℕ, _≤_}
 use mathlib.Core.Bool.{Bool}
 use mathlib.Core.List.{List}
 use mathlib.Core.Logic.{_≢_}
@@ -28,14 +28,3 @@ pub record OnlyAt (p : ℕ) (m t : List ℕ) : Type 0 where
   pub long : length m ≡ length t
   pub others : (q : ℕ) → q ≢ p → SamePlace m t q
   pub past : (j : ℕ) → PastPlaces t j → getD m j 0 ≡ getD t j 0
-
--- place q of m is taken, or not, for the same file and the same access as place q of t
-pub record SameUse (m t : List ℕ) (q : ℕ) : Type 0 where
-  pub used : usedOf m q ≡ usedOf t q
-  pub access : accessOf m q ≡ accessOf t q
-  pub slot : slotOf m q ≡ slotOf t q
-
--- so in all places: pointers and written marks alone may differ
-pub record SameUses (m t : List ℕ) : Type 0 where
-  pub count : placeCount m ≡ placeCount t
-  pub each : (q : ℕ) → q < placeCount t → SameUse m t q
