@@ -166,7 +166,7 @@ uint64_t bm_free_space(const uint8_t *image, size_t image_length, uint8_t *out, 
  * Refusal: 40 if the image is of no kind. The image is only read. */
 uint64_t bm_entry(const uint8_t *image, size_t image_length, uint32_t slot, uint8_t *out, size_t out_length);
 
-/* ---- Files. All calls from here on want a sound volume.
+/* ---- Files. All calls from here on want a sound volume, but for bm_rescue, the last.
  *
  * A name is its characters, without a byte 0 at the end: 1 to 8, then optionally a dot and 0 to 3 more; letters (small
  * ones become capitals), digits and $ & # @ ! % ' ( ) - { } _. A stamp is six numbers: hour 0-23, minute 0-59, step (of

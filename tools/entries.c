@@ -15,13 +15,18 @@ bool is_file(const struct entry *entry)
     return entry->what == MEMBER_FILE || entry->what == MEMBER_DIRECTORY;
 }
 
+char sign_or(uint8_t byte, char else_this)
+{
+    return byte >= ' ' && byte <= '~' ? (char)byte : else_this;
+}
+
 /* Puts length bytes of a name at the end of text, without the spaces at their end. Answers the end of the text. */
 static char *spell_part(const uint8_t *bytes, unsigned length, char *end)
 {
     while (length > 0 && bytes[length - 1] == ' ')
         length--;
     for (; length > 0; length--, bytes++)
-        *end++ = *bytes >= ' ' && *bytes <= '~' ? (char)*bytes : '?';
+        *end++ = sign_or(*bytes, '?');
     *end = '\0';
     return end;
 }

@@ -21,6 +21,9 @@ bool next_entry(const struct bytes *image, struct entry *entry);
 /* Whether the entry is a plain file by the growers' rules: one that has a name, a size and clusters. */
 bool is_file(const struct entry *entry);
 
+/* A byte as the sign of ASCII that it is, or else this one. */
+char sign_or(uint8_t byte, char else_this);
+
 /* Room for a name: 8, a dot, 3 and a byte 0. */
 enum { NAME_ROOM = 13 };
 

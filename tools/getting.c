@@ -52,7 +52,8 @@ static bool find_stamp(const struct bytes *image, const char *name, time_t *chan
     uint64_t date, time;
     struct tm parts = {0};
     entry.slot = slot_of(image, name);
-    next_entry(image, &entry);
+    if (!next_entry(image, &entry))
+        return false;
     date = date_of(&entry);
     time = time_of(&entry);
     parts.tm_year = (int)(BM_VALUE(date) / 10000) - 1900;

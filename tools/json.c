@@ -75,7 +75,8 @@ static void print_file(const struct entry *entry)
     unsigned n;
     printf("{\"name\":");
     print_string(spell_name(entry, name));
-    printf(",\"directory\":%s,\"size\":%lu", bool_word(entry->what == MEMBER_DIRECTORY), (unsigned long)entry->fields.size);
+    printf(",\"directory\":%s,\"size\":%lu",
+           bool_word(entry->what == MEMBER_DIRECTORY), (unsigned long)entry->fields.size);
     print_date(date_of(entry));
     print_time(time_of(entry));
     for (n = 0; n < MARKS; n++)

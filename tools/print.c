@@ -20,12 +20,6 @@ unsigned long free_bytes(struct bm_space space)
     return (unsigned long)space.free * space.cluster_size;
 }
 
-/* A byte as the sign of ASCII that it is, or else this one. */
-static char sign_or(uint8_t byte, char else_this)
-{
-    return byte >= ' ' && byte <= '~' ? (char)byte : else_this;
-}
-
 /* ---- The list ---- */
 
 static void print_name(const struct entry *entry)
