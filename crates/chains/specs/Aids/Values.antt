@@ -3,13 +3,6 @@ use Prim.Native.Nat.{ℕ}
 use mathlib.Core.Bool.{Bool}
 use Rattle.chains.specs.Values.{freeb, asideb}
 
-<<<<<<< ours
-=======
--- an end value?
-unfoldable pub endb : ℕ → Bool
-endb v = leb 0xff8 v && leb v 0xfff
-
->>>>>>> theirs
 -- is cluster c free, is it set aside?
 unfoldable pub freeAt : (ℕ → ℕ) → ℕ → Bool
 freeAt f c = freeb (f c)
