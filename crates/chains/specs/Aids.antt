@@ -17,3 +17,4 @@ pub mod Check
 pub mod Rows
 pub mod Walk
 pub mod Values
+pub mod Put

@@ -1,5 +1,4 @@
 -- Chains of clusters through a table, and the bytes along them. In reading order.
-pub mod Put
 pub mod Lists
 pub mod Sums
 pub mod Sizes

@@ -5,10 +5,9 @@ use Prim.Native.Nat.{ℕ}
 use mathlib.Core.Bool.{false, cond, _&&_, not}
 use mathlib.Core.List.{List, [], _∷_}
 use mathlib.Core.Path.{_≡_}
-use Rattle.diskette.specs.Places.{rootAt, rootEntries, slotAt}
+use Rattle.diskette.specs.Places.{slotAt}
 use Rattle.diskette.specs.declared.Kind.{Kind}
 use Rattle.fields.specs.Fields.{withEntry}
-use Rattle.directory.specs.Search.{lowestVacant}
 use Rattle.names.specs.Reading.{nameGiven}
 use Rattle.stamps.specs.Stamps.{packed}
 use Rattle.stamps.specs.declared.Stamp.{Stamp}
@@ -58,11 +57,3 @@ createOutcome img t s attr stamp = decided (createRows img t s attr stamp) (crea
 -- what the call promises: its answer r, the image and the table after
 pub record Creates (img t s : List ℕ) (attr : ℕ) (stamp : Stamp) (r : Answer) (after table : List ℕ) : Type 0 where
   pub is : outcome (r .number) (r .value) after table [] ≡ createOutcome img t s attr stamp
-
--- ---- an aid to the proofs: the last rows, of an existing file and of a new one
-
-abbrev pub oldRows : List ℕ → List ℕ → ℕ → List Row
-oldRows img t slot = (isOpen t slot, accessDenied) ∷ (readOnly img slot, accessDenied) ∷ (noPlace t, tooManyOpen) ∷ []
-
-abbrev pub newRows : List ℕ → List ℕ → Kind → List Row
-newRows img t k = (isNothing (lowestVacant img (rootAt k) (rootEntries k)), accessDenied) ∷ (noPlace t, tooManyOpen) ∷ []

@@ -36,8 +36,3 @@ deleteOutcome img t s = decided (deleteRows img t s) (deleteEffect img t s) img 
 -- what the call promises: its answer r, and the image after
 pub record Deletes (img t s : List ℕ) (r : Answer) (after : List ℕ) : Type 0 where
   pub is : outcome (r .number) (r .value) after t [] ≡ deleteOutcome img t s
-
--- ---- an aid to the proofs: the last two rows, of the file in a slot
-
-abbrev pub lastRows : List ℕ → List ℕ → ℕ → List Row
-lastRows img t slot = (isOpen t slot, accessDenied) ∷ (readOnly img slot, accessDenied) ∷ []

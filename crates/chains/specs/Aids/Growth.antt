@@ -2,7 +2,7 @@
 use Prim.Native.Nat.{ℕ}
 use mathlib.Core.List.{List, [], _∷_, _++_}
 use lib.ListN.{take}
-use Rattle.chains.specs.Put.{put}
+use Rattle.chains.specs.Aids.Put.{put}
 use Rattle.chains.specs.Lists.{lastOf}
 use Rattle.chains.specs.Sizes.{lacking}
 use Rattle.chains.specs.Free.{freeClusters}

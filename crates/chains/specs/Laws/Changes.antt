@@ -8,7 +8,7 @@ use mathlib.Core.Bool.{true}
 use mathlib.Core.List.{List, [], _++_}
 use lib.ListN.{length, take, length-append}
 use lib.Seq.{length-take-le}
-use Rattle.chains.specs.Put.{put}
+use Rattle.chains.specs.Aids.Put.{put}
 use Rattle.chains.specs.Lists.{headOf}
 use Rattle.chains.specs.Aids.Lists.{occ, Once}
 use Rattle.chains.specs.Sizes.{clustersFor, lacking}

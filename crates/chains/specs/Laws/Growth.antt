@@ -4,7 +4,7 @@ use native.Mathlib.Omega.{arith}
 use mathlib.Core.Path.{_≡_, refl, _∙_}
 use mathlib.Core.Logic.{inl, inr}
 use mathlib.Core.List.{List, [], _∷_, _++_, append-nil}
-use Rattle.chains.specs.Put.{put}
+use Rattle.chains.specs.Aids.Put.{put}
 use Rattle.chains.specs.Lists.{_∈_, lastOf, headOf}
 use Rattle.chains.specs.Aids.Lists.{Once}
 use Rattle.chains.specs.Aids.Sizes.{Geometry}

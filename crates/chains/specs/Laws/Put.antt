@@ -4,7 +4,7 @@ use native.Mathlib.Decide.{ℕ-discrete}
 use mathlib.Core.Path.{_≡_}
 use mathlib.Core.Logic.{_≢_, _⊎_, inl, inr}
 use borrow.Author.Tests.{eq-eqb, ne-eqb}
-use Rattle.chains.specs.Put.{put}
+use Rattle.chains.specs.Aids.Put.{put}
 
 pub put-same : {A : Type 0} (f : ℕ → A) (i : ℕ) (v : A) (c : ℕ) → c ≡ i → put f i v c ≡ v
 unfolding put

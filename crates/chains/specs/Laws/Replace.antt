@@ -3,7 +3,7 @@ use Prim.Native.Nat.{ℕ}
 use mathlib.Core.Path.{_≡_, refl, sym, _∙_}
 use mathlib.Core.Logic.{_≢_, inl, inr}
 use mathlib.Core.List.{List}
-use Rattle.chains.specs.Put.{put}
+use Rattle.chains.specs.Aids.Put.{put}
 use Rattle.chains.specs.Lists.{_∈_}
 use Rattle.chains.specs.Aids.Sizes.{Geometry}
 use Rattle.chains.specs.Values.{Link, Used, Valid, free, used}

@@ -6,7 +6,7 @@ use mathlib.Core.Logic.{_≢_}
 use mathlib.Core.List.{List, [], _∷_, _++_, append-nil, append-assoc}
 use lib.ListN.{length, take, replicate, length-replicate}
 use lib.Seq.{take-append-le}
-use Rattle.chains.specs.Put.{put}
+use Rattle.chains.specs.Aids.Put.{put}
 use Rattle.chains.specs.Lists.{_∈_, headOf}
 use Rattle.chains.specs.Aids.Lists.{Once}
 use Rattle.chains.specs.Sizes.{clustersFor, lacking}

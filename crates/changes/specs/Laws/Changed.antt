@@ -8,7 +8,7 @@ use mathlib.Core.Path.{_≡_, refl, sym, ap, _∙_, subst}
 use lib.ListN.{length, getD}
 use Rattle.chains.specs.Content.{clusterBegin, content}
 use Rattle.chains.specs.Aids.Holders.{FitTogether, Owns}
-use Rattle.chains.specs.Put.{put}
+use Rattle.chains.specs.Aids.Put.{put}
 use Rattle.chains.specs.Values.{Link}
 use Rattle.chains.specs.Verdict.{None}
 use Rattle.chains.specs.Laws.Content.{cluster-high}

@@ -31,8 +31,8 @@ use Rattle.calls.specs.Laws.Files.{found-is, below-by, slot-within}
 use Rattle.calls.specs.Laws.Named.{FileNamed}
 use Rattle.calls.specs.declared.Answer.{Answer}
 use Rattle.freeing.specs.Freed.{chainFreed}
-use Rattle.creating.specs.Create.{createRows, createOutcome, Creates, oldRows, newRows}
-use Rattle.creating.specs.Aids.Create.{Empties, MakesNew}
+use Rattle.creating.specs.Create.{createRows, createOutcome, Creates}
+use Rattle.creating.specs.Aids.Create.{Empties, MakesNew, oldRows, newRows}
 
 pub creates-only : {img t s : List ℕ} {attr : ℕ} {stamp : Stamp} {r r′ : Answer} {m m′ u u′ : List ℕ} → Creates img t s attr stamp r m u → Creates img t s attr stamp r′ m′ u′
     → (r .number ≡ r′ .number) × (r .value ≡ r′ .value) × (m ≡ m′) × (u ≡ u′)

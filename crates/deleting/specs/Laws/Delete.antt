@@ -12,8 +12,8 @@ use Rattle.calls.specs.Laws.Rows.{Stops, stopped}
 use Rattle.calls.specs.Laws.Ready.{on-kind}
 use Rattle.calls.specs.Laws.Named.{FileNamed}
 use Rattle.calls.specs.declared.Answer.{Answer}
-use Rattle.deleting.specs.Delete.{deleteRows, erasedIn, deleteOutcome, Deletes, lastRows}
-use Rattle.deleting.specs.Aids.Delete.{DeletesSlot}
+use Rattle.deleting.specs.Delete.{deleteRows, erasedIn, deleteOutcome, Deletes}
+use Rattle.deleting.specs.Aids.Delete.{DeletesSlot, lastRows}
 
 pub deletes-only : {img t s : List ℕ} {r r′ : Answer} {m m′ : List ℕ} → Deletes img t s r m → Deletes img t s r′ m′
     → (r .number ≡ r′ .number) × (r .value ≡ r′ .value) × (m ≡ m′)

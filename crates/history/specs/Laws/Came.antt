@@ -7,7 +7,7 @@ use mathlib.Core.Logic.{_≢_, _⊎_, inl, inr}
 use mathlib.Core.Option.{Option, none, some}
 use mathlib.Core.Path.{_≡_, refl, sym, ap, subst}
 use lib.ListN.{getD}
-use Rattle.chains.specs.Put.{put}
+use Rattle.chains.specs.Aids.Put.{put}
 use Rattle.chains.specs.Laws.Put.{put-same, put-other}
 use Rattle.diskette.specs.Places.{rootEntries, slotAt}
 use Rattle.diskette.specs.declared.Kind.{Kind}

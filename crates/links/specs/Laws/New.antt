@@ -7,7 +7,7 @@ use mathlib.Core.Logic.{_↔_, _≢_, inl, inr}
 use mathlib.Core.Path.{_≡_, refl, sym, ap, _∙_}
 use lib.ListN.{length, take}
 use lib.Seq.{length-take-le}
-use Rattle.chains.specs.Put.{put}
+use Rattle.chains.specs.Aids.Put.{put}
 use Rattle.chains.specs.Lists.{headOf}
 use Rattle.chains.specs.Values.{Link, freeCount}
 use Rattle.chains.specs.Free.{freeFrom, freeClusters}

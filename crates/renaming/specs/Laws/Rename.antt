@@ -20,8 +20,8 @@ use Rattle.calls.specs.Laws.Ready.{on-kind}
 use Rattle.calls.specs.Laws.Files.{found-is}
 use Rattle.calls.specs.Laws.Named.{FileNamed}
 use Rattle.calls.specs.declared.Answer.{Answer}
-use Rattle.renaming.specs.Rename.{renameRows, renameOutcome, Renames, lastRows}
-use Rattle.renaming.specs.Aids.Rename.{RenamesSlot}
+use Rattle.renaming.specs.Rename.{renameRows, renameOutcome, Renames}
+use Rattle.renaming.specs.Aids.Rename.{RenamesSlot, lastRows}
 
 pub renames-only : {img t s n : List ℕ} {r r′ : Answer} {m m′ : List ℕ} → Renames img t s n r m → Renames img t s n r′ m′
     → (r .number ≡ r′ .number) × (r .value ≡ r′ .value) × (m ≡ m′)

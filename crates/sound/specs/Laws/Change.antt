@@ -4,7 +4,7 @@ use Prim.Native.Nat.{ℕ, _<_}
 use mathlib.Core.List.{List}
 use mathlib.Core.Logic.{_≢_}
 use mathlib.Core.Path.{_≡_, ap, _∙_}
-use Rattle.chains.specs.Put.{put}
+use Rattle.chains.specs.Aids.Put.{put}
 use Rattle.chains.specs.Aids.Replace.{Replaced}
 use Rattle.chains.specs.Laws.Replace.{replaced}
 use Rattle.diskette.specs.Aids.Usable.{Usable}
