@@ -39,15 +39,15 @@ module _ (k : Kind) (w : World) (b : Begins k w) where
       let t = w .table in
       let p = outcomeOf c w .value in
       let only = record-only t p (x .lowest .below) access s 0 false in
-      let small : s < 4294967296 = omega (arith, i .0, on-usable (w .image) k (on b) .few-slots) in
+      let small : s < 4294967296 = omega (arith, i .below, on-usable (w .image) k (on b) .few-slots) in
       let y = record-holds t p (x .lowest .below) access s 0 false small (omega arith) in
       let m = withRecord t p access s 0 false in
       let live : LivePlace m p (step w c .image) (rootAt k) (rootEntries k) = record {
         counted = rw (only-count p m t only) (x .lowest .below);
         used = y .used;
         access = rw (y .access) (x .access-fits);
-        slot = rw (y .slot) (i .0);
-        plain = rw (y .slot) (i .1);
+        slot = rw (y .slot) (i .below);
+        plain = rw (y .slot) (i .plain);
       } in
       record { lowest = x .lowest; holds = rw (x .table) y; reaches = rw (x .table) (record { live = live; slot = y .slot }) }
 
@@ -89,13 +89,13 @@ module _ (k : Kind) (w : World) (b : Begins k w) where
         let x = kept k w (on b) h (live .counted) (live .used) c well other in
         let y = x .same in
         let slot = y .slot ∙ at in
-        let i = file-stays k w b c s (subst (IsFile k (w .image)) at (live .slot, live .plain)) not-erased given in (
+        let i = file-stays k w b c s (subst (IsFile k (w .image)) at (record { below = live .slot; plain = live .plain })) not-erased given in (
           record {
             counted = rw (x .count) (live .counted);
             used = y .used ∙ live .used;
             access = rw (y .access) (live .access);
-            slot = rw slot (i .0);
-            plain = rw slot (i .1);
+            slot = rw slot (i .below);
+            plain = rw slot (i .plain);
           },
           slot,
         )

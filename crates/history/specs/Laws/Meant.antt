@@ -58,11 +58,11 @@ module _ (k : Kind) (l : List ℕ) (v : OnVolume l k) (name : List ℕ) (fits : 
   pub has-name : noFile l name ≡ false → HasName k l name (fileSlot l name)
   has-name there =
       let x = searched (At (fileSlot l name)) (file-found k l v name there) in
-      record { is-file = (x .below, x .passes .0); meant = rw (x .passes .1) (means name fits) }
+      record { is-file = record { below = x .below; plain = x .passes .0 }; meant = rw (x .passes .1) (means name fits) }
 
   -- and where it finds none
   pub no-name : noFile l name ≡ true → (s : ℕ) → ¬ HasName k l name s
-  no-name none s x = searched Nothing (no-file-found k l v name none) s (x .is-file .0) (x .is-file .1, sym (meant-is (x .meant)))
+  no-name none s x = searched Nothing (no-file-found k l v name none) s (x .is-file .below) (x .is-file .plain, sym (meant-is (x .meant)))
 
   pub for-new : noFile l name ≡ true → isNothing (slotForNew l) ≡ false → IsForNew k l name (placeFound (slotForNew l))
   for-new none room = record { good = (nameGiven name .name, means name fits); new = no-name none; lowest = new-slot k l v room }
@@ -80,8 +80,7 @@ module _ (k : Kind) (w : World) (v : OnVolume (w .image) k) (s t : ℕ) where
   name-one x y = elim (ℕ-discrete s t) [
     | yes e ↦ e
     | no d ↦
-        let i : IsFile k (w .image) t = record { below = y .is-file .0; plain = y .is-file .1 } in
-        absurd (name-once k (w .image) v t i s (x .is-file .0) d (x .is-file .1) (sym (meant-is (x .meant)) ∙ meant-is (y .meant)))
+        absurd (name-once k (w .image) v t (y .is-file) s (x .is-file .below) d (x .is-file .plain) (sym (meant-is (x .meant)) ∙ meant-is (y .meant)))
   ]
 
   lowest-one : {P : ℕ → Type 0} {n : ℕ} → LowestBelow P n s → LowestBelow P n t → s ≡ t

@@ -15,7 +15,7 @@ use Rattle.offset.specs.declared.Moved.the-variants.{To, Beyond}
 use Rattle.opened.specs.Records.{pointerOf}
 use Rattle.calls.specs.Outcome.{Outcome}
 use Rattle.calls.specs.Laws.Ready.{on-kind}
-use Rattle.seeking.specs.Seek.{isBeyond, pointerMoved, seekBase, seekRows, seekEffect, seekOutcome}
+use Rattle.seeking.specs.Seek.{answerOf, isBeyond, seekBase, seekRows, seekEffect, seekOutcome}
 use Rattle.sound.specs.Files.{IsFile}
 use Rattle.history.specs.Seeks.{countedFrom, SeeksAreOfHistory}
 use Rattle.history.specs.World.{ours, run}
@@ -26,10 +26,10 @@ use Rattle.history.specs.Laws.Runs.{begins-run}
 use Rattle.history.specs.Laws.Shown.{bytes-long, holds-bytes}
 
 -- a whole number that is a pointer
-pointer-is : (z : ℤ) → isBeyond (asPointer z) ≡ false → pos (pointerMoved (asPointer z)) ≡ z
+pointer-is : (z : ℤ) → isBeyond (asPointer z) ≡ false → pos (answerOf (asPointer z) .value) ≡ z
 pointer-is (pos n) e = go (leb n 4294967295) e
   where
-    go : (b : Bool) → isBeyond (cond b (To n) Beyond) ≡ false → pos (pointerMoved (cond b (To n) Beyond)) ≡ pos n
+    go : (b : Bool) → isBeyond (cond b (To n) Beyond) ≡ false → pos (answerOf (cond b (To n) Beyond) .value) ≡ pos n
     go true f = refl
     go false f = absurd (clash refl f)
 pointer-is (negsuc n) e = absurd (clash refl e)
@@ -41,7 +41,7 @@ seeks-are-of-history k v c cs g h method offset s f e n x =
     let b = begins-run k cs v c g in
     let l = w .image in
     let t = w .table in
-    let i : IsFile k l s = record { below = x .is-file .0; plain = x .is-file .1 } in
+    let i : IsFile k l s = x .is-file in
     let size : sizeOf l (slotAt k s) ≡ length (f .bytes) = sym (bytes-long k l (on b) s i) ∙ ap length (holds-bytes k l (on b) s f x) in
     let base : seekBase l t h method ≡ countedFrom method (pointerOf t h) (length (f .bytes)) = rw (on-kind l k (on b), n .slot, size) in
     elim (decided-cases (seekRows l t h method offset) (seekEffect l t h method offset) l t []) [

@@ -32,7 +32,7 @@ use Rattle.sound.specs.Files.{IsFile}
 use Rattle.freeing.specs.Freed.{chainFreed}
 use Rattle.opening.specs.Open.{openRows, openEffect, openOutcome}
 use Rattle.creating.specs.Create.{madeBy, createRows, createEffect, createOutcome}
-use Rattle.seeking.specs.Seek.{pointerMoved, seekRows, seekEffect, seekOutcome}
+use Rattle.seeking.specs.Seek.{answerOf, seekRows, seekEffect, seekOutcome}
 use Rattle.closing.specs.Close.{closeRows, closeEffect, closeOutcome}
 use Rattle.deleting.specs.Delete.{deleteRows, deleteEffect, deleteOutcome}
 use Rattle.reading.specs.Read.{readRows, readEffect, readOutcome}
@@ -80,15 +80,15 @@ free-lowest : (t : List ℕ) → noPlace t ≡ false → LowestBelow (λ p. used
 free-lowest t e = subst (Answers (λ p. usedOf t p ≡ false) (placeCount t)) (found-at (lowestUnused t) e) (unused-answers t)
 
 -- where an offset leads
-moved-fits : (base : ℕ) (offset : ℤ) → pointerMoved (movedBy base offset) < 4294967296
+moved-fits : (base : ℕ) (offset : ℤ) → answerOf (movedBy base offset) .value < 4294967296
 unfolding movedBy
 moved-fits base offset = whole (pos base +ℤ offset)
   where
-    below : (n : ℕ) (b : Bool) → leb n 4294967295 ≡ b → pointerMoved (cond b (To n) Beyond) < 4294967296
+    below : (n : ℕ) (b : Bool) → leb n 4294967295 ≡ b → answerOf (cond b (To n) Beyond) .value < 4294967296
     below n true e = omega (arith, leb-true n 4294967295 e)
     below n false e = omega arith
 
-    whole : (z : ℤ) → pointerMoved (asPointer z) < 4294967296
+    whole : (z : ℤ) → answerOf (asPointer z) .value < 4294967296
     whole (pos n) = below n (leb n 4294967295) refl
     whole (negsuc n) = omega arith
 
@@ -119,7 +119,7 @@ module _ (k : Kind) (w : World) (v : OnVolume (w .image) k) where
   open-file name access well =
       let x = well-is (openRows l t name access) (openEffect l t name access) l t [] well in
       let i = file-there k l v name (passed-row (openRows l t name access) refl (x .0) 4) in
-      (i .below, i .plain)
+      i
 
   module _ (name : List ℕ) (attr : ℕ) (stamp : Stamp) where
     abbrev Makes : Outcome → Type 0

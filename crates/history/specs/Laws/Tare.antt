@@ -58,7 +58,7 @@ module _ (k : Kind) (w : World) (b : Begins k w) (s : ℕ) (g : Guarded k w s) w
     same-entry : SameBytes (step w c .image) (slotAt k s) (w .image) (slotAt k s)
     same-entry = elim (spared c u .image) [
       | inl e ↦ λ j h. ap (λ (l : List ℕ). getD l (slotAt k s + j) 0) e
-      | inr n ↦ came-entries k w c b (came k w c b given) s (g .is-file .0) n
+      | inr n ↦ came-entries k w c b (came k w c b given) s (g .is-file .below) n
     ]
 
     same-holds : (f : File) → Holds k (w .image) s f → Holds k (step w c .image) s f
@@ -80,9 +80,12 @@ module _ (k : Kind) (w : World) (b : Begins k w) (s : ℕ) (g : Guarded k w s) w
 
     pub guarded-still : Guarded k (step w c) s
     guarded-still =
-        let live = g .is-file .1 .0 in
+        let live = g .is-file .plain .0 in
         record {
-          is-file = (g .is-file .0, ((λ z. live .0 (sym same-first ∙ z), λ z. live .1 (sym same-first ∙ z)), rw same-attr (g .is-file .1 .1)));
+          is-file = record {
+            below = g .is-file .below;
+            plain = ((λ z. live .0 (sym same-first ∙ z), λ z. live .1 (sym same-first ∙ z)), rw same-attr (g .is-file .plain .1));
+          };
           marked = marked-still;
           places = spared c u .places;
         }

@@ -204,8 +204,8 @@ module _ (k : Kind) (w : World) (v : OnVolume (w .image) k) (s : ℕ) (g : Guard
 
     new-other : isNothing (slotForNew l) ≡ false → ¬ (s ≡ placeFound (slotForNew l))
     new-other e q = elim (subst (λ (n : ℕ). VacantAt l (slotAt k n)) (sym q) (new-slot k l v e .passes)) [
-      | inl z ↦ g .is-file .1 .0 .1 z
-      | inr z ↦ g .is-file .1 .0 .0 z
+      | inl z ↦ g .is-file .plain .0 .1 z
+      | inr z ↦ g .is-file .plain .0 .0 z
     ]
 
     pub create-spares : Spared (create name attr stamp)

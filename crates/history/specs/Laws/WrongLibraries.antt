@@ -90,7 +90,7 @@ module _ {k : Kind} {w : World} {fs : Files} {f : File} {name : List ℕ} {attr 
   first-holds = subst (ShowsAt k l 0) (x .here) (shown 0)
 
   first-file : IsFile k l 0
-  first-file = record { below = first-holds .is-file .0; plain = first-holds .is-file .1 }
+  first-file = first-holds .is-file
 
   file-in : fileIn l 0 ≡ true
   file-in = rw (on-kind l k v, lt-ltb 0 (rootEntries k) (first-file .below), plain-is l (slotAt k 0) .1 (first-file .plain))

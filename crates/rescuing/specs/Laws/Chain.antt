@@ -91,7 +91,7 @@ module _ (img : List ℕ) (k : Kind) (e : kindOfImage img ≡ Known k) (slot : �
   module _ (i : IsFile k img slot) where
     -- row 5 stands exactly where finding 5 holds of the slot
     pub says-bad-chain : Says (not (goodChain k img slot)) (BadChain k img slot)
-    says-bad-chain = says-map (λ never. ((i .below, i .plain), λ cs c. never (cs, c))) (λ b r. b .1 (r .0) (r .1)) (says-not says-chain)
+    says-bad-chain = says-map (λ never. (i, λ cs c. never (cs, c))) (λ b r. b .1 (r .0) (r .1)) (says-not says-chain)
 
   -- ---- the code
 

@@ -42,9 +42,9 @@ module _ (k : Kind) (l : List ℕ) (v : OnVolume l k) where
   -- a sound volume has one plain file of a name
   one-name : (r s : ℕ) → IsFile k l r → IsFile k l s → nameOf l (slotAt k r) ≡ nameOf l (slotAt k s) → r ≡ s
   one-name r s i j e = elim (decLt r s) [
-    | yes x ↦ absurd (on-sound k l v .1 .slots s (j .0, inr (inr (inr (j .1, (r, x, i .1, e))))))
+    | yes x ↦ absurd (on-sound k l v .1 .slots s (j .below, inr (inr (inr (j .plain, (r, x, i .plain, e))))))
     | no x ↦ elim (decLt s r) [
-      | yes y ↦ absurd (on-sound k l v .1 .slots r (i .0, inr (inr (inr (i .1, (s, y, j .1, sym e))))))
+      | yes y ↦ absurd (on-sound k l v .1 .slots r (i .below, inr (inr (inr (i .plain, (s, y, j .plain, sym e))))))
       | no y ↦ omega arith
     ]
   ]
@@ -58,11 +58,14 @@ module _ (k : Kind) (l : List ℕ) (v : OnVolume l k) where
     as-file a z f =
         let c : slotAt k a + 0 ≡ slotAt k a = omega arith in
         let d : getD m (slotAt k a) 0 ≡ getD l (slotAt k a) 0 = rw c at (z 0 (omega arith)) in
-        (f .0, ((λ u. f .1 .0 .0 (d ∙ u), λ u. f .1 .0 .1 (d ∙ u)), rw (sym (alike a (f .0) z .attr)) (f .1 .1)))
+        record {
+          below = f .below;
+          plain = ((λ u. f .plain .0 .0 (d ∙ u), λ u. f .plain .0 .1 (d ∙ u)), rw (sym (alike a (f .below) z .attr)) (f .plain .1));
+        }
 
     as-one : (r s : ℕ) → SameBytes m (slotAt k r) l (slotAt k r) → SameBytes m (slotAt k s) l (slotAt k s) → IsFile k m r → IsFile k m s
         → nameOf m (slotAt k r) ≡ nameOf m (slotAt k s) → r ≡ s
-    as-one r s x y i j e = one-name r s (as-file r x i) (as-file s y j) (sym (alike r (i .0) x .name) ∙ e ∙ alike s (j .0) y .name)
+    as-one r s x y i j e = one-name r s (as-file r x i) (as-file s y j) (sym (alike r (i .below) x .name) ∙ e ∙ alike s (j .below) y .name)
 
 -- ---- the torn disk
 

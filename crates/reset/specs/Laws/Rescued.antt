@@ -54,9 +54,9 @@ module _ (m : List ℕ) (k : Kind) (e : kindOfImage m ≡ Known k) (s : ℕ) (f 
       rw is-kind (only-answer Named (rootEntries k) (slotNamed m (rootAt k) (rootEntries k) n) (At s)
       (slot-named-answers m (rootAt k) (rootEntries k) root-in n (proper name (accepted name (f .name) .1 means .0) .long))
       (record {
-        below = h .is-file .0;
-        passes = (h .is-file .1, spelled);
-        none-lower = λ q l x. let z : q ≡ s = alone q (omega (arith, h .is-file .0), x .0) (x .1 ∙ sym spelled) in omega arith;
+        below = h .is-file .below;
+        passes = (h .is-file .plain, spelled);
+        none-lower = λ q l x. let z : q ≡ s = alone q (record { below = omega (arith, h .is-file .below); plain = x .0 }) (x .1 ∙ sym spelled) in omega arith;
       }))
 
   good : goodChain k m s ≡ true

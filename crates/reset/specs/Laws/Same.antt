@@ -87,7 +87,7 @@ module _ (k : Kind) (l : List ℕ) (v : OnVolume l k) (s : ℕ) (i : IsFile k l 
       let χ = rootChains k l in
       record {
         long = x .frame .long;
-        entry = x .frame .others s (i .0) n;
+        entry = x .frame .others s (i .below) n;
         values = λ c h. same-table G (valueOf k l) (valueOf k m) H χ (on-theory k l v) (slotAt k r) _ ds (x .chain) (slotAt k s) c apart (mine c h);
         bytes = λ c q h. x .clusters .rest c q (link c h)
             (foreign G (valueOf k l) (valueOf k m) H χ (on-theory k l v) (slotAt k r) _ ds (x .chain) (slotAt k s) c apart (mine c h));
@@ -97,7 +97,7 @@ module _ (k : Kind) (l : List ℕ) (v : OnVolume l k) (s : ℕ) (i : IsFile k l 
 
   module _ (m : List ℕ) (x : SameIn k s cs l m) where
     within : slotAt k s + 32 ≤ length l
-    within = omega (arith, on-area l k v, i .0)
+    within = omega (arith, on-area l k v, i .below)
 
     fields : SameFields m (slotAt k s) l (slotAt k s)
     fields = same-fields m l (slotAt k s) (slotAt k s) (rw (x .long) within) within (x .entry)
@@ -106,7 +106,10 @@ module _ (k : Kind) (l : List ℕ) (v : OnVolume l k) (s : ℕ) (i : IsFile k l 
     first = let z : slotAt k s + 0 ≡ slotAt k s = omega arith in rw z at (x .entry 0 (omega arith))
 
     pub same-file : IsFile k m s
-    same-file = (i .0, ((λ e. i .1 .0 .0 (sym first ∙ e), λ e. i .1 .0 .1 (sym first ∙ e)), rw (fields .attr) (i .1 .1)))
+    same-file = record {
+      below = i .below;
+      plain = ((λ e. i .plain .0 .0 (sym first ∙ e), λ e. i .plain .0 .1 (sym first ∙ e)), rw (fields .attr) (i .plain .1));
+    }
 
     pub same-chain : ChainOf k m s cs
     same-chain = rw (fields .start, fields .size)

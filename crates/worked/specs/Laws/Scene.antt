@@ -20,7 +20,6 @@ use Rattle.names.specs.Reading.{nameGiven, fitting, beforeFirst, afterFirst}
 use Rattle.names.specs.Spelling.{every, eleven}
 use Rattle.opened.specs.Places.{LivePlace}
 use Rattle.opened.specs.Records.{usedOf, accessOf, slotOf, pointerOf, recordBytes}
-use Rattle.opened.specs.Aids.Records.{markBytes, numberBytes}
 use Rattle.formatting.specs.Format.{blank}
 use Rattle.formatting.specs.Laws.Blank.{blank-bytes, blank-slot}
 use Rattle.formatting.specs.Laws.Sound.{blank-no-file, blank-on}
@@ -84,14 +83,14 @@ made = new-holds kindFE (blank kindFE) on-blank bytes given (fits .0) 0 may 0 0 
 -- ---- the only place of the table: slot 0, access 2, pointer 10
 
 abbrev table : List ℕ
-table = recordBytes 2 0 10 false
+table = recordBytes true 2 0 10 false
 
 live : LivePlace table 0 image (rootAt kindFE) (rootEntries kindFE)
-unfolding usedOf accessOf slotOf recordBytes markBytes numberBytes number digits
-live = record { counted = omega arith; used = refl; access = omega arith; slot = omega arith; plain = made .is-file .1 }
+unfolding usedOf accessOf slotOf recordBytes number digits
+live = record { counted = omega arith; used = refl; access = omega arith; slot = omega arith; plain = made .is-file .plain }
 
 pub scene : Scene
-unfolding pointerOf recordBytes markBytes numberBytes number digits
+unfolding pointerOf recordBytes number digits
 scene = record {
   kind = kindFE;
   image = image;
