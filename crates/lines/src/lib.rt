@@ -4,7 +4,7 @@ ghost use lib.ListN.{length};
 ghost use Rattle.text.specs.Ascii.{ascii};
 ghost use Rattle.text.specs.Digits.{decimal, hex};
 ghost use Rattle.text.specs.Names.{nameText};
-ghost use Rattle.text.specs.Puts.{PutsIn};
+ghost use Rattle.text.specs.Aids.Puts.{PutsIn};
 ghost use Rattle.text.specs.Stamps.{dateText, timeText};
 ghost use Rattle.lines.specs.Lines.{line, stampText, fileText, countsText, soundText, unsoundText};
 ghost use Rattle.lines.specs.Aids.Rooms.{fileRoom, soundRoom, unsoundRoom};

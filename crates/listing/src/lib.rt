@@ -6,7 +6,7 @@ ghost use Prim.Native.Nat.{_+_, _*_, _≤_};
 ghost use lib.ListN.{length};
 ghost use Rattle.diskette.specs.Images.{AreaOf};
 ghost use Rattle.sound.specs.declared.Verdict.the-variants.{Sound};
-ghost use Rattle.text.specs.Puts.{PutsIn};
+ghost use Rattle.text.specs.Aids.Puts.{PutsIn};
 ghost use Rattle.lines.specs.Aids.Rooms.{fileRoom};
 ghost use Rattle.listing.specs.Listing.{entryText, slotText, filesText, volumeText, listingOf, listingRoom, Lists};
 

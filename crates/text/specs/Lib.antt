@@ -3,5 +3,5 @@ pub mod Ascii
 pub mod Digits
 pub mod Names
 pub mod Stamps
-pub mod Puts
+pub mod Aids
 pub mod Laws

@@ -2,7 +2,7 @@
 ghost use mathlib.Core.Path.{_≡_};
 ghost use Prim.Native.Nat.{_+_, _≤_, _<_};
 ghost use lib.ListN.{length};
-ghost use Rattle.text.specs.Puts.{PutsIn};
+ghost use Rattle.text.specs.Aids.Puts.{PutsIn};
 ghost use Rattle.text.specs.Digits.{digitSign, inDigits, width, decimal, hex};
 
 // The sign of a digit.

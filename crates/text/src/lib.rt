@@ -5,7 +5,7 @@ pub mod stamp;
 
 ghost use Prim.Native.Nat.{_+_, _≤_};
 ghost use lib.ListN.{length};
-ghost use Rattle.text.specs.Puts.{PutsIn};
+ghost use Rattle.text.specs.Aids.Puts.{PutsIn};
 
 // A text as it is.
 pub fn put_bytes(out: &mut [u8], at: usize, text: &[u8]) -> usize

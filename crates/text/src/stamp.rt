@@ -2,7 +2,7 @@
 use crate::digits;
 ghost use Prim.Native.Nat.{_+_, _*_, _≤_};
 ghost use lib.ListN.{length};
-ghost use Rattle.text.specs.Puts.{PutsIn};
+ghost use Rattle.text.specs.Aids.Puts.{PutsIn};
 ghost use Rattle.text.specs.Stamps.{markedText, threeText, dateText, timeText};
 
 // A mark and a number in two digits.

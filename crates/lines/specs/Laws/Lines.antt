@@ -2,7 +2,7 @@
 use Prim.Native.Nat.{ℕ}
 use mathlib.Core.List.{List, _++_}
 use Rattle.text.specs.Ascii.{ascii}
-use Rattle.text.specs.Puts.{Puts}
+use Rattle.text.specs.Aids.Puts.{Puts}
 use Rattle.text.specs.Laws.Puts.{puts-then}
 use Rattle.lines.specs.Lines.{line}
 

@@ -10,7 +10,7 @@ use Rattle.image.specs.Laws.Store.{stored-append}
 use Rattle.fields.specs.Fields.{nameOf, attrOf, timeOf, dateOf, startOf, sizeOf}
 use Rattle.directory.specs.Slots.{standingOf, isPlain}
 use Rattle.diskette.specs.Places.{slotFrom}
-use Rattle.text.specs.Puts.{PutsIn}
+use Rattle.text.specs.Aids.Puts.{PutsIn}
 use Rattle.lines.specs.Lines.{fileText}
 use Rattle.lines.specs.Aids.Rooms.{fileRoom}
 use Rattle.text.specs.Laws.Puts.{puts-nothing}

@@ -23,7 +23,7 @@ use Rattle.sound.specs.declared.Verdict.{Verdict}
 use Rattle.sound.specs.declared.Verdict.the-variants.{Sound, Finding}
 use Rattle.lines.specs.Lines.{soundText, unsoundText}
 use Rattle.lines.specs.Aids.Rooms.{fileRoom, soundRoom, unsoundRoom}
-use Rattle.text.specs.Puts.{PutsIn}
+use Rattle.text.specs.Aids.Puts.{PutsIn}
 use Rattle.text.specs.Laws.Puts.{puts-then}
 use Rattle.listing.specs.Listing.{filesText, volumeText, listingBy, listingOf, listingRoom, Lists}
 

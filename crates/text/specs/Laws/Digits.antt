@@ -10,7 +10,7 @@ use lib.ListN.{length, set, length-append}
 use borrow.Author.Tests.{lt-ltb, le-ltb}
 use Rattle.image.specs.Store.{stored}
 use Rattle.image.specs.Laws.Store.{stored-append, stored-swap}
-use Rattle.text.specs.Puts.{Puts, PutsIn}
+use Rattle.text.specs.Aids.Puts.{Puts, PutsIn}
 use Rattle.text.specs.Digits.{digitSign, inDigits, widthIn, width, decimal}
 
 -- ---- a sign

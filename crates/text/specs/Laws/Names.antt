@@ -13,7 +13,7 @@ use Rattle.image.specs.Store.{stored}
 use Rattle.names.specs.Alphabet.{plain}
 use Rattle.names.specs.Spelling.{dot, space, every}
 use Rattle.text.specs.Names.{onlySpaces, trimmed, shown, partText, extText}
-use Rattle.text.specs.Puts.{Puts, PutsIn}
+use Rattle.text.specs.Aids.Puts.{Puts, PutsIn}
 use Rattle.text.specs.Laws.Puts.{puts-nothing, puts-then}
 
 drop-next : (s : List ℕ) (i : ℕ) → i < length s → drop i s ≡ getD s i 0 ∷ drop (i + 1) s

@@ -7,7 +7,7 @@ use lib.ListN.{length-append}
 use Rattle.image.specs.Store.{stored}
 use Rattle.image.specs.Laws.Store.{stored-append}
 use Rattle.text.specs.Ascii.{ascii}
-use Rattle.text.specs.Puts.{Puts, PutsIn}
+use Rattle.text.specs.Aids.Puts.{Puts, PutsIn}
 use Rattle.text.specs.Stamps.{threeText, timeShown, timeText}
 use Rattle.stamps.specs.Stamps.{timeRead}
 use Rattle.stamps.specs.declared.TimeRead.{TimeRead}
