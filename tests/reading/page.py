@@ -1,6 +1,7 @@
 """The first page of READING.md: which files to open, step by step, with how many definitions and lines each step has.
 
-A row that opens nothing has the sums of all rows above it.
+A row that opens nothing has sums of the rows above it: of all; or, where it speaks of document 01, without the steps in
+italics, which are beyond that paper.
 """
 
 HEADS = ("Step", "Open", "Definitions", "Lines")
@@ -8,16 +9,23 @@ HEADS = ("Step", "Open", "Definitions", "Lines")
 
 def counted(paper, to_read):
     """(row, its cells by their heads as they are today) of each row. to_read has what is to be read, by its file."""
-    files = definitions = lines = 0
+    above = []
     for row in paper.table(*HEADS):
-        things = [thing for path in row.opens() for thing in to_read.get(path, [])]
-        files += len(row.opens())
-        definitions += len(things)
-        lines += sum(thing.lines for thing in things)
         if row.opens():
-            yield row, {"Definitions": f"{len(things)}", "Lines": f"{sum(thing.lines for thing in things):,}"}
+            above.append(row)
+            definitions, lines = size_of([row], to_read)
+            yield row, {"Definitions": f"{definitions:,}", "Lines": f"{lines:,}"}
         else:
+            summed = [step for step in above if "document 01" not in row.cells["Step"] or step.cells["Step"][0] != "*"]
+            definitions, lines = size_of(summed, to_read)
+            files = sum(len(step.opens()) for step in summed)
             yield row, {"Open": f"{files} files", "Definitions": f"{definitions:,}", "Lines": f"{lines:,}"}
+
+
+def size_of(steps, to_read):
+    """How many definitions and lines are to be read in the files that these steps open."""
+    things = [thing for step in steps for path in step.opens() for thing in to_read.get(path, [])]
+    return len(things), sum(thing.lines for thing in things)
 
 
 def rewritten(paper, to_read):

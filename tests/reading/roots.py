@@ -14,13 +14,12 @@ CALLS = [
     *("formatting/src/format.rt", "sound/src/lib.rt", "freespace/src/free_space.rt", "entries/src/entry.rt"),
     *("opening/src/open.rt", "creating/src/create.rt", "reading/src/read.rt", "writing/src/write.rt"),
     *("seeking/src/seek.rt", "closing/src/close.rt", "deleting/src/delete.rt", "renaming/src/rename.rt"),
-    *("marking/src/mode.rt", "viewing/src/view.rt", "lent/src/lib.rt", "single/src/held.rt", "lending/src/lib.rt"),
+    *("marking/src/mode.rt", "viewing/src/view.rt", "rescuing/src/rescue.rt"),
+    *("lent/src/lib.rt", "single/src/held.rt", "lending/src/lib.rt"),
 ]
-# What the program that lists a volume puts into its buffer.
-LISTING = "listing/src/area.rt"
-# The files of worked numbers, with equations over them; and the folder of the promises, which its laws prove.
-WORKED = ["crates/worked/specs/Worked.antt", "crates/lines/specs/Worked.antt"]
-PROMISES = "crates/history/specs"
+# The file with equations over worked numbers; and the folders of promises and worked numbers that the laws there prove.
+EQUATIONS = "crates/lines/specs/Worked.antt"
+PROMISES = ["crates/history/specs", "crates/reset/specs", "crates/worked/specs"]
 # The head of the column of tests in READING.md.
 TESTS = "Test: what it means"
 
@@ -31,8 +30,8 @@ def public_in(definitions, file):
 
 
 def calls(definitions, header, listed, tally):
-    """The public calls, and the listing's function. header is the text of the header for C, listed has (path, name) of
-    each call in UNIQUENESS.md."""
+    """The public calls. header is the text of the header for C, listed has (path, name) of each call in
+    UNIQUENESS.md."""
     found = [function for file in definitions.files.values() for function in file.functions if function.for_c]
     declared = set(re.findall(r"\b(bm_\w+)\(", header))
     missing = declared - {function.name for function in found}
@@ -47,38 +46,37 @@ def calls(definitions, header, listed, tally):
         tally.check((path, name) in there, f"'{name}' of {path} is a call in UNIQUENESS.md, and none in roots.py")
     for call in found:
         tally.check(not call.asks(), f"{call.where()} asks for something: a public call takes anything")
-    found += public_in(definitions, LISTING)
-    for call in found:
         named = [thing for thing in definitions.uses(call) if isinstance(thing, Item)]
         tally.check(call.promises() and named, f"{call.where()} promises nothing by our definitions")
     return found
 
 
 def statements(definitions, tally):
-    """The equations over worked numbers, and the promises: what a law of `history` proves as it stands."""
-    found = []
-    for path in WORKED:
-        items = definitions.modules[path].items.values() if path in definitions.modules else []
-        equations = [item for item in items if "≡" in nested(item.statement)]
-        tally.check(equations, f"{path} has no equation over worked numbers")
-        found += equations
-    proved = set()
-    for path, module in definitions.modules.items():
-        if path.startswith(f"{PROMISES}/Laws/"):
-            proved |= {proved_by(definitions, module, law) for law in module.items.values()} - {None}
-    tally.check(proved, f"no law in {PROMISES}/Laws proves a promise")
-    return found + sorted(proved, key=lambda item: (item.path, item.name))
+    """The equations over worked numbers, and the promises: what a law of their own folder proves as it stands."""
+    items = definitions.modules[EQUATIONS].items.values() if EQUATIONS in definitions.modules else []
+    found = [item for item in items if "≡" in nested(item.statement)]
+    tally.check(found, f"{EQUATIONS} has no equation over worked numbers")
+    for folder in PROMISES:
+        laws = [(module, law) for module in modules_in(definitions, f"{folder}/Laws/") for law in module.items.values()]
+        proved = {proved_by(definitions, module, law, folder) for module, law in laws} - {None}
+        tally.check(proved, f"no law in {folder}/Laws proves a promise")
+        found += sorted(proved, key=lambda item: (item.path, item.name))
+    return found
 
 
-def proved_by(definitions, module, law):
-    """The promise that a law proves: its statement is the promise's name, perhaps with what it is about."""
+def modules_in(definitions, folder):
+    return [module for path, module in definitions.modules.items() if path.startswith(folder)]
+
+
+def proved_by(definitions, module, law, folder):
+    """The promise in this folder that a law proves: the law's statement is its name, perhaps with what it is about."""
     words = nested(law.statement)
     if law.kind != "definition" or law.sections or not all(isinstance(word, str) for word in words):
         return None
     if words[0] not in module.imported or not {"→", "≡", "×"}.isdisjoint(words):
         return None
     item, _ = definitions.meaning(module, words[0])
-    return item if item and item.path.startswith(PROMISES) and not is_aside(item) else None
+    return item if item and item.path.startswith(f"{folder}/") and not is_aside(item) else None
 
 
 def theorems(definitions, paper, tally):

@@ -119,6 +119,8 @@ pub fn found(k: Kind) -> Found
 }
 """,
 }
+# The law that proves the worked numbers.
+WORKED = "crates/worked/specs/Laws/Worked.antt"
 # What each of its definitions, types and contracts names.
 USES = {
     **{"plainly": "used", "byAlias": "used", "byModule": "used", "byOperator": "_or_", "byArgument": "plainly"},
@@ -160,6 +162,7 @@ def edits(found):
     yield "an enum left out", READING, without(paper, paper.table(ENUMS)[0].line), "is an enum that"
     steps = paper.table(*page.HEADS)
     yield "an old number", READING, with_line(paper, steps[0], f"| {steps[0].cells['Lines']} |", "| 0 |"), "today"
+    yield "a step set apart", READING, with_line(paper, steps[0], "| 1.", "| *1."), "today"
     file = quoted(steps[0].cells["Open"])[0]
     yield "a file left out", READING, with_line(paper, steps[0], f"`{file}`, ", ""), "no step of the first page opens"
     yield "steps out of order", READING, without(paper, steps[0].line, behind=steps[-2].line), "which it names"
@@ -181,6 +184,8 @@ def edits_of_code(found):
     yield "no promise", call.path, in_contract(text, call, r"ensures \{.*?\}\n", ""), "promises nothing"
     asking = "requires { ⌜ 0 ⌝ }\n    ensures"
     yield "a condition", call.path, in_contract(text, call, "ensures", asking), "asks for something"
+    text = found.tree.text(WORKED).replace(" : WorkedNumbers", " : Scene → WorkedNumbers")
+    yield "worked numbers that nothing proves", WORKED, text, "'WorkedNumbers' in"
     floors = found.tree.text("crates.txt") + "\n# Cellar: nothing.\n"
     yield "a floor that README.md has not", "crates.txt", floors, "the floor 'Cellar'"
     header = found.tree.text(HEADER) + "\nuint64_t bm_needless(void);\n"
