@@ -7,6 +7,7 @@ pub mod Rows
 pub mod Passed
 pub mod Found
 pub mod Meant
+pub mod OneNamed
 pub mod Looks
 pub mod Refused
 pub mod Came
@@ -27,6 +28,7 @@ pub mod TableBecomes
 pub mod FileStays
 pub mod PlaceKept
 pub mod Handles
+pub mod HandlesKept
 pub mod Seeks
 pub mod Keeps
 pub mod Blank

@@ -20,7 +20,8 @@ use Rattle.history.specs.Meant.{Names, target, nothing}
 use Rattle.history.specs.Promises.{Begins}
 use Rattle.history.specs.World.{World, Call, ours, outcomeOf, step}
 use Rattle.history.specs.Laws.Begins.{on, on-begins}
-use Rattle.history.specs.Laws.Meant.{names-one, names-none}
+use Rattle.history.specs.Laws.Meant.{names-none}
+use Rattle.history.specs.Laws.OneNamed.{names-one}
 
 module _ (k : Kind) (w : World) (c : Call) (b : Begins k w) where
   abbrev m : List ℕ

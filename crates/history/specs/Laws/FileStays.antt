@@ -21,7 +21,7 @@ use Rattle.history.specs.Laws.Begins.{on}
 use Rattle.history.specs.Laws.Came.{came-after, came-shows, came-others}
 use Rattle.history.specs.Laws.EveryCall.{came}
 use Rattle.history.specs.Laws.Given.{given-create}
-use Rattle.history.specs.Laws.Meant.{names-one}
+use Rattle.history.specs.Laws.OneNamed.{names-one}
 use Rattle.history.specs.Laws.Shown.{volume-shows}
 
 -- there is a file

@@ -1,7 +1,8 @@
 -- Our library keeps all of demand 3.
 use Rattle.history.specs.Keeps.{Keeps}
 use Rattle.history.specs.World.{ours}
-use Rattle.history.specs.Laws.Handles.{hands-out-its-file, handles-keep-their-files}
+use Rattle.history.specs.Laws.Handles.{hands-out-its-file}
+use Rattle.history.specs.Laws.HandlesKept.{handles-keep-their-files}
 use Rattle.history.specs.Laws.Looks.{looks-alter-nothing}
 use Rattle.history.specs.Laws.Promises.{sound-after-each, files-of-history, names-a-file, alters-no-other, total-after-each, short-only-where-full}
 use Rattle.history.specs.Laws.Refused.{refusals-leave-all, refused-reads-leave-buffer}

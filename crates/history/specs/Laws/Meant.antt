@@ -1,14 +1,12 @@
 -- The file that a call names: that there is one, by the rows that were passed, and that there is no second.
 use Prim.Native.Nat.{ℕ}
-use native.Mathlib.Omega.{arith}
-use native.Mathlib.Decide.{ℕ-discrete, decLt}
 use mathlib.Core.Bool.{true, false}
 use mathlib.Core.List.{List}
-use mathlib.Core.Logic.{_↔_, inl, inr}
-use mathlib.Core.Path.{_≡_, refl, sym, _∙_, subst}
+use mathlib.Core.Logic.{_↔_}
+use mathlib.Core.Path.{_≡_, refl, sym, subst}
 use Rattle.diskette.specs.Places.{rootAt, rootEntries, slotAt}
 use Rattle.diskette.specs.declared.Kind.{Kind}
-use Rattle.search.specs.Search.{LowestBelow, Answers}
+use Rattle.search.specs.Search.{Answers}
 use Rattle.search.specs.declared.Found.{Found}
 use Rattle.search.specs.declared.Found.the-variants.{At, Nothing}
 use Rattle.fields.specs.Fields.{nameOf}
@@ -23,11 +21,9 @@ use Rattle.calls.specs.Aids.Ready.{OnVolume}
 use Rattle.calls.specs.Refusals.{isNothing, placeFound, badName, noFile, fileSlot, notLive, slotForNew}
 use Rattle.calls.specs.Laws.Files.{root-within}
 use Rattle.calls.specs.Laws.Ready.{on-kind}
-use Rattle.sound.specs.Files.{IsFile}
-use Rattle.changes.specs.Laws.Slots.{name-once}
 use Rattle.opened.specs.Places.{LivePlace}
 use Rattle.opened.specs.Records.{slotOf}
-use Rattle.history.specs.Meant.{HasName, Reaches, IsForNew, Target, NamedBy, Names, target, nothing, byName, byHandle, toMake}
+use Rattle.history.specs.Meant.{HasName, Reaches, IsForNew, Target, NamedBy, Names, target, nothing, byName}
 use Rattle.history.specs.World.{World, Call}
 use Rattle.history.specs.Laws.Found.{good-name, file-found, no-file-found, live-at, new-slot}
 
@@ -73,34 +69,6 @@ reaches k w v h e =
     let x : LivePlace (w .table) h (w .image) (rootAt k) (rootEntries k) = rw (← on-kind (w .image) k v) (live-at k (w .image) v (w .table) h e) in
     record { live = x; slot = refl }
 
--- ---- there is no second
-
-module _ (k : Kind) (w : World) (v : OnVolume (w .image) k) (s t : ℕ) where
-  name-one : {name : List ℕ} → HasName k (w .image) name s → HasName k (w .image) name t → s ≡ t
-  name-one x y = elim (ℕ-discrete s t) [
-    | yes e ↦ e
-    | no d ↦
-        absurd (name-once k (w .image) v t (y .is-file) s (x .is-file .below) d (x .is-file .plain) (sym (meant-is (x .meant)) ∙ meant-is (y .meant)))
-  ]
-
-  lowest-one : {P : ℕ → Type 0} {n : ℕ} → LowestBelow P n s → LowestBelow P n t → s ≡ t
-  lowest-one x y = elim (decLt s t) [
-    | yes h ↦ absurd (y .none-lower s h (x .passes))
-    | no h ↦ elim (decLt t s) [ yes i ↦ absurd (x .none-lower t i (y .passes)) | no i ↦ omega arith ]
-  ]
-
-  named-one : (a : Target) → NamedBy a k w s → NamedBy a k w t → s ≡ t
-  named-one nothing x y = absurd x
-  named-one (byName name) x y = name-one x y
-  named-one (byHandle h) x y = sym (x .slot) ∙ y .slot
-  named-one (toMake name) (inl x) (inl y) = name-one x y
-  named-one (toMake name) (inl x) (inr y) = absurd (y .new s x)
-  named-one (toMake name) (inr x) (inl y) = absurd (x .new t y)
-  named-one (toMake name) (inr x) (inr y) = lowest-one (x .lowest) (y .lowest)
-
-  pub names-one : (c : Call) → Names c k w s → Names c k w t → s ≡ t
-  names-one c = named-one (target c)
-
 -- a call that is about nothing names nothing
 pub names-none : (k : Kind) (w : World) (c : Call) → target c ≡ nothing → (s : ℕ) → ¬ Names c k w s
 names-none k w c e s = subst (λ (a : Target). ¬ NamedBy a k w s) (sym e) (λ x. x)
@@ -110,6 +78,3 @@ names-none k w c e s = subst (λ (a : Target). ¬ NamedBy a k w s) (sym e) (λ x
 module _ (k : Kind) (w : World) (v : OnVolume (w .image) k) (name : List ℕ) (good : badName name ≡ false) (there : noFile (w .image) name ≡ false) where
   pub by-name : NamedBy (byName name) k w (fileSlot (w .image) name)
   by-name = has-name k (w .image) v name (good-name name good) there
-
-  pub by-name-only : (s : ℕ) → NamedBy (byName name) k w s → s ≡ fileSlot (w .image) name
-  by-name-only s x = named-one k w v s (fileSlot (w .image) name) (byName name) x by-name

@@ -19,7 +19,7 @@ use Rattle.history.specs.World.{World, Call, outcomeOf, step}
 use Rattle.history.specs.Laws.Begins.{on}
 use Rattle.history.specs.Laws.Came.{came-begins, came-shows, came-entries, after-does}
 use Rattle.history.specs.Laws.EveryCall.{came}
-use Rattle.history.specs.Laws.Meant.{names-one}
+use Rattle.history.specs.Laws.OneNamed.{names-one}
 use Rattle.history.specs.Laws.Room.{needed, free-after, aside-after}
 
 -- the volume has these files, and the slots above n were never used

@@ -29,7 +29,7 @@ use Rattle.history.specs.Promises.{Begins}
 use Rattle.history.specs.World.{World, Call, step}
 use Rattle.history.specs.Laws.Begins.{on}
 use Rattle.history.specs.Laws.Came.{came-begins}
-use Rattle.history.specs.Laws.Meant.{names-one}
+use Rattle.history.specs.Laws.OneNamed.{names-one}
 use Rattle.history.specs.Laws.Shown.{bytes-long, holds-bytes}
 
 -- how many clusters a file needs, by its bytes

@@ -44,7 +44,8 @@ use Rattle.writing.specs.Laws.Write.{pointer-fits}
 use Rattle.history.specs.Meant.{Names}
 use Rattle.history.specs.World.{World, Call, outcomeOf, openFile, create, read, write, seek, close, delete, rename, mode}
 use Rattle.history.specs.Laws.Found.{good-name, found-at, file-there, live-at, live-there}
-use Rattle.history.specs.Laws.Meant.{by-name, by-name-only, has-name, for-new}
+use Rattle.history.specs.Laws.Meant.{by-name, has-name, for-new}
+use Rattle.history.specs.Laws.OneNamed.{by-name-only}
 use Rattle.history.specs.Laws.Passed.{passed-row}
 use Rattle.history.specs.Laws.Rows.{decided-cases}
 

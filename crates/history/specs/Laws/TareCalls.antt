@@ -39,7 +39,8 @@ use Rattle.writing.specs.Write.{writeCount, writeRows, writeAt, writeEffect, wr
 use Rattle.history.specs.Meant.{Names, NamedBy, byName}
 use Rattle.history.specs.World.{World, Call, outcomeOf, openFile, create, read, write, seek, close, delete, rename, mode}
 use Rattle.history.specs.Laws.Found.{good-name, place-counts, named-small, live-at, new-slot}
-use Rattle.history.specs.Laws.Meant.{has-name, for-new, names-one, by-name-only}
+use Rattle.history.specs.Laws.Meant.{has-name, for-new}
+use Rattle.history.specs.Laws.OneNamed.{names-one, by-name-only}
 use Rattle.history.specs.Laws.Passed.{passed-row}
 use Rattle.history.specs.Laws.Rows.{decided-cases}
 use Rattle.history.specs.Laws.TarePlaces.{Watched, ReadsOnly, record-watched, pointer-watched, wrote-watched, cleared-watched}
