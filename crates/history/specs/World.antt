@@ -3,13 +3,7 @@
 use Prim.Native.Nat.{ℕ}
 use mathlib.Core.List.{List, [], _∷_}
 use lib.IntN.{ℤ}
-use Rattle.chains.specs.Sums.{bit}
 use Rattle.stamps.specs.declared.Stamp.{Stamp}
-use Rattle.sound.specs.Judged.{checkOf}
-use Rattle.sound.specs.declared.Verdict.{Verdict}
-use Rattle.sound.specs.declared.Verdict.the-variants.{Sound, Finding}
-use Rattle.freespace.specs.FreeSpace.{freeSpace}
-use Rattle.entries.specs.Entry.{entryTold}
 use Rattle.calls.specs.Outcome.{Outcome, outcome}
 use Rattle.opening.specs.Open.{openOutcome}
 use Rattle.seeking.specs.Seek.{seekOutcome}
@@ -22,6 +16,7 @@ use Rattle.rescuing.specs.Rescue.{rescueOutcome}
 use Rattle.creating.specs.Create.{createOutcome}
 use Rattle.deleting.specs.Delete.{deleteOutcome}
 use Rattle.writing.specs.Write.{writeOutcome}
+use Rattle.scale.specs.Calls.{checkCall, freeSpaceCall, entryCall}
 
 pub record World : Type 0 where
   pub image : List ℕ
@@ -68,25 +63,18 @@ runBy lib w (c ∷ cs) = runBy lib (stepBy lib w c) cs
 
 -- ---- our library: the calls' own outcome functions
 
--- what a look answers: a number, 0 where all is well, and a value
-abbrev pub looked : ℕ → ℕ → World → Outcome
-looked number value w = outcome number value (w .image) (w .table) []
+-- a look takes no table: it stays
+abbrev pub lookedIn : World → Outcome → Outcome
+lookedIn w o = outcome (o .number) (o .value) (o .image) (w .table) (o .buffer)
 
--- check never refuses: its number is the finding and its value the place
-abbrev pub verdictIn : Verdict → World → Outcome
-verdictIn (Sound files free held aside) w = looked 0 0 w
-verdictIn (Finding number place) w = looked number place w
-
--- view and rescue take no table: it stays
-abbrev pub viewedIn : Outcome → World → Outcome
-viewedIn o w = outcome (o .number) (o .value) (o .image) (w .table) (o .buffer)
-
+-- check, free space and entry as C sees them, with no room in out; check never refuses: its number is the finding, its value the
+-- place
 abbrev pub lookOutcome : Look → World → Outcome
-lookOutcome check w = verdictIn (checkOf (w .image)) w
-lookOutcome countFree w = looked (freeSpace (w .image) .number) (freeSpace (w .image) .free) w
-lookOutcome (tellEntry slot) w = looked (entryTold (w .image) slot .number) (bit (entryTold (w .image) slot .found)) w
-lookOutcome (view name offset) w = viewedIn (viewOutcome (w .image) name offset) w
-lookOutcome (rescue name out) w = viewedIn (rescueOutcome (w .image) name out) w
+lookOutcome check w = lookedIn w (checkCall (w .image) [])
+lookOutcome countFree w = lookedIn w (freeSpaceCall (w .image) [])
+lookOutcome (tellEntry slot) w = lookedIn w (entryCall (w .image) slot [])
+lookOutcome (view name offset) w = lookedIn w (viewOutcome (w .image) name offset)
+lookOutcome (rescue name out) w = lookedIn w (rescueOutcome (w .image) name out)
 
 abbrev pub outcomeOf : Call → World → Outcome
 outcomeOf (look x) w = lookOutcome x w
