@@ -162,33 +162,35 @@ static size_t put_line(uint8_t *at, const struct day *day, long grams)
     return (size_t)sprintf((char *)at, "%.8s %ld\n", day->time, grams);
 }
 
-static bool is_last_line(const struct bytes *log, const uint8_t *line, size_t length)
+/* Whether the day's file is in the middle of a line: one that was put on the disk by hand may lack its last newline. */
+static bool is_unended(const struct bytes *log)
 {
-    size_t before;
-    if (log->length < length)
-        return false;
-    before = log->length - length;
-    return memcmp(log->at + before, line, length) == 0 && (before == 0 || log->at[before - 1] == '\n');
+    return log->length > 0 && log->at[log->length - 1] != '\n';
 }
 
-/* Whether one of the weighings is the last line of the day's file already, and says so. A file that can't be read has no
- * lines: what is wrong with it is said when it is opened to be written. */
-static bool is_stored(const struct bytes *image, const struct day *day, const struct weighings *weighings)
+/* Whether text, a line without its newline, is the last line of the day's file. */
+static bool is_last_line(const struct bytes *log, const uint8_t *text, size_t length)
 {
-    struct bytes log;
+    size_t end = is_unended(log) || log->length == 0 ? log->length : log->length - 1;
+    if (end < length)
+        return false;
+    return memcmp(log->at + end - length, text, length) == 0 && (end == length || log->at[end - length - 1] == '\n');
+}
+
+/* Whether one of the weighings is the last line of the day's file already, and says so. */
+static bool is_stored(const struct bytes *log, const struct day *day, const struct weighings *weighings)
+{
     uint8_t line[LINE_MOST];
     size_t n, length = 0;
     bool stored = false;
-    fetch_file(image, day->file, &log);
     for (n = 0; !stored && n < weighings->count; n++) {
-        length = put_line(line, day, weighings->grams[n]);
-        stored = is_last_line(&log, line, length);
+        length = put_line(line, day, weighings->grams[n]) - 1;
+        stored = is_last_line(log, line, length);
     }
-    free(log.at);
     if (stored)
         say("%s: Its last line is %.*s already, so nothing was stored. If that is another weighing, give this one the "
             "next second.",
-            day->file, (int)length - 1, (char *)line);
+            day->file, (int)length, (char *)line);
     return stored;
 }
 
@@ -240,11 +242,15 @@ static bool append(struct bytes *image, const struct day *day, const struct byte
 
 /* ---- Weighing ---- */
 
-static bool append_all(struct bytes *image, const struct day *day, const struct weighings *weighings)
+/* Each weighing becomes a line of its own. */
+static bool append_all(struct bytes *image, const struct bytes *log, const struct day *day,
+                       const struct weighings *weighings)
 {
-    struct bytes lines = new_bytes(weighings->count * LINE_MOST);
+    struct bytes lines = new_bytes(1 + weighings->count * LINE_MOST);
     size_t n, length = 0;
     bool appended;
+    if (is_unended(log))
+        lines.at[length++] = '\n';
     for (n = 0; n < weighings->count; n++)
         length += put_line(lines.at + length, day, weighings->grams[n]);
     lines.length = length;
@@ -279,11 +285,17 @@ static enum status show_stored(const struct day *day, const struct weighings *we
     return status;
 }
 
+/* A day's file that can't be read has no lines here: what is wrong with it is said when it is opened to be written. */
 static enum status store(const char *path, struct bytes *image, const struct day *day,
                          const struct weighings *weighings, long tare)
 {
+    struct bytes log;
     enum saved saved;
-    if (is_stored(image, day, weighings) || !append_all(image, day, weighings))
+    bool appended;
+    fetch_file(image, day->file, &log);
+    appended = !is_stored(&log, day, weighings) && append_all(image, &log, day, weighings);
+    free(log.at);
+    if (!appended)
         return NOT_STORED;
     saved = replace_whole(path, image);
     return saved == NOT_SAVED ? NOT_STORED : show_stored(day, weighings, tare, saved);

@@ -4,24 +4,6 @@
 #include <stdlib.h>
 #include <string.h>
 
-int passed = 0;
-int failed = 0;
-
-void expect(int holds, const char *what)
-{
-    printf("%s: %s\n", holds ? "ok" : "FAILED", what);
-    if (holds)
-        passed++;
-    else
-        failed++;
-}
-
-int tally(void)
-{
-    printf("%d passed, %d failed\n", passed, failed);
-    return failed == 0 ? 0 : 1;
-}
-
 struct block new_block(size_t length)
 {
     struct block block;

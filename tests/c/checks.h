@@ -1,17 +1,9 @@
-/* What the tests have in common: checks that print a line each, memory between guards, volumes laid out by bytes. */
+/* What the tests have in common: memory between guards, answers, volumes laid out by bytes. */
 #ifndef CHECKS_H
 #define CHECKS_H
 
 #include "balladmoor.h"
-
-/* ---- Checks ---- */
-
-extern int passed, failed;
-
-void expect(int holds, const char *what);
-
-/* Prints how many passed and failed: the last line of each program. Answers its exit status. */
-int tally(void);
+#include "tally.h"
 
 /* ---- Memory between guards: bytes around it that no call may touch. ---- */
 

@@ -76,4 +76,15 @@ printf 'checked at 07:00:06 50000\n' >note
 balladmoor put hive.img 19830905.LOG note
 ends 0 "a line that ends with the weighing is another" scale hive.img 1983-09-05 07:00:06 50000
 day 19830905.LOG "checked at 07:00:06 50000" "07:00:06 50000"
+printf '07:00:07 50000' >unended
+balladmoor put hive.img 19830905.LOG unended
+cp hive.img before.img
+ends 1 "a last line without its newline, again" scale hive.img 1983-09-05 07:00:07 50000
+same
+ends 0 "after a line without its newline a new one begins" scale hive.img 1983-09-05 07:00:07 5000
+day 19830905.LOG "07:00:07 50000" "07:00:07 5000"
+printf '\n' >empty_line
+balladmoor put hive.img 19830905.LOG empty_line
+ends 0 "a file that is one newline" scale hive.img 1983-09-05 07:00:07 5000
+day 19830905.LOG "" "07:00:07 5000"
 for file in 19830904.LOG 19830905.LOG; do balladmoor delete hive.img $file; done

@@ -1,19 +1,5 @@
 #include "checks.h"
 
-#include <stdio.h>
-
-int passed = 0;
-int failed = 0;
-
-void expect(int holds, const char *what)
-{
-    printf("%s: %s\n", holds ? "ok" : "FAILED", what);
-    if (holds)
-        passed++;
-    else
-        failed++;
-}
-
 int gives(const uint8_t *disk, size_t length, const char *name, const uint8_t *bytes, size_t count)
 {
     enum { OLD_BYTE = 0x5A, MORE = 16 };

@@ -1,12 +1,9 @@
-/* Checks that print a line each, and what is looked for on a disk. */
+/* What is looked for on a disk. */
 #ifndef CHECKS_H
 #define CHECKS_H
 
 #include "save.h"
-
-extern int passed, failed;
-
-void expect(int holds, const char *what);
+#include "tally.h"
 
 /* Whether rescue gives just these bytes of the file, and leaves the rest of its buffer. */
 int gives(const uint8_t *disk, size_t length, const char *name, const uint8_t *bytes, size_t count);
