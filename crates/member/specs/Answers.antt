@@ -14,6 +14,7 @@ use Rattle.stamps.specs.declared.TimeRead.{TimeRead}
 use Rattle.stamps.specs.declared.TimeRead.the-variants.{Time, NoTime}
 use Rattle.stamps.specs.declared.DateRead.{DateRead}
 use Rattle.stamps.specs.declared.DateRead.the-variants.{Date, NoDate}
+use Rattle.calls.specs.Numbers.{ofNoKind, outOfRange}
 
 -- a refusal: value 0
 abbrev pub refusalAnswer : ℕ → ℕ
@@ -32,16 +33,16 @@ standingTold Label attr = cond (eqb attr 0x0F) 5 3
 -- 0: the kind has no such slot; "40: image not of a kind"
 unfoldable pub slotTold : WhichKind → List ℕ → ℕ → ℕ
 slotTold (Known k) img s = cond (leb (rootEntries k) s) 0 (standingTold (standingOf img (slotAt k s)) (attrOf img (slotAt k s)))
-slotTold Unknown img s = refusalAnswer 40
+slotTold Unknown img s = refusalAnswer ofNoKind
 
 -- ---- a stored date and a stored time; "43: a stamp out of its ranges"
 
 -- the digits YYYYMMDD: the year counts from 1980
 unfoldable pub dateTold : DateRead → ℕ
 dateTold (Date year month day) = (1980 + year) * 10000 + month * 100 + day
-dateTold NoDate = refusalAnswer 43
+dateTold NoDate = refusalAnswer outOfRange
 
 -- the digits HHMMSS: steps are of two seconds
 unfoldable pub timeTold : TimeRead → ℕ
 timeTold (Time hour minute step) = hour * 10000 + minute * 100 + step * 2
-timeTold NoTime = refusalAnswer 43
+timeTold NoTime = refusalAnswer outOfRange

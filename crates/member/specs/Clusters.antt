@@ -17,6 +17,7 @@ use Rattle.values.specs.declared.Meaning.the-variants.{Free, Next, Aside, End, 
 use Rattle.table.specs.Entries.{tableOf}
 use Rattle.fields.specs.Fields.{startOf}
 use Rattle.directory.specs.Slots.{standingOf, isPlain}
+use Rattle.calls.specs.Numbers.{ofNoKind}
 use Rattle.member.specs.Answers.{refusalAnswer}
 
 -- ---- what the value of a cluster means
@@ -32,7 +33,7 @@ meaningTold End = 5
 -- 0: the kind has no such cluster; "40: image not of a kind"
 unfoldable pub clusterTold : WhichKind → List ℕ → ℕ → ℕ
 clusterTold (Known k) img c = cond (linkb (lastCluster k) c) (meaningTold (meaningOf (lastCluster k) (tableOf (lastCluster k) img c))) 0
-clusterTold Unknown img c = refusalAnswer 40
+clusterTold Unknown img c = refusalAnswer ofNoKind
 
 -- ---- which files' chains come to it
 
@@ -58,4 +59,4 @@ foundTold Nothing = 0
 -- the lowest slot from s on that holds cluster c; "40: image not of a kind"
 unfoldable pub holderTold : WhichKind → List ℕ → ℕ → ℕ → ℕ
 holderTold (Known k) img c s = foundTold (lowest (slotHolds (lastCluster k) (clusters k) img (rootAt k) c) s (rootEntries k - s))
-holderTold Unknown img c s = refusalAnswer 40
+holderTold Unknown img c s = refusalAnswer ofNoKind

@@ -1,4 +1,5 @@
 // Clusters as the map shows them: what the value of one means, and which files hold it. For any image of a kind.
+use calls::numbers;
 use diskette::Kind;
 use diskette::WhichKind;
 use search::Found;
@@ -50,7 +51,7 @@ pub extern "C" fn member_cluster(img: &[u8], cluster: u32) -> u64
 {
     match diskette::kind_of_image(img) {
         WhichKind::Known(k) => value_told(img, k, cluster as usize),
-        WhichKind::Unknown => 40 * 4294967296,
+        WhichKind::Unknown => super::refused(numbers::OF_NO_KIND),
     }
 }
 
@@ -139,6 +140,6 @@ pub extern "C" fn member_holder(img: &[u8], cluster: u32, slot: u32) -> u64
 {
     match diskette::kind_of_image(img) {
         WhichKind::Known(k) => holder_told(img, k, cluster as usize, slot as usize),
-        WhichKind::Unknown => 40 * 4294967296,
+        WhichKind::Unknown => super::refused(numbers::OF_NO_KIND),
     }
 }

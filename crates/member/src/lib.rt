@@ -1,6 +1,7 @@
 // What the command for members asks beside the scale's calls (tools/member.h): plain numbers and an image in, one number out.
 pub mod clusters;
 
+use calls::numbers;
 use directory::Standing;
 use diskette::WhichKind;
 use stamps::DateRead;
@@ -8,7 +9,14 @@ use stamps::TimeRead;
 ghost use mathlib.Core.Path.{_≡_};
 ghost use Rattle.stamps.specs.Stamps.{timeRead, dateRead};
 ghost use Rattle.diskette.specs.Images.{kindOfImage};
-ghost use Rattle.member.specs.Answers.{standingTold, slotTold, dateTold, timeTold};
+ghost use Rattle.member.specs.Answers.{refusalAnswer, standingTold, slotTold, dateTold, timeTold};
+
+// A refusal: its number in the upper 32 bits, the value 0.
+pub fn refused(number: u32) -> u64
+    ensures { λ r. ⌜ r ≡ refusalAnswer number ⌝ }
+{
+    number as u64 * 4294967296
+}
 
 // What an entry with that attribute stands for, as a number.
 fn standing_told(standing: Standing, attr: u8) -> u64
@@ -36,7 +44,7 @@ pub extern "C" fn member_slot(img: &[u8], slot: u32) -> u64
             let a = k.slot_at(s);
             standing_told(directory::standing_at(img, a), fields::attr_at(img, a))
         }
-        WhichKind::Unknown => 40 * 4294967296,
+        WhichKind::Unknown => refused(numbers::OF_NO_KIND),
     }
 }
 
@@ -46,13 +54,13 @@ pub extern "C" fn member_date(word: u32) -> u64
     ensures { λ r. ⌜ r ≡ dateTold (dateRead word) ⌝ }
 {
     if 65535 < word {
-        return 43 * 4294967296;
+        return refused(numbers::OUT_OF_RANGE);
     }
     match stamps::read_date(word as u16) {
         DateRead::Date(year, month, day) => {
             (1980 + year as u64) * 10000 + month as u64 * 100 + day as u64
         }
-        DateRead::NoDate => 43 * 4294967296,
+        DateRead::NoDate => refused(numbers::OUT_OF_RANGE),
     }
 }
 
@@ -62,12 +70,12 @@ pub extern "C" fn member_time(word: u32) -> u64
     ensures { λ r. ⌜ r ≡ timeTold (timeRead word) ⌝ }
 {
     if 65535 < word {
-        return 43 * 4294967296;
+        return refused(numbers::OUT_OF_RANGE);
     }
     match stamps::read_time(word as u16) {
         TimeRead::Time(hour, minute, step) => {
             hour as u64 * 10000 + minute as u64 * 100 + step as u64 * 2
         }
-        TimeRead::NoTime => 43 * 4294967296,
+        TimeRead::NoTime => refused(numbers::OUT_OF_RANGE),
     }
 }

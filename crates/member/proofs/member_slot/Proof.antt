@@ -31,8 +31,8 @@ standing-told-requires c κs = search needs
 enum-told : tie.Need-enum-told
 enum-told c = search needs
 
-mul-result : tie.Need-mul-result
-mul-result c = search needs
+refused-requires : tie.Need-refused-requires
+refused-requires c κs = search needs
 
 returns-2 : tie.Need-returns-2
 returns-2 c = search slot-told
@@ -53,6 +53,6 @@ member-slot-spec =
     attr-at-requires
     standing-told-requires
     enum-told
-    mul-result
+    refused-requires
     returns-2
     returns-3)

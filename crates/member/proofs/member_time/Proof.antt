@@ -4,8 +4,8 @@ use borrow.Author.Needs.{needs}
 use Rattle.member.proofs.member_time.Statement.{statement}
 use Rattle.member.proofs.member_time.Tie as tie
 
-mul-result : tie.Need-mul-result
-mul-result c = search needs
+refused-requires : tie.Need-refused-requires
+refused-requires c κs = search needs
 
 returns : tie.Need-returns
 returns c = search time-too-large
@@ -22,14 +22,14 @@ enum-known-hour c = search needs
 cast-result : tie.Need-cast-result
 cast-result c = search needs
 
-mul-result-2 : tie.Need-mul-result-2
-mul-result-2 c = search needs
+mul-result : tie.Need-mul-result
+mul-result c = search needs
 
 cast-result-2 : tie.Need-cast-result-2
 cast-result-2 c = search needs
 
-mul-result-3 : tie.Need-mul-result-3
-mul-result-3 c = search needs
+mul-result-2 : tie.Need-mul-result-2
+mul-result-2 c = search needs
 
 add-result : tie.Need-add-result
 add-result c = search needs
@@ -37,8 +37,8 @@ add-result c = search needs
 cast-result-3 : tie.Need-cast-result-3
 cast-result-3 c = search needs
 
-mul-result-4 : tie.Need-mul-result-4
-mul-result-4 c = search needs
+mul-result-3 : tie.Need-mul-result-3
+mul-result-3 c = search needs
 
 add-result-2 : tie.Need-add-result-2
 add-result-2 c = search needs
@@ -46,8 +46,8 @@ add-result-2 c = search needs
 enum-told : tie.Need-enum-told
 enum-told c = search needs
 
-mul-result-5 : tie.Need-mul-result-5
-mul-result-5 c = search needs
+refused-requires-2 : tie.Need-refused-requires-2
+refused-requires-2 c κs = search needs
 
 returns-2 : tie.Need-returns-2
 returns-2 c = search time-told
@@ -59,20 +59,20 @@ pub member-time-spec : {M : Type 1} → statement M
 member-time-spec =
     tie.close
     (tie.spec
-    mul-result
+    refused-requires
     returns
     cast-read-time
     read-time-requires
     enum-known-hour
     cast-result
-    mul-result-2
+    mul-result
     cast-result-2
-    mul-result-3
+    mul-result-2
     add-result
     cast-result-3
-    mul-result-4
+    mul-result-3
     add-result-2
     enum-told
-    mul-result-5
+    refused-requires-2
     returns-2
     returns-3)

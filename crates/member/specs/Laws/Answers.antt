@@ -26,6 +26,7 @@ use Rattle.stamps.specs.declared.TimeRead.{TimeRead}
 use Rattle.stamps.specs.declared.TimeRead.the-variants.{Time, NoTime}
 use Rattle.stamps.specs.declared.DateRead.{DateRead}
 use Rattle.stamps.specs.declared.DateRead.the-variants.{Date, NoDate}
+use Rattle.calls.specs.Numbers.{ofNoKind, outOfRange}
 use Rattle.member.specs.Answers.{refusalAnswer, standingTold, slotTold, dateTold, timeTold}
 
 -- ---- an entry: b says whether it has bit 10
@@ -63,9 +64,9 @@ module _ (l : List ℕ) (s : ℕ) (r : WhichKind) (p : r ≡ kindOfImage l) wher
   told-on : (x : ℕ) → x ≡ slotTold r l s → x ≡ slotTold (kindOfImage l) l s
   told-on x h = h ∙ ap (λ w. slotTold w l s) p
 
-  pub not-of-a-kind : r ≡ Unknown → refusalAnswer 40 ≡ slotTold (kindOfImage l) l s
+  pub not-of-a-kind : (x : ℕ) → x ≡ refusalAnswer ofNoKind → r ≡ Unknown → x ≡ slotTold (kindOfImage l) l s
   unfolding slotTold
-  not-of-a-kind q = told-on _ (rw q)
+  not-of-a-kind x h q = told-on x (h ∙ rw q)
 
   module _ (k : Kind) (q : r ≡ Known k) where
     pub kind-usable : Usable k
@@ -92,25 +93,25 @@ module _ (w : ℕ) where
   unfolding dateTold
   date-told a year month day e f = rw (← e, f)
 
-  pub no-date : (a : DateRead) → a ≡ dateRead w → a ≡ NoDate → refusalAnswer 43 ≡ dateTold (dateRead w)
+  pub no-date : (a : DateRead) (x : ℕ) → a ≡ dateRead w → a ≡ NoDate → x ≡ refusalAnswer outOfRange → x ≡ dateTold (dateRead w)
   unfolding dateTold
-  no-date a e f = rw (← e, f)
+  no-date a x e f h = h ∙ rw (← e, f)
 
   -- a word has 16 bits; a larger number has a year above 119
-  pub date-too-large : 65535 < w → refusalAnswer 43 ≡ dateTold (dateRead w)
-  date-too-large h = no-date NoDate (read-no-date w false (date-out _ _ _ (λ r. omega arith)) refl) refl
+  pub date-too-large : (x : ℕ) → 65535 < w → x ≡ refusalAnswer outOfRange → x ≡ dateTold (dateRead w)
+  date-too-large x h = no-date NoDate x (read-no-date w false (date-out _ _ _ (λ r. omega arith)) refl) refl
 
   pub time-told : (a : TimeRead) (hour minute step : ℕ) → a ≡ timeRead w → a ≡ Time hour minute step → hour * 10000 + minute * 100 + step * 2 ≡ timeTold (timeRead w)
   unfolding timeTold
   time-told a hour minute step e f = rw (← e, f)
 
-  pub no-time : (a : TimeRead) → a ≡ timeRead w → a ≡ NoTime → refusalAnswer 43 ≡ timeTold (timeRead w)
+  pub no-time : (a : TimeRead) (x : ℕ) → a ≡ timeRead w → a ≡ NoTime → x ≡ refusalAnswer outOfRange → x ≡ timeTold (timeRead w)
   unfolding timeTold
-  no-time a e f = rw (← e, f)
+  no-time a x e f h = h ∙ rw (← e, f)
 
   -- and an hour above 23
-  pub time-too-large : 65535 < w → refusalAnswer 43 ≡ timeTold (timeRead w)
-  time-too-large h = no-time NoTime (read-no-time w false (time-out _ _ _ (λ r. omega arith)) refl) refl
+  pub time-too-large : (x : ℕ) → 65535 < w → x ≡ refusalAnswer outOfRange → x ≡ timeTold (timeRead w)
+  time-too-large x h = no-time NoTime x (read-no-time w false (time-out _ _ _ (λ r. omega arith)) refl) refl
 
 -- ---- the digits give the three numbers back, and fit the lower half: no refusal is taken for a stamp
 

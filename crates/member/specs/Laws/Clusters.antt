@@ -35,6 +35,7 @@ use Rattle.table.specs.Entries.{tableOf}
 use Rattle.fields.specs.Fields.{startOf}
 use Rattle.directory.specs.Slots.{standingOf, isPlain}
 use Rattle.walks.specs.Aids.Walks.{ValueIs}
+use Rattle.calls.specs.Numbers.{ofNoKind}
 use Rattle.member.specs.Answers.{refusalAnswer}
 use Rattle.member.specs.Clusters.{meaningTold, clusterTold, comesTo, holdsAt, slotHolds, foundTold, holderTold}
 
@@ -47,16 +48,16 @@ module _ (l : List ℕ) (r : WhichKind) (p : r ≡ kindOfImage l) where
   pub cluster-known : (k : Kind) (c x : ℕ) → r ≡ Known k → x ≡ clusterTold (Known k) l c → x ≡ clusterTold (kindOfImage l) l c
   cluster-known k c x q h = h ∙ ap (λ w. clusterTold w l c) (sym q ∙ p)
 
-  pub cluster-unknown : (c : ℕ) → r ≡ Unknown → refusalAnswer 40 ≡ clusterTold (kindOfImage l) l c
+  pub cluster-unknown : (c x : ℕ) → r ≡ Unknown → x ≡ refusalAnswer ofNoKind → x ≡ clusterTold (kindOfImage l) l c
   unfolding clusterTold
-  cluster-unknown c q = rw (← p, q)
+  cluster-unknown c x q h = h ∙ rw (← p, q)
 
   pub holder-known : (k : Kind) (c s x : ℕ) → r ≡ Known k → x ≡ holderTold (Known k) l c s → x ≡ holderTold (kindOfImage l) l c s
   holder-known k c s x q h = h ∙ ap (λ w. holderTold w l c s) (sym q ∙ p)
 
-  pub holder-unknown : (c s : ℕ) → r ≡ Unknown → refusalAnswer 40 ≡ holderTold (kindOfImage l) l c s
+  pub holder-unknown : (c s x : ℕ) → r ≡ Unknown → x ≡ refusalAnswer ofNoKind → x ≡ holderTold (kindOfImage l) l c s
   unfolding holderTold
-  holder-unknown c s q = rw (← p, q)
+  holder-unknown c s x q h = h ∙ rw (← p, q)
 
 -- ---- the value of a cluster
 

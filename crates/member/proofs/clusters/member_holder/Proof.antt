@@ -17,8 +17,8 @@ holder-told-requires c κs = (search kind-usable, search area-there)
 enum-told : tie.Need-enum-told
 enum-told c = search needs
 
-mul-result : tie.Need-mul-result
-mul-result c = search needs
+refused-requires : tie.Need-refused-requires
+refused-requires c κs = search needs
 
 returns : tie.Need-returns
 returns c = search holder-known
@@ -34,6 +34,6 @@ member-holder-spec =
     enum-known-k
     holder-told-requires
     enum-told
-    mul-result
+    refused-requires
     returns
     returns-2)
