@@ -2,9 +2,9 @@
 use Prim.Native.Nat.{ℕ, _+_, _*_, _≤_, _<_}
 use native.Mathlib.Omega.{arith}
 use native.Mathlib.Nat.{eq-zero-or-pos}
-use mathlib.Core.Bool.{Bool, true, false, not}
+use mathlib.Core.Bool.{Bool, true, false}
 use mathlib.Core.List.{List, [], _∷_}
-use mathlib.Core.Logic.{_≢_, inl, inr}
+use mathlib.Core.Logic.{_≢_, _↔_, inl, inr}
 use mathlib.Core.Path.{_≡_, refl, sym, ap, _∙_}
 use lib.Dec.{eqb}
 use lib.ListN.{length, take}
@@ -20,7 +20,7 @@ use Rattle.sound.specs.Laws.Clusters.{file-owns, chain-clusters, clusters-chain
 use Rattle.chains.specs.Laws.Content.{content-length}
 use Rattle.chains.specs.Laws.Holders.{file-fits}
 use Rattle.chains.specs.Laws.Sizes.{clusters-some}
-use Rattle.chains.specs.Laws.Tests.{says-eq, says-not, says-map, says-true, false-says}
+use Rattle.chains.specs.Laws.Tests.{says-eq, says-map, says-true, says-false, false-says}
 use Rattle.contents.specs.Contents.{chainFrom}
 use Rattle.contents.specs.Aids.Contents.{fetched}
 use Rattle.contents.specs.Laws.Chain.{chain-is, chain-room}
@@ -88,10 +88,9 @@ module _ (img : List ℕ) (k : Kind) (e : kindOfImage img ≡ Known k) (slot : �
     | inr h ↦ rw (some-is h) (says-map (to-clusters h) (from-clusters h) (says-ends (lastCluster k) f start needed))
   ]
 
-  module _ (i : IsFile k img slot) where
-    -- row 5 stands exactly where finding 5 holds of the slot
-    pub says-bad-chain : Says (not (goodChain k img slot)) (BadChain k img slot)
-    says-bad-chain = says-map (λ never. (i, λ cs c. never (cs, c))) (λ b r. b .1 (r .0) (r .1)) (says-not says-chain)
+  -- the test fails exactly where finding 5 holds of the file's slot
+  pub bad-chain-is : IsFile k img slot → (goodChain k img slot ≡ false) ↔ BadChain k img slot
+  bad-chain-is i = (λ f. (i, λ cs c. says-false says-chain f (cs, c)), λ b. false-says says-chain (λ r. b .1 (r .0) (r .1)))
 
   -- ---- the code
 
