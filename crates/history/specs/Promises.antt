@@ -18,7 +18,7 @@ use Rattle.reading.specs.Read.{readCount}
 use Rattle.writing.specs.Write.{roomOf}
 use Rattle.changes.specs.Files.{File, Files, Holds, Shows, ShowsAt}
 use Rattle.history.specs.History.{History}
-use Rattle.history.specs.Meant.{Names, target, nothing}
+use Rattle.history.specs.Meant.{Names}
 use Rattle.history.specs.World.{World, Call, Look, Library, stepBy, runBy, look, read, write}
 
 -- what a caller gives to be written are bytes
@@ -61,9 +61,9 @@ ReadsAreOfHistory lib = AfterAnyRun lib (λ k w. (h : ℕ) (buffer : List ℕ) (
     → (o .value ≡ readCount (length buffer) (length (f .bytes)) pointer)
     × (o .buffer ≡ stored buffer 0 (part (f .bytes) pointer (o .value))))
 
--- a call that is about a file and ends well has such a file, and one only
+-- a call that does not only look names one file if it ends well, and one only
 abbrev pub NamesAFile : Library → Type 0
-NamesAFile lib = AfterAnyRun lib (λ k w. (c : Call) → Given c → target c ≢ nothing → lib c w .number ≡ 0
+NamesAFile lib = AfterAnyRun lib (λ k w. (c : Call) → Given c → ((x : Look) → c ≢ look x) → lib c w .number ≡ 0
     → (s : ℕ) × Names c k w s × ((t : ℕ) → Names c k w t → t ≡ s))
 
 -- "a call alters no file but the one it names": every other slot keeps the 32 bytes of its entry, and shows what it showed

@@ -10,8 +10,8 @@ use Rattle.diskette.specs.declared.Kind.{Kind}
 use Rattle.changes.specs.Aids.Changed.{SlotChanged}
 use Rattle.changes.specs.Files.{File, ShowsAt}
 use Rattle.history.specs.History.{Becomes}
-use Rattle.history.specs.Meant.{Names, target, nothing}
-use Rattle.history.specs.World.{World, Call, outcomeOf, step}
+use Rattle.history.specs.Meant.{Names}
+use Rattle.history.specs.World.{World, Call, Look, outcomeOf, step, look}
 
 -- the call ends well and names slot s
 pub record Does (k : Kind) (w : World) (c : Call) (s : ℕ) : Type 0 where
@@ -30,6 +30,6 @@ abbrev pub Leaves : World → Call → Type 0
 Leaves w c = (f g : Option File) → Becomes c w (outcomeOf c w) f g ↔ (g ≡ f)
 
 pub data Came (k : Kind) (w : World) (c : Call) : Type 0 where
-  idle : (outcomeOf c w .number ≢ 0) ⊎ (target c ≡ nothing) → step w c .image ≡ w .image → Came k w c
+  idle : (outcomeOf c w .number ≢ 0) ⊎ ((x : Look) × (c ≡ look x)) → step w c .image ≡ w .image → Came k w c
   stays : (s : ℕ) → Does k w c s → step w c .image ≡ w .image → Leaves w c → Came k w c
   changes : (s : ℕ) (ds : List ℕ) → Does k w c s → Changes k w c s ds → Came k w c

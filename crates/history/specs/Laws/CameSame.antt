@@ -34,7 +34,7 @@ module _ (k : Kind) (w : World) (b : Begins k w) where
   does c effect well e s n = record { well = rw e well; named = n }
 
   pub came-look : (x : Look) → Came k w (look x)
-  came-look x = idle (inr refl) (ap (λ (u : World). u .image) (looks-alter-nothing w x))
+  came-look x = idle (inr (x, refl)) (ap (λ (u : World). u .image) (looks-alter-nothing w x))
 
   pub came-open : (name : List ℕ) (access : ℕ) → Came k w (openFile name access)
   unfolding openOutcome
