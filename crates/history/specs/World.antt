@@ -76,28 +76,14 @@ lookOutcome (tellEntry slot) w = lookedIn w (entryCall (w .image) slot [])
 lookOutcome (view name offset) w = lookedIn w (viewOutcome (w .image) name offset)
 lookOutcome (rescue name out) w = lookedIn w (rescueOutcome (w .image) name out)
 
-abbrev pub outcomeOf : Call → World → Outcome
-outcomeOf (look x) w = lookOutcome x w
-outcomeOf (openFile name access) w = openOutcome (w .image) (w .table) name access
-outcomeOf (create name attr stamp) w = createOutcome (w .image) (w .table) name attr stamp
-outcomeOf (read h buffer) w = readOutcome (w .image) (w .table) h buffer
-outcomeOf (write h bs) w = writeOutcome (w .image) (w .table) h bs
-outcomeOf (seek h method offset) w = seekOutcome (w .image) (w .table) h method offset
-outcomeOf (close h stamp) w = closeOutcome (w .image) (w .table) h stamp
-outcomeOf (delete name) w = deleteOutcome (w .image) (w .table) name
-outcomeOf (rename name new) w = renameOutcome (w .image) (w .table) name new
-outcomeOf (mode name function attr) w = modeOutcome (w .image) (w .table) name function attr
-
 abbrev pub ours : Library
-ours = outcomeOf
-
-abbrev pub step : World → Call → World
-step = stepBy ours
-
-abbrev pub run : World → List Call → World
-run = runBy ours
-
--- what the calls of a run answered, one after the other
-abbrev pub answers : World → List Call → List Outcome
-answers w [] = []
-answers w (c ∷ cs) = outcomeOf c w ∷ answers (step w c) cs
+ours (look x) w = lookOutcome x w
+ours (openFile name access) w = openOutcome (w .image) (w .table) name access
+ours (create name attr stamp) w = createOutcome (w .image) (w .table) name attr stamp
+ours (read h buffer) w = readOutcome (w .image) (w .table) h buffer
+ours (write h bs) w = writeOutcome (w .image) (w .table) h bs
+ours (seek h method offset) w = seekOutcome (w .image) (w .table) h method offset
+ours (close h stamp) w = closeOutcome (w .image) (w .table) h stamp
+ours (delete name) w = deleteOutcome (w .image) (w .table) name
+ours (rename name new) w = renameOutcome (w .image) (w .table) name new
+ours (mode name function attr) w = modeOutcome (w .image) (w .table) name function attr

@@ -22,10 +22,11 @@ use Rattle.closing.specs.Close.{stamped, closeRows, closeEffect, closeOutcome}
 use Rattle.marking.specs.Mode.{modeRows, modeEffect, modeOutcome}
 use Rattle.renaming.specs.Rename.{renameRows, renameEffect, renameOutcome}
 use Rattle.changes.specs.Laws.Marks.{rename-changed, rename-holds, rename-bytes, mode-changed, mode-holds, mode-bytes, close-changed, close-holds, close-bytes}
+use Rattle.history.specs.Aids.Ours.{step}
 use Rattle.history.specs.Aids.Came.{Does, Came, stays}
 use Rattle.history.specs.History as history
 use Rattle.history.specs.Promises.{Begins}
-use Rattle.history.specs.World.{World, outcomeOf, step, rename, mode, close}
+use Rattle.history.specs.World.{World, ours, rename, mode, close}
 use Rattle.history.specs.Laws.Begins.{on}
 use Rattle.history.specs.Laws.Found.{good-name, file-there, no-file-found, live-there}
 use Rattle.history.specs.Laws.Meant.{meant-exactly, by-name, reaches}
@@ -67,7 +68,7 @@ module _ (k : Kind) (w : World) (b : Begins k w) where
       came-by k w (mode name function attr) (modeRows l t name function attr) (modeEffect l t name function attr) [] refl (by (eqb function 1) refl)
     where
       by : (sets : Bool) → eqb function 1 ≡ sets → refusal (modeRows l t name function attr) ≡ 0
-          → outcomeOf (mode name function attr) w ≡ modeEffect l t name function attr → Came k w (mode name function attr)
+          → ours (mode name function attr) w ≡ modeEffect l t name function attr → Came k w (mode name function attr)
       by false q rows e =
           let row = passed-row (modeRows l t name function attr) refl rows in
           stays (fileSlot l name)
@@ -96,7 +97,7 @@ module _ (k : Kind) (w : World) (b : Begins k w) where
       came-by k w (close h stamp) (closeRows l t h stamp) (closeEffect l t h stamp) [] refl (by (writtenOf t h) refl (packed stamp) refl)
     where
       by : (set : Bool) → writtenOf t h ≡ set → (p : Packed) → packed stamp ≡ p → refusal (closeRows l t h stamp) ≡ 0
-          → outcomeOf (close h stamp) w ≡ closeEffect l t h stamp → Came k w (close h stamp)
+          → ours (close h stamp) w ≡ closeEffect l t h stamp → Came k w (close h stamp)
       by false q p pe rows e =
           let row = passed-row (closeRows l t h stamp) refl rows in
           stays (slotOf t h) (record { well = ap (λ (o : Outcome). o .number) e; named = reaches k w (on b) h (row 3) })

@@ -17,8 +17,9 @@ use Rattle.calls.specs.Outcome.{Outcome}
 use Rattle.calls.specs.Laws.Ready.{on-kind}
 use Rattle.seeking.specs.Seek.{answerOf, isBeyond, seekBase, seekRows, seekEffect, seekOutcome}
 use Rattle.sound.specs.Files.{IsFile}
+use Rattle.history.specs.Aids.Ours.{run}
 use Rattle.history.specs.Seeks.{countedFrom, SeeksAreOfHistory}
-use Rattle.history.specs.World.{ours, run}
+use Rattle.history.specs.World.{ours}
 use Rattle.history.specs.Laws.Begins.{on}
 use Rattle.history.specs.Laws.Passed.{passed-row}
 use Rattle.history.specs.Laws.Rows.{decided-cases}

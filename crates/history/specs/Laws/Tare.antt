@@ -15,9 +15,10 @@ use Rattle.directory.specs.Entries.{SameBytes}
 use Rattle.calls.specs.Refusals.{readOnly}
 use Rattle.calls.specs.Laws.Ready.{on-kind}
 use Rattle.changes.specs.Files.{File, Holds}
+use Rattle.history.specs.Aids.Ours.{step, run}
 use Rattle.history.specs.Promises.{Given, AllGiven, Begins}
 use Rattle.history.specs.Tare.{Tare, SetsMode, NoModeSet, SameFile, TareStays}
-use Rattle.history.specs.World.{World, Call, ours, outcomeOf, step, run, look, openFile, create, read, write, seek, close, delete, rename, mode}
+use Rattle.history.specs.World.{World, Call, ours, look, openFile, create, read, write, seek, close, delete, rename, mode}
 use Rattle.history.specs.Laws.Begins.{on}
 use Rattle.history.specs.Laws.Came.{came-entries, came-others}
 use Rattle.history.specs.Laws.EveryCall.{came}
@@ -35,10 +36,10 @@ tare-guarded k w s x = record { is-file = x .is-file; marked = x .marked; places
 
 module _ (k : Kind) (w : World) (b : Begins k w) (s : ℕ) (g : Guarded k w s) where
   -- a call that leaves the world
-  same-spares : (c : Call) → step w c ≡ w → Spares k w s c (outcomeOf c w)
+  same-spares : (c : Call) → step w c ≡ w → Spares k w s c (ours c w)
   same-spares c e = record { image = inl (ap (λ (x : World). x .image) e); places = subst (λ (x : World). Watched (x .table) s) (sym e) (g .places) }
 
-  pub spared : (c : Call) → ¬ SetsMode ours k w c s → Spares k w s c (outcomeOf c w)
+  pub spared : (c : Call) → ¬ SetsMode ours k w c s → Spares k w s c (ours c w)
   spared (look x) u = same-spares (look x) (looks-alter-nothing w x)
   spared (openFile name access) u = open-spares k w (on b) s g name access
   spared (create name attr stamp) u = create-spares k w (on b) s g name attr stamp
@@ -48,7 +49,7 @@ module _ (k : Kind) (w : World) (b : Begins k w) (s : ℕ) (g : Guarded k w s) w
   spared (close h stamp) u = close-spares k w (on b) s g h stamp
   spared (delete name) u = delete-spares k w (on b) s g name
   spared (rename name new) u = rename-spares k w (on b) s g name new
-  spared (mode name function attr) u = elim (ℕ-discrete (outcomeOf (mode name function attr) w .number) 0) [
+  spared (mode name function attr) u = elim (ℕ-discrete (ours (mode name function attr) w .number) 0) [
     | yes e ↦ mode-spares k w (on b) s g name function attr
         (λ q x. u (record { name = name; attr = attr; call = ap (λ (f : ℕ). mode name f attr) q; named = x; well = e }))
     | no n ↦ same-spares (mode name function attr) (refusals-leave-all w (mode name function attr) n)

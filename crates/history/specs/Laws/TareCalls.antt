@@ -37,7 +37,7 @@ use Rattle.seeking.specs.Seek.{seekRows, seekEffect, seekOutcome}
 use Rattle.reading.specs.Read.{readRows, readEffect, readOutcome}
 use Rattle.writing.specs.Write.{writeCount, writeRows, writeAt, writeEffect, writeOutcome}
 use Rattle.history.specs.Meant.{HasName, Names}
-use Rattle.history.specs.World.{World, Call, outcomeOf, openFile, create, read, write, seek, close, delete, rename, mode}
+use Rattle.history.specs.World.{World, Call, ours, openFile, create, read, write, seek, close, delete, rename, mode}
 use Rattle.history.specs.Laws.Found.{good-name, place-counts, named-small, live-at, new-slot}
 use Rattle.history.specs.Laws.Meant.{has-name, for-new}
 use Rattle.history.specs.Laws.OneNamed.{names-one, by-name-only}
@@ -91,7 +91,7 @@ module _ (k : Kind) (w : World) (v : OnVolume (w .image) k) (s : ℕ) (g : Guard
   t = w .table
 
   abbrev Spared : Call → Type 0
-  Spared c = Spares k w s c (outcomeOf c w)
+  Spared c = Spares k w s c (ours c w)
 
   -- a slot whose file is not read-only is another, and its name is of another file
   other-slot : (slot : ℕ) → readOnly l slot ≡ false → ¬ (s ≡ slot)

@@ -10,14 +10,15 @@ use Rattle.calls.specs.Outcome.{Row, Outcome, refusal, decided}
 use Rattle.sound.specs.Files.{IsFile}
 use Rattle.changes.specs.Aids.Changed.{SlotChanged}
 use Rattle.changes.specs.Files.{File, Holds, ShowsAt}
+use Rattle.history.specs.Aids.Ours.{step}
 use Rattle.history.specs.Aids.Came.{Does, Came, idle, changes}
 use Rattle.history.specs.History as history
-use Rattle.history.specs.World.{World, Call, outcomeOf, step}
+use Rattle.history.specs.World.{World, Call, ours}
 use Rattle.history.specs.Laws.Rows.{decided-cases}
 
 module _ (k : Kind) (w : World) (c : Call) where
-  pub came-by : (rows : List Row) (effect : Outcome) (b : List ℕ) → outcomeOf c w ≡ decided rows effect (w .image) (w .table) b
-      → (refusal rows ≡ 0 → outcomeOf c w ≡ effect → Came k w c) → Came k w c
+  pub came-by : (rows : List Row) (effect : Outcome) (b : List ℕ) → ours c w ≡ decided rows effect (w .image) (w .table) b
+      → (refusal rows ≡ 0 → ours c w ≡ effect → Came k w c) → Came k w c
   came-by rows effect b e well = elim (decided-cases rows effect (w .image) (w .table) b) [
     | inl x ↦ idle (inl (λ z. x .0 (sym (ap (λ (o : Outcome). o .number) (e ∙ x .1)) ∙ z))) (ap (λ (o : Outcome). o .image) (e ∙ x .1))
     | inr x ↦ well (x .0) (e ∙ x .1)
@@ -25,7 +26,7 @@ module _ (k : Kind) (w : World) (c : Call) where
 
   module _ (s : ℕ) (ds m : List ℕ) (does : Does k w c s) (image : step w c .image ≡ m) (x : SlotChanged k (w .image) m s ds) (b : Bytes m) where
     abbrev Becomes : Option File → Option File → Type 0
-    Becomes = history.Becomes c w (outcomeOf c w)
+    Becomes = history.Becomes c w (ours c w)
 
     pub came-put : ((f : Option File) → (g : Option File) × Becomes f g)
         → ((f g : Option File) → ShowsAt k (w .image) s f → Becomes f g → ShowsAt k m s g) → Came k w c

@@ -31,12 +31,13 @@ use Rattle.reading.specs.Read.{readOutcome}
 use Rattle.rescuing.specs.Rescue.{goodChain, rescueOutcome}
 use Rattle.rescuing.specs.Laws.Chain.{says-chain}
 use Rattle.changes.specs.Laws.Changed.{on-sound}
+use Rattle.history.specs.Aids.Ours.{run}
 use Rattle.history.specs.Laws.Found.{place-counts, file-there, named-small}
 use Rattle.history.specs.Laws.Passed.{testOf, passed-row}
 use Rattle.history.specs.Laws.Rows.{decided-cases}
 use Rattle.history.specs.Laws.Begins.{on}
 use Rattle.history.specs.Laws.Runs.{begins-run}
-use Rattle.history.specs.World.{ours, world, run}
+use Rattle.history.specs.World.{ours, world}
 use Rattle.reset.specs.AsRead.{readThen, closedThen, SameAsRead, RescueAsRead, RefusedAsOpen}
 
 module _ (k : Kind) (img : List ℕ) (v : OnVolume img k) (name : List ℕ) where
