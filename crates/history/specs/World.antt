@@ -63,21 +63,18 @@ runBy lib w (c ∷ cs) = runBy lib (stepBy lib w c) cs
 
 -- ---- our library: the calls' own outcome functions
 
--- a look takes no table: it stays
-abbrev pub lookedIn : World → Outcome → Outcome
-lookedIn w o = outcome (o .number) (o .value) (o .image) (w .table) (o .buffer)
-
 -- check, free space and entry as C sees them, with no room in out; check never refuses: its number is the finding, its value the
 -- place
-abbrev pub lookOutcome : Look → World → Outcome
-lookOutcome check w = lookedIn w (checkCall (w .image) [])
-lookOutcome countFree w = lookedIn w (freeSpaceCall (w .image) [])
-lookOutcome (tellEntry slot) w = lookedIn w (entryCall (w .image) slot [])
-lookOutcome (view name offset) w = lookedIn w (viewOutcome (w .image) name offset)
-lookOutcome (rescue name out) w = lookedIn w (rescueOutcome (w .image) name out)
+abbrev pub lookOutcome : Look → List ℕ → Outcome
+lookOutcome check img = checkCall img []
+lookOutcome countFree img = freeSpaceCall img []
+lookOutcome (tellEntry slot) img = entryCall img slot []
+lookOutcome (view name offset) img = viewOutcome img name offset
+lookOutcome (rescue name out) img = rescueOutcome img name out
 
+-- a look takes no table: it stays
 abbrev pub ours : Library
-ours (look x) w = lookOutcome x w
+ours (look x) w = let o = lookOutcome x (w .image) in outcome (o .number) (o .value) (o .image) (w .table) (o .buffer)
 ours (openFile name access) w = openOutcome (w .image) (w .table) name access
 ours (create name attr stamp) w = createOutcome (w .image) (w .table) name attr stamp
 ours (read h buffer) w = readOutcome (w .image) (w .table) h buffer

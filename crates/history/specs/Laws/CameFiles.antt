@@ -10,6 +10,7 @@ use mathlib.Core.Path.{_≡_, refl, sym, ap, _∙_, subst}
 use lib.ListN.{length, take}
 use borrow.Author.Tests.{eq-eqb, ne-eqb}
 use Rattle.image.specs.Bytes.{Bytes}
+use Rattle.chains.specs.Write.{written}
 use Rattle.diskette.specs.Places.{rootAt, rootEntries, slotAt}
 use Rattle.diskette.specs.declared.Kind.{Kind}
 use Rattle.search.specs.declared.Found.the-variants.{At}
@@ -36,7 +37,6 @@ use Rattle.changes.specs.Laws.Made.{empty-changed, empty-holds, empty-bytes, ne
 use Rattle.changes.specs.Laws.Wrote.{wrote-changed, wrote-holds, wrote-bytes}
 use Rattle.history.specs.Aids.Ours.{step}
 use Rattle.history.specs.Aids.Came.{Does, Came, stays}
-use Rattle.history.specs.History as history
 use Rattle.history.specs.Meant.{Names}
 use Rattle.history.specs.Promises.{Begins}
 use Rattle.history.specs.World.{World, ours, create, delete, write}
@@ -102,7 +102,7 @@ module _ (k : Kind) (w : World) (b : Begins k w) where
                 came-at k w (write h bs) s _ _ does m
                 (wrote-changed k l s pointer (take n bs) p)
                 (wrote-bytes k l s pointer (take n bs) p (bytes-take n bs given))
-                i (history.withBytes pointer (take n bs)) (λ f g. rw (value, q) (λ p. p, λ p. p))
+                i (λ f. file (f .name) (f .attr) (written (f .bytes) pointer (take n bs))) (λ f g. rw (value, q) (λ p. p, λ p. p))
                 (wrote-holds k l s pointer (take n bs) p)
           ]
 

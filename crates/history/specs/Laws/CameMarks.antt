@@ -3,6 +3,7 @@ use Prim.Native.Nat.{ℕ}
 use native.Mathlib.Omega.{arith}
 use mathlib.Core.Bool.{Bool, true, false}
 use mathlib.Core.List.{List, []}
+use mathlib.Core.Option.{Option·map}
 use mathlib.Core.Path.{_≡_, refl, ap, _∙_}
 use lib.Dec.{eqb}
 use borrow.Author.Tests.{not-false}
@@ -18,13 +19,13 @@ use Rattle.opened.specs.Records.{slotOf, writtenOf}
 use Rattle.calls.specs.Outcome.{Outcome, refusal}
 use Rattle.calls.specs.Refusals.{noFile, fileSlot, badAttr, isOut}
 use Rattle.calls.specs.Laws.Ready.{on-kind}
-use Rattle.closing.specs.Close.{stamped, closeRows, closeEffect, closeOutcome}
+use Rattle.closing.specs.Close.{archived, stamped, closeRows, closeEffect, closeOutcome}
 use Rattle.marking.specs.Mode.{modeRows, modeEffect, modeOutcome}
 use Rattle.renaming.specs.Rename.{renameRows, renameEffect, renameOutcome}
+use Rattle.changes.specs.Files.{File, file}
 use Rattle.changes.specs.Laws.Marks.{rename-changed, rename-holds, rename-bytes, mode-changed, mode-holds, mode-bytes, close-changed, close-holds, close-bytes}
 use Rattle.history.specs.Aids.Ours.{step}
 use Rattle.history.specs.Aids.Came.{Does, Came, stays}
-use Rattle.history.specs.History as history
 use Rattle.history.specs.Promises.{Begins}
 use Rattle.history.specs.World.{World, ours, rename, mode, close}
 use Rattle.history.specs.Laws.Begins.{on}
@@ -57,7 +58,7 @@ module _ (k : Kind) (w : World) (b : Begins k w) where
       came-at k w (rename name new) s _ _ does m
       (rename-changed k l (on b) s i new fits free)
       (rename-bytes k l (on b) s i new fits (b .bytes))
-      i (history.renamedTo (nameGiven new .name)) (λ f g. meant-exactly new fits (λ n. g ≡ history.each (history.renamedTo n) f))
+      i (λ f. file (nameGiven new .name) (f .attr) (f .bytes)) (λ f g. meant-exactly new fits (λ n. g ≡ Option·map (λ (x : File). file n (x .attr) (x .bytes)) f))
       (rename-holds k l (on b) s i new fits))
 
   -- ---- file mode
@@ -86,7 +87,7 @@ module _ (k : Kind) (w : World) (b : Begins k w) where
           came-at k w (mode name function attr) s _ _ does m
           (mode-changed k l (on b) s i attr may)
           (mode-bytes k l (on b) s i attr may (b .bytes))
-          i (history.markedWith attr) (λ f g. rw q (λ z. z, λ z. z))
+          i (λ f. file (f .name) attr (f .bytes)) (λ f g. rw q (λ z. z, λ z. z))
           (mode-holds k l (on b) s i attr may)
 
   -- ---- close
@@ -115,5 +116,5 @@ module _ (k : Kind) (w : World) (b : Begins k w) where
           came-at k w (close h stamp) s _ _ does m
           (close-changed k l (on b) s i time date)
           (close-bytes k l (on b) s i time date (b .bytes))
-          i history.withArchiveBit (λ f g. rw q (λ z. z, λ z. z))
+          i (λ f. file (f .name) (archived (f .attr)) (f .bytes)) (λ f g. rw q (λ z. z, λ z. z))
           (close-holds k l (on b) s i time date)

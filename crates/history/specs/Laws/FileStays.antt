@@ -4,7 +4,7 @@ use native.Mathlib.Omega.{arith}
 use native.Mathlib.Decide.{ℕ-discrete}
 use mathlib.Core.Bool.{Bool, true, false, cond}
 use mathlib.Core.List.{List}
-use mathlib.Core.Option.{Option, none, some}
+use mathlib.Core.Option.{Option, none, some, Option·map}
 use mathlib.Core.Path.{_≡_, refl, sym, _∙_, subst}
 use lib.Dec.{eqb}
 use Rattle.diskette.specs.declared.Kind.{Kind}
@@ -14,7 +14,7 @@ use Rattle.stamps.specs.declared.Stamp.{Stamp}
 use Rattle.changes.specs.Files.{File, Files, Shows, ShowsAt}
 use Rattle.history.specs.Aids.Ours.{step}
 use Rattle.history.specs.Aids.Came.{Came, Does, idle, stays, changes}
-use Rattle.history.specs.History.{Becomes, each}
+use Rattle.history.specs.History.{Becomes}
 use Rattle.history.specs.Meant.{Names}
 use Rattle.history.specs.Promises.{Given, Begins}
 use Rattle.history.specs.World.{World, Call, ours, look, openFile, create, read, write, seek, close, delete, rename, mode}
@@ -45,7 +45,7 @@ module _ (k : Kind) (l : List ℕ) (s : ℕ) where
 
 -- ---- what becomes of a file
 
-each-some : (h : File → File) (f : Option File) → Some f → Some (each h f)
+each-some : (h : File → File) (f : Option File) → Some f → Some (Option·map h f)
 each-some h none x = absurd (clash (x .1))
   where
     clash : {f : File} → none ≡ some f → ⊥

@@ -2,7 +2,7 @@
 use Prim.Native.Nat.{ℕ}
 use mathlib.Core.List.{List}
 use mathlib.Core.Logic.{_↔_, inl, inr}
-use mathlib.Core.Option.{Option, none, some}
+use mathlib.Core.Option.{Option, none, some, Option·map}
 use mathlib.Core.Path.{_≡_, refl, sym, ap, _∙_, subst}
 use Rattle.image.specs.Bytes.{Bytes}
 use Rattle.diskette.specs.declared.Kind.{Kind}
@@ -38,11 +38,11 @@ module _ (k : Kind) (w : World) (c : Call) where
     })
 
     -- the file that stands there is changed
-    pub came-at : IsFile k (w .image) s → (h : File → File) → ((f g : Option File) → Becomes f g ↔ (g ≡ history.each h f))
+    pub came-at : IsFile k (w .image) s → (h : File → File) → ((f g : Option File) → Becomes f g ↔ (g ≡ Option·map h f))
         → ((f : File) → Holds k (w .image) s f → Holds k m s (h f)) → Came k w c
-    came-at i h becomes holds = came-put (λ f. (history.each h f, becomes f (history.each h f) .1 refl))
+    came-at i h becomes holds = came-put (λ f. (Option·map h f, becomes f (Option·map h f) .1 refl))
         (λ f g y p. subst (ShowsAt k m s) (sym (becomes f g .0 p)) (go f y))
       where
-        go : (o : Option File) → ShowsAt k (w .image) s o → ShowsAt k m s (history.each h o)
+        go : (o : Option File) → ShowsAt k (w .image) s o → ShowsAt k m s (Option·map h o)
         go none y = absurd (y i)
         go (some f) y = holds f y
