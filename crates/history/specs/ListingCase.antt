@@ -46,10 +46,6 @@ timeThen hour minute step = record { hour = hour; minute = minute; step = step; 
 abbrev pub fileCalls : List ℕ → ℕ → List ℕ → Stamp → List Call
 fileCalls name attr bytes stamp = create name attr stamp ∷ write 0 bytes ∷ close 0 stamp ∷ []
 
--- any image after format FE, and an open table of one place, 16 zero bytes
-abbrev pub listingBegin : List ℕ → World
-listingBegin img = world (formatted 0xFE img .image) (replicate 16 0)
-
 abbrev pub listingCalls : List ℕ → List ℕ → List Call
 listingCalls tare day = fileCalls tareGiven 0x01 tare (timeThen 6 40 0) ++ fileCalls dayGiven 0x00 day (timeThen 18 5 29)
 
@@ -81,8 +77,8 @@ pub record ListingEnds (w u : World) (tare day : List ℕ) : Type 0 where
   -- each call ends well: the handles are 0, the counts 40 and 1,025
   pub answered-so : answered w (listingCalls tare day) ≡ (0, 0) ∷ (0, 40) ∷ (0, 0) ∷ (0, 0) ∷ (0, 1025) ∷ (0, 0) ∷ []
 
--- 163,840 is the length of an image of the kind FE
+-- from any image, of 163,840 bytes, after format FE, and an open table of one place, 16 zero bytes
 abbrev pub ListingCase : Type 0
 ListingCase = (img tare day : List ℕ) → length img ≡ 163840 → Bytes tare → length tare ≡ 40 → Bytes day → length day ≡ 1025 →
-    let w = listingBegin img in
+    let w = world (formatted 0xFE img .image) (replicate 16 0) in
     (formatted 0xFE img .number ≡ 0) × ListingEnds w (runBy ours w (listingCalls tare day)) tare day

@@ -58,7 +58,8 @@ module _ (k : Kind) (w : World) (b : Begins k w) where
       came-at k w (rename name new) s _ _ does m
       (rename-changed k l (on b) s i new fits free)
       (rename-bytes k l (on b) s i new fits (b .bytes))
-      i (λ f. file (nameGiven new .name) (f .attr) (f .bytes)) (λ f g. meant-exactly new fits (λ n. g ≡ Option·map (λ (x : File). file n (x .attr) (x .bytes)) f))
+      i (λ f. file (nameGiven new .name) (f .attr) (f .bytes))
+      (λ f g. meant-exactly new fits (λ n. g ≡ Option·map (λ (x : File). file n (x .attr) (x .bytes)) f))
       (rename-holds k l (on b) s i new fits))
 
   -- ---- file mode

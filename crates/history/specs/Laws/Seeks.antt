@@ -44,7 +44,8 @@ seeks-are-of-history k v c cs g h method offset s f e n x =
     let t = w .table in
     let i : IsFile k l s = x .is-file in
     let size : sizeOf l (slotAt k s) ≡ length (f .bytes) = sym (bytes-long k l (on b) s i) ∙ ap length (holds-bytes k l (on b) s f x) in
-    let base : seekBase l t h method ≡ cond (eqb method 0) 0 (cond (eqb method 1) (pointerOf t h) (length (f .bytes))) = rw (on-kind l k (on b), n .slot, size) in
+    let base : seekBase l t h method
+    ≡ cond (eqb method 0) 0 (cond (eqb method 1) (pointerOf t h) (length (f .bytes))) = rw (on-kind l k (on b), n .slot, size) in
     elim (decided-cases (seekRows l t h method offset) (seekEffect l t h method offset) l t []) [
       | inl y ↦ absurd (y .0 (sym (ap (λ (o : Outcome). o .number) (y .1)) ∙ e))
       | inr y ↦
