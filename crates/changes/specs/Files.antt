@@ -17,17 +17,13 @@ pub record File : Type 0 where
 abbrev pub file : List ℕ → ℕ → List ℕ → File
 file name attr bytes = record { name = name; attr = attr; bytes = bytes }
 
--- the bytes of the file in slot s: some list of clusters is its chain, and they are the first of these, as many as its size says
-abbrev pub Contains : Kind → List ℕ → ℕ → List ℕ → Type 0
-Contains k l s bytes =
-    (cs : List ℕ) × ChainOf k l s cs × (content (512 * firstData k) (clusterBytes k) l cs (sizeOf l (slotAt k s)) ≡ bytes)
-
 -- slot s of the volume holds this file
 pub record Holds (k : Kind) (l : List ℕ) (s : ℕ) (f : File) : Type 0 where
   pub is-file : IsFile k l s
   pub name : nameOf l (slotAt k s) ≡ f .name
   pub attr : attrOf l (slotAt k s) ≡ f .attr
-  pub bytes : Contains k l s (f .bytes)
+  -- some list of clusters is its chain, and its bytes are the first of these, as many as its size says
+  pub bytes : (cs : List ℕ) × ChainOf k l s cs × (content (512 * firstData k) (clusterBytes k) l cs (sizeOf l (slotAt k s)) ≡ f .bytes)
 
 -- files by their slots; none where no file is
 abbrev pub Files : Type 0

@@ -5,7 +5,7 @@ use Prim.Native.Nat.{ℕ}
 use mathlib.Core.Bool.{cond}
 use mathlib.Core.List.{List, [], _∷_}
 use mathlib.Core.Logic.{_≢_}
-use mathlib.Core.Option.{Option, none, some}
+use mathlib.Core.Option.{Option, none, some, Option·map}
 use mathlib.Core.Path.{_≡_}
 use lib.Dec.{eqb}
 use lib.ListN.{take}
@@ -19,35 +19,18 @@ use Rattle.changes.specs.Files.{File, file, Files}
 use Rattle.history.specs.Meant.{Names}
 use Rattle.history.specs.World.{World, Call, Library, stepBy, look, openFile, create, read, write, seek, close, delete, rename, mode}
 
--- ---- what is done to one file, if there is one
-
-abbrev pub each : (File → File) → Option File → Option File
-each f none = none
-each f (some x) = some (f x)
-
--- bytes put at a place, "with zeros before them where that was past the size"
-abbrev pub withBytes : ℕ → List ℕ → File → File
-withBytes pos bs f = file (f .name) (f .attr) (written (f .bytes) pos bs)
-
-abbrev pub renamedTo : List ℕ → File → File
-renamedTo name f = file name (f .attr) (f .bytes)
-
-abbrev pub markedWith : ℕ → File → File
-markedWith attr f = file (f .name) attr (f .bytes)
-
--- a close of a written file sets bit 20
-abbrev pub withArchiveBit : File → File
-withArchiveBit f = file (f .name) (archived (f .attr)) (f .bytes)
-
 -- ---- what a call that ends well makes of the file f in the slot that it names: w is the world before it, o its outcome
 
 abbrev pub Becomes : Call → World → Outcome → Option File → Option File → Type 0
 Becomes (create name attr stamp) w o f g = (n : List ℕ) × Means name n × (g ≡ some (file n attr []))
-Becomes (write h bs) w o f g = g ≡ cond (eqb (o .value) 0) f (each (withBytes (pointerOf (w .table) h) (take (o .value) bs)) f)
-Becomes (close h stamp) w o f g = g ≡ cond (writtenOf (w .table) h) (each withArchiveBit f) f
+Becomes (write h bs) w o f g =
+    let put : File → File = λ x. file (x .name) (x .attr) (written (x .bytes) (pointerOf (w .table) h) (take (o .value) bs)) in
+    g ≡ cond (eqb (o .value) 0) f (Option·map put f)
+-- a close of a written file sets bit 20
+Becomes (close h stamp) w o f g = g ≡ cond (writtenOf (w .table) h) (Option·map (λ (x : File). file (x .name) (archived (x .attr)) (x .bytes)) f) f
 Becomes (delete name) w o f g = g ≡ none
-Becomes (rename name new) w o f g = (n : List ℕ) × Means new n × (g ≡ each (renamedTo n) f)
-Becomes (mode name function attr) w o f g = g ≡ cond (eqb function 1) (each (markedWith attr) f) f
+Becomes (rename name new) w o f g = (n : List ℕ) × Means new n × (g ≡ Option·map (λ (x : File). file n (x .attr) (x .bytes)) f)
+Becomes (mode name function attr) w o f g = g ≡ cond (eqb function 1) (Option·map (λ (x : File). file (x .name) attr (x .bytes)) f) f
 Becomes (openFile name access) w o f g = g ≡ f
 Becomes (read h buffer) w o f g = g ≡ f
 Becomes (seek h method offset) w o f g = g ≡ f

@@ -1,8 +1,7 @@
 -- All of demand 3, of one library.
 use Rattle.history.specs.Handles.{HandsOutItsFile, HandlesKeepTheirFiles, PointersMove}
-use Rattle.history.specs.Promises.{SoundAfterEach, FilesOfHistory, FirstFiles, ReadsAreOfHistory, NamesAFile, AltersNoOther}
+use Rattle.history.specs.Promises.{SoundAfterEach, FilesOfHistory, FirstFiles, ReadsAreOfHistory, SeeksAreOfHistory, NamesAFile, AltersNoOther}
 use Rattle.history.specs.Promises.{TotalAfterEach, ShortOnlyWhereFull, LooksAlterNothing, RefusalsLeaveAll, RefusedReadsLeaveBuffer}
-use Rattle.history.specs.Seeks.{SeeksAreOfHistory}
 use Rattle.history.specs.Tare.{TareStays}
 use Rattle.history.specs.World.{Library}
 
@@ -11,6 +10,7 @@ pub record Keeps (lib : Library) : Type 0 where
   pub files : FilesOfHistory lib
   pub first : FirstFiles
   pub reads : ReadsAreOfHistory lib
+  pub seeks : SeeksAreOfHistory lib
   pub names : NamesAFile lib
   pub others : AltersNoOther lib
   pub total : TotalAfterEach lib
@@ -22,4 +22,3 @@ pub record Keeps (lib : Library) : Type 0 where
   pub handed : HandsOutItsFile lib
   pub handles : HandlesKeepTheirFiles lib
   pub pointers : PointersMove lib
-  pub seeks : SeeksAreOfHistory lib

@@ -1,5 +1,5 @@
--- What runs of calls do to a sound volume. Read World, Meant and History, with the crate changes' Files; then Promises, Tare,
--- Handles and Seeks, which state what is proved, Keeps, which has it all, and ListingCase, a worked run. The aids and the laws are for
+-- What runs of calls do to a sound volume. Read World, Meant and History, with the crate changes' Files; then Promises, Tare
+-- and Handles, which state what is proved, Keeps, which has it all, and ListingCase, a worked run. The aids and the laws are for
 -- the proofs; Laws/WrongRefused and Laws/WrongHandles show of some wrong libraries which promises they break.
 pub mod World
 pub mod Meant
@@ -7,7 +7,6 @@ pub mod History
 pub mod Promises
 pub mod Tare
 pub mod Handles
-pub mod Seeks
 pub mod Keeps
 pub mod ListingCase
 pub mod Aids

@@ -2,7 +2,7 @@
 -- close; create DAY001.LOG attribute 00, write 1,025, close; stamps, for create and close alike, 1983-09-01 06:40:00 for the
 -- first file and 18:05:58 for the second." The bytes written may be any.
 use Prim.Native.Nat.{ℕ, zero, suc}
-use mathlib.Core.List.{List, [], _∷_, _++_, map}
+use mathlib.Core.List.{List, [], _∷_, _++_}
 use mathlib.Core.Option.{none, some}
 use mathlib.Core.Path.{_≡_}
 use lib.ListN.{length, replicate}
@@ -17,9 +17,8 @@ use Rattle.stamps.specs.declared.Packed.the-variants.{Words}
 use Rattle.sound.specs.Judged.{checkOf}
 use Rattle.sound.specs.declared.Verdict.the-variants.{Sound}
 use Rattle.formatting.specs.Format.{formatted}
-use Rattle.calls.specs.Outcome.{Outcome}
 use Rattle.changes.specs.Files.{file, Files, Shows}
-use Rattle.history.specs.World.{World, Call, world, run, answers, create, write, close}
+use Rattle.history.specs.World.{World, Call, world, stepBy, runBy, ours, create, write, close}
 
 -- ---- the names, as a caller gives them and as the 11 bytes of an entry
 
@@ -47,10 +46,6 @@ timeThen hour minute step = record { hour = hour; minute = minute; step = step; 
 abbrev pub fileCalls : List ℕ → ℕ → List ℕ → Stamp → List Call
 fileCalls name attr bytes stamp = create name attr stamp ∷ write 0 bytes ∷ close 0 stamp ∷ []
 
--- any image after format FE, and an open table of one place, 16 zero bytes
-abbrev pub listingBegin : List ℕ → World
-listingBegin img = world (formatted 0xFE img .image) (replicate 16 0)
-
 abbrev pub listingCalls : List ℕ → List ℕ → List Call
 listingCalls tare day = fileCalls tareGiven 0x01 tare (timeThen 6 40 0) ++ fileCalls dayGiven 0x00 day (timeThen 18 5 29)
 
@@ -66,22 +61,24 @@ listingFiles tare day (suc (suc s)) = none
 abbrev pub HasStamp : Kind → List ℕ → ℕ → Stamp → Type 0
 HasStamp k l s stamp = Words (timeOf l (slotAt k s)) (dateOf l (slotAt k s)) ≡ packed stamp
 
--- number and value of an answer
-abbrev pub answered : Outcome → ℕ × ℕ
-answered o = (o .number, o .value)
+-- number and value of each answer of a run
+abbrev pub answered : World → List Call → List (ℕ × ℕ)
+answered w [] = []
+answered w (c ∷ cs) = (ours c w .number, ours c w .value) ∷ answered (stepBy ours w c) cs
 
--- w is the world at first
-pub record ListingEnds (w : World) (tare day : List ℕ) : Type 0 where
+-- w is the world at first, u the one after the last close
+pub record ListingEnds (w u : World) (tare day : List ℕ) : Type 0 where
   -- sound, with 2 files, 309 clusters free, 4 held and none set aside
-  pub verdict : checkOf (run w (listingCalls tare day) .image) ≡ Sound 2 309 4 0
-  pub files : Shows kindFE (run w (listingCalls tare day) .image) (listingFiles tare day)
-  pub tare-stamp : HasStamp kindFE (run w (listingCalls tare day) .image) 0 (timeThen 6 40 0)
-  pub day-stamp : HasStamp kindFE (run w (listingCalls tare day) .image) 1 (timeThen 18 5 29)
-  pub table : run w (listingCalls tare day) .table ≡ replicate 16 0
+  pub verdict : checkOf (u .image) ≡ Sound 2 309 4 0
+  pub files : Shows kindFE (u .image) (listingFiles tare day)
+  pub tare-stamp : HasStamp kindFE (u .image) 0 (timeThen 6 40 0)
+  pub day-stamp : HasStamp kindFE (u .image) 1 (timeThen 18 5 29)
+  pub table : u .table ≡ replicate 16 0
   -- each call ends well: the handles are 0, the counts 40 and 1,025
-  pub answered-so : map answered (answers w (listingCalls tare day)) ≡ (0, 0) ∷ (0, 40) ∷ (0, 0) ∷ (0, 0) ∷ (0, 1025) ∷ (0, 0) ∷ []
+  pub answered-so : answered w (listingCalls tare day) ≡ (0, 0) ∷ (0, 40) ∷ (0, 0) ∷ (0, 0) ∷ (0, 1025) ∷ (0, 0) ∷ []
 
--- 163,840 is the length of an image of the kind FE
+-- from any image, of 163,840 bytes, after format FE, and an open table of one place, 16 zero bytes
 abbrev pub ListingCase : Type 0
-ListingCase = (img tare day : List ℕ) → length img ≡ 163840 → Bytes tare → length tare ≡ 40 → Bytes day → length day ≡ 1025
-    → (formatted 0xFE img .number ≡ 0) × ListingEnds (listingBegin img) tare day
+ListingCase = (img tare day : List ℕ) → length img ≡ 163840 → Bytes tare → length tare ≡ 40 → Bytes day → length day ≡ 1025 →
+    let w = world (formatted 0xFE img .image) (replicate 16 0) in
+    (formatted 0xFE img .number ≡ 0) × ListingEnds w (runBy ours w (listingCalls tare day)) tare day

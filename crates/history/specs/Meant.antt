@@ -30,31 +30,15 @@ pub record IsForNew (k : Kind) (l name : List ℕ) (s : ℕ) : Type 0 where
   pub new : (t : ℕ) → ¬ HasName k l name t
   pub lowest : LowestBelow (λ i. VacantAt l (slotAt k i)) (rootEntries k) s
 
--- what a call is about: nothing, the file of a name, the file of a handle, or a file that is to be made
-pub data Target : Type 0 where
-  nothing : Target
-  byName : List ℕ → Target
-  byHandle : ℕ → Target
-  toMake : List ℕ → Target
-
-abbrev pub target : Call → Target
-target (look x) = nothing
-target (openFile name access) = byName name
-target (create name attr stamp) = toMake name
-target (read h buffer) = byHandle h
-target (write h bs) = byHandle h
-target (seek h method offset) = byHandle h
-target (close h stamp) = byHandle h
-target (delete name) = byName name
-target (rename name new) = byName name
-target (mode name function attr) = byName name
-
--- slot s is the one that such a call names
-abbrev pub NamedBy : Target → Kind → World → ℕ → Type 0
-NamedBy nothing k w s = ⊥
-NamedBy (byName name) k w s = HasName k (w .image) name s
-NamedBy (byHandle h) k w s = Reaches k w h s
-NamedBy (toMake name) k w s = HasName k (w .image) name s ⊎ IsForNew k (w .image) name s
-
+-- slot s is the one that a call names
 abbrev pub Names : Call → Kind → World → ℕ → Type 0
-Names c = NamedBy (target c)
+Names (look x) k w s = ⊥
+Names (openFile name access) k w s = HasName k (w .image) name s
+Names (create name attr stamp) k w s = HasName k (w .image) name s ⊎ IsForNew k (w .image) name s
+Names (read h buffer) k w s = Reaches k w h s
+Names (write h bs) k w s = Reaches k w h s
+Names (seek h method offset) k w s = Reaches k w h s
+Names (close h stamp) k w s = Reaches k w h s
+Names (delete name) k w s = HasName k (w .image) name s
+Names (rename name new) k w s = HasName k (w .image) name s
+Names (mode name function attr) k w s = HasName k (w .image) name s

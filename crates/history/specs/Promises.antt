@@ -1,9 +1,12 @@
 -- Demand 3, sentence by sentence: what a library must keep, from any sound volume, any bytes as open table, and after any run of calls.
 use Prim.Native.Nat.{ℕ, _+_, _≤_, _<_}
+use mathlib.Core.Bool.{cond}
 use mathlib.Core.List.{List, [], _∷_}
 use mathlib.Core.Logic.{_≢_}
 use mathlib.Core.Option.{Option}
 use mathlib.Core.Path.{_≡_}
+use lib.Dec.{eqb}
+use lib.IntN.{ℤ, pos, _+ℤ_}
 use lib.ListN.{length}
 use Rattle.image.specs.Bytes.{Bytes}
 use Rattle.image.specs.Store.{stored, part}
@@ -18,8 +21,8 @@ use Rattle.reading.specs.Read.{readCount}
 use Rattle.writing.specs.Write.{roomOf}
 use Rattle.changes.specs.Files.{File, Files, Holds, Shows, ShowsAt}
 use Rattle.history.specs.History.{History}
-use Rattle.history.specs.Meant.{Names, target, nothing}
-use Rattle.history.specs.World.{World, Call, Look, Library, stepBy, runBy, look, read, write}
+use Rattle.history.specs.Meant.{Names}
+use Rattle.history.specs.World.{World, Call, Look, Library, stepBy, runBy, look, read, write, seek}
 
 -- what a caller gives to be written are bytes
 abbrev pub Given : Call → Type 0
@@ -61,16 +64,27 @@ ReadsAreOfHistory lib = AfterAnyRun lib (λ k w. (h : ℕ) (buffer : List ℕ) (
     → (o .value ≡ readCount (length buffer) (length (f .bytes)) pointer)
     × (o .buffer ≡ stored buffer 0 (part (f .bytes) pointer (o .value))))
 
--- a call that is about a file and ends well has such a file, and one only
+-- a seek that ends well answers where its offset leads: "from 0, from the pointer or from the size (methods 0, 1, 2)". The size is
+-- that of the history.
+abbrev pub SeeksAreOfHistory : Library → Type 0
+SeeksAreOfHistory lib = AfterAnyRun lib (λ k w. (h method : ℕ) (offset : ℤ) (s : ℕ) (f : File) →
+    let o = lib (seek h method offset) w in
+    o .number ≡ 0 → Names (seek h method offset) k w s → Holds k (w .image) s f
+    → pos (o .value) ≡ pos (cond (eqb method 0) 0 (cond (eqb method 1) (pointerOf (w .table) h) (length (f .bytes)))) +ℤ offset)
+
+-- a call that does not only look names one file if it ends well, and one only
 abbrev pub NamesAFile : Library → Type 0
-NamesAFile lib = AfterAnyRun lib (λ k w. (c : Call) → Given c → target c ≢ nothing → lib c w .number ≡ 0
+NamesAFile lib = AfterAnyRun lib (λ k w. (c : Call) → Given c → ((x : Look) → c ≢ look x) → lib c w .number ≡ 0
     → (s : ℕ) × Names c k w s × ((t : ℕ) → Names c k w t → t ≡ s))
 
--- "a call alters no file but the one it names": every other slot keeps the 32 bytes of its entry, and shows what it showed
+-- slot s of image m has the 32 bytes of entry that it has in image l, and the same file (name, attribute, bytes) or none
+abbrev pub SameFile : Kind → ℕ → List ℕ → List ℕ → Type 0
+SameFile k s l m = SameBytes m (slotAt k s) l (slotAt k s) × ((o : Option File) → ShowsAt k l s o → ShowsAt k m s o)
+
+-- "a call alters no file but the one it names"
 abbrev pub AltersNoOther : Library → Type 0
-AltersNoOther lib = AfterAnyRun lib (λ k w. (c : Call) → Given c → (s : ℕ) → s < rootEntries k → ¬ Names c k w s →
-    let m = stepBy lib w c .image in
-    SameBytes m (slotAt k s) (w .image) (slotAt k s) × ((o : Option File) → ShowsAt k (w .image) s o → ShowsAt k m s o))
+AltersNoOther lib = AfterAnyRun lib (λ k w. (c : Call) → Given c → (s : ℕ) → s < rootEntries k → ¬ Names c k w s
+    → SameFile k s (w .image) (stepBy lib w c .image))
 
 -- "free + needed + set aside = total": needed by the sizes
 abbrev pub TotalAfterEach : Library → Type 0

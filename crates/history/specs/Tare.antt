@@ -4,15 +4,12 @@ use Prim.Native.Nat.{ℕ}
 use mathlib.Core.Bool.{true, false}
 use mathlib.Core.List.{List, [], _∷_}
 use mathlib.Core.Path.{_≡_}
-use Rattle.diskette.specs.Places.{slotAt}
 use Rattle.diskette.specs.declared.Kind.{Kind}
-use Rattle.directory.specs.Entries.{SameBytes}
 use Rattle.opened.specs.Places.{isOpen}
 use Rattle.sound.specs.Files.{IsFile}
 use Rattle.calls.specs.Refusals.{readOnly}
-use Rattle.changes.specs.Files.{File, Holds}
 use Rattle.history.specs.Meant.{Names}
-use Rattle.history.specs.Promises.{AllGiven, AfterAnyRun}
+use Rattle.history.specs.Promises.{AllGiven, AfterAnyRun, SameFile}
 use Rattle.history.specs.World.{World, Call, Library, stepBy, runBy, mode}
 
 -- when the run begins, a plain file stands in slot s, it is read-only, and no used place names its slot
@@ -33,10 +30,6 @@ pub record SetsMode (lib : Library) (k : Kind) (w : World) (c : Call) (s : ℕ) 
 abbrev pub NoModeSet : Library → Kind → World → List Call → ℕ → Type 0
 NoModeSet lib k w [] s = Unit {0}
 NoModeSet lib k w (c ∷ cs) s = (¬ SetsMode lib k w c s) × NoModeSet lib k (stepBy lib w c) cs s
-
--- slot s of image m has the 32 bytes of entry and the file (name, attribute, bytes) that it has in image l
-abbrev pub SameFile : Kind → ℕ → List ℕ → List ℕ → Type 0
-SameFile k s l m = SameBytes m (slotAt k s) l (slotAt k s) × ((f : File) → Holds k l s f → Holds k m s f)
 
 -- the run may begin after any other
 abbrev pub TareStays : Library → Type 0

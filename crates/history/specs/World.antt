@@ -63,41 +63,24 @@ runBy lib w (c ∷ cs) = runBy lib (stepBy lib w c) cs
 
 -- ---- our library: the calls' own outcome functions
 
--- a look takes no table: it stays
-abbrev pub lookedIn : World → Outcome → Outcome
-lookedIn w o = outcome (o .number) (o .value) (o .image) (w .table) (o .buffer)
-
 -- check, free space and entry as C sees them, with no room in out; check never refuses: its number is the finding, its value the
 -- place
-abbrev pub lookOutcome : Look → World → Outcome
-lookOutcome check w = lookedIn w (checkCall (w .image) [])
-lookOutcome countFree w = lookedIn w (freeSpaceCall (w .image) [])
-lookOutcome (tellEntry slot) w = lookedIn w (entryCall (w .image) slot [])
-lookOutcome (view name offset) w = lookedIn w (viewOutcome (w .image) name offset)
-lookOutcome (rescue name out) w = lookedIn w (rescueOutcome (w .image) name out)
+abbrev pub lookOutcome : Look → List ℕ → Outcome
+lookOutcome check img = checkCall img []
+lookOutcome countFree img = freeSpaceCall img []
+lookOutcome (tellEntry slot) img = entryCall img slot []
+lookOutcome (view name offset) img = viewOutcome img name offset
+lookOutcome (rescue name out) img = rescueOutcome img name out
 
-abbrev pub outcomeOf : Call → World → Outcome
-outcomeOf (look x) w = lookOutcome x w
-outcomeOf (openFile name access) w = openOutcome (w .image) (w .table) name access
-outcomeOf (create name attr stamp) w = createOutcome (w .image) (w .table) name attr stamp
-outcomeOf (read h buffer) w = readOutcome (w .image) (w .table) h buffer
-outcomeOf (write h bs) w = writeOutcome (w .image) (w .table) h bs
-outcomeOf (seek h method offset) w = seekOutcome (w .image) (w .table) h method offset
-outcomeOf (close h stamp) w = closeOutcome (w .image) (w .table) h stamp
-outcomeOf (delete name) w = deleteOutcome (w .image) (w .table) name
-outcomeOf (rename name new) w = renameOutcome (w .image) (w .table) name new
-outcomeOf (mode name function attr) w = modeOutcome (w .image) (w .table) name function attr
-
+-- a look takes no table: it stays
 abbrev pub ours : Library
-ours = outcomeOf
-
-abbrev pub step : World → Call → World
-step = stepBy ours
-
-abbrev pub run : World → List Call → World
-run = runBy ours
-
--- what the calls of a run answered, one after the other
-abbrev pub answers : World → List Call → List Outcome
-answers w [] = []
-answers w (c ∷ cs) = outcomeOf c w ∷ answers (step w c) cs
+ours (look x) w = let o = lookOutcome x (w .image) in outcome (o .number) (o .value) (o .image) (w .table) (o .buffer)
+ours (openFile name access) w = openOutcome (w .image) (w .table) name access
+ours (create name attr stamp) w = createOutcome (w .image) (w .table) name attr stamp
+ours (read h buffer) w = readOutcome (w .image) (w .table) h buffer
+ours (write h bs) w = writeOutcome (w .image) (w .table) h bs
+ours (seek h method offset) w = seekOutcome (w .image) (w .table) h method offset
+ours (close h stamp) w = closeOutcome (w .image) (w .table) h stamp
+ours (delete name) w = deleteOutcome (w .image) (w .table) name
+ours (rename name new) w = renameOutcome (w .image) (w .table) name new
+ours (mode name function attr) w = modeOutcome (w .image) (w .table) name function attr

@@ -7,7 +7,6 @@ use Rattle.image.specs.Store.{stored}
 use Rattle.diskette.specs.declared.Kind.{Kind}
 use Rattle.names.specs.Spelling.{Means}
 use Rattle.sound.specs.Files.{IsFile}
-use Rattle.calls.specs.Outcome.{Outcome}
 use Rattle.rescuing.specs.Rescue.{rescueCount}
 use Rattle.changes.specs.Files.{File, Holds}
 use Rattle.history.specs.Meant.{Names}
@@ -43,15 +42,12 @@ OthersThroughReset lib = AfterAnyRun lib (λ k w. (s : ℕ) → IsFile k (w .ima
 
 -- ---- what rescue gives
 
--- it ends well with the first of these bytes, as many as out allows, at the front of out
-pub record Gives (o : Outcome) (out bytes : List ℕ) : Type 0 where
-  pub well : o .number ≡ 0
-  pub count : o .value ≡ rescueCount (length out) (length bytes)
-  pub put : o .buffer ≡ stored out 0 (take (o .value) bytes)
-
--- from the disk m, by any spelling of the file's name; the open table may hold any bytes
+-- from the disk m, by any spelling of the file's name, it ends well with the first of the file's bytes, as many as out allows, at
+-- the front of out; the open table may hold any bytes
 abbrev pub Rescued : Library → List ℕ → File → Type 0
-Rescued lib m f = (name : List ℕ) → Means name (f .name) → (table out : List ℕ) → Gives (lib (look (rescue name out)) (world m table)) out (f .bytes)
+Rescued lib m f = (name : List ℕ) → Means name (f .name) → (table out : List ℕ) →
+    let o = lib (look (rescue name out)) (world m table) in
+    (o .number ≡ 0) × (o .value ≡ rescueCount (length out) (length (f .bytes))) × (o .buffer ≡ stored out 0 (take (o .value) (f .bytes)))
 
 -- on each disk that a run may leave rescue gives the tare, byte for byte
 abbrev pub RescuedAfterReset : Library → Type 0

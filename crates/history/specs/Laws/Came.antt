@@ -14,11 +14,12 @@ use Rattle.diskette.specs.declared.Kind.{Kind}
 use Rattle.directory.specs.Entries.{SameBytes}
 use Rattle.changes.specs.Files.{File, Files, Shows, ShowsAt}
 use Rattle.changes.specs.Laws.Changed.{changed-on, other-none, other-holds}
+use Rattle.history.specs.Aids.Ours.{step}
 use Rattle.history.specs.Aids.Came.{Came, Does, Changes, idle, stays, changes}
 use Rattle.history.specs.History.{Becomes, After}
-use Rattle.history.specs.Meant.{Names, target, nothing}
+use Rattle.history.specs.Meant.{Names}
 use Rattle.history.specs.Promises.{Begins}
-use Rattle.history.specs.World.{World, Call, ours, outcomeOf, step}
+use Rattle.history.specs.World.{World, Call, Look, ours, look}
 use Rattle.history.specs.Laws.Begins.{on, on-begins}
 use Rattle.history.specs.Laws.Meant.{names-none}
 use Rattle.history.specs.Laws.OneNamed.{names-one}
@@ -41,20 +42,20 @@ module _ (k : Kind) (w : World) (c : Call) (b : Begins k w) where
   one : (s t : ℕ) → Does k w c s → Names c k w t → t ≡ s
   one s t d n = names-one k w (on b) t s c n (d .named)
 
-  pub came-names : Came k w c → target c ≢ nothing → outcomeOf c w .number ≡ 0 → (s : ℕ) × Names c k w s × ((t : ℕ) → Names c k w t → t ≡ s)
-  came-names (idle (inl n) e) about well = absurd (n well)
-  came-names (idle (inr q) e) about well = absurd (about q)
-  came-names (stays s d e q) about well = (s, d .named, λ t. one s t d)
-  came-names (changes s ds d x) about well = (s, d .named, λ t. one s t d)
+  pub came-names : Came k w c → ((x : Look) → c ≢ look x) → ours c w .number ≡ 0 → (s : ℕ) × Names c k w s × ((t : ℕ) → Names c k w t → t ≡ s)
+  came-names (idle (inl n) e) acts well = absurd (n well)
+  came-names (idle (inr q) e) acts well = absurd (acts (q .0) (q .1))
+  came-names (stays s d e q) acts well = (s, d .named, λ t. one s t d)
+  came-names (changes s ds d x) acts well = (s, d .named, λ t. one s t d)
 
   -- ---- the files after it
 
   -- a call that ends well and names slot s, and files that differ there as the history says
-  pub after-does : (s : ℕ) → Does k w c s → (fs gs : Files) → Becomes c w (outcomeOf c w) (fs s) (gs s) → ((t : ℕ) → t ≢ s → gs t ≡ fs t)
+  pub after-does : (s : ℕ) → Does k w c s → (fs gs : Files) → Becomes c w (ours c w) (fs s) (gs s) → ((t : ℕ) → t ≢ s → gs t ≡ fs t)
       → After ours k w c fs gs
   after-does s d fs gs there others = record {
     refused = λ n. absurd (n (d .well));
-    named = λ well t n. subst (λ (i : ℕ). Becomes c w (outcomeOf c w) (fs i) (gs i)) (sym (one s t d n)) there;
+    named = λ well t n. subst (λ (i : ℕ). Becomes c w (ours c w) (fs i) (gs i)) (sym (one s t d n)) there;
     others = λ t n. others t (λ e. n (subst (Names c k w) (sym e) (d .named)));
   }
 
@@ -62,9 +63,9 @@ module _ (k : Kind) (w : World) (c : Call) (b : Begins k w) where
   pub came-after : Came k w c → (fs : Files) → (gs : Files) × After ours k w c fs gs
   came-after (idle q e) fs = (fs, record { refused = λ n s. refl; named = λ well s n. absurd (clash q well s n); others = λ s n. refl })
     where
-      clash : (outcomeOf c w .number ≢ 0) ⊎ (target c ≡ nothing) → outcomeOf c w .number ≡ 0 → (s : ℕ) → Names c k w s → ⊥
+      clash : (ours c w .number ≢ 0) ⊎ ((x : Look) × (c ≡ look x)) → ours c w .number ≡ 0 → (s : ℕ) → Names c k w s → ⊥
       clash (inl n) well s x = n well
-      clash (inr p) well s x = names-none k w c p s x
+      clash (inr p) well s x = names-none k w c (p .0) (p .1) s x
   came-after (stays s d e q) fs = (fs, after-does s d fs fs (q (fs s) (fs s) .1 refl) (λ t n. refl))
   came-after (changes s ds d x) fs =
       let g = x .makes (fs s) in
@@ -78,9 +79,9 @@ module _ (k : Kind) (w : World) (c : Call) (b : Begins k w) where
   pub came-shows : Came k w c → (fs gs : Files) → After ours k w c fs gs → Shows k (w .image) fs → Shows k m gs
   came-shows (idle q e) fs gs a y t = rw e (subst (ShowsAt k (w .image) t) (sym (kept q)) (y t))
     where
-      kept : (outcomeOf c w .number ≢ 0) ⊎ (target c ≡ nothing) → gs t ≡ fs t
+      kept : (ours c w .number ≢ 0) ⊎ ((x : Look) × (c ≡ look x)) → gs t ≡ fs t
       kept (inl n) = a .refused n t
-      kept (inr p) = a .others t (names-none k w c p t)
+      kept (inr p) = a .others t (names-none k w c (p .0) (p .1) t)
   came-shows (stays s d e q) fs gs a y t = rw e (subst (ShowsAt k (w .image) t) (sym kept) (y t))
     where
       kept : gs t ≡ fs t

@@ -10,6 +10,7 @@ use mathlib.Core.Path.{_≡_, refl, sym, ap, _∙_, subst}
 use lib.ListN.{length, take}
 use borrow.Author.Tests.{eq-eqb, ne-eqb}
 use Rattle.image.specs.Bytes.{Bytes}
+use Rattle.chains.specs.Write.{written}
 use Rattle.diskette.specs.Places.{rootAt, rootEntries, slotAt}
 use Rattle.diskette.specs.declared.Kind.{Kind}
 use Rattle.search.specs.declared.Found.the-variants.{At}
@@ -34,11 +35,11 @@ use Rattle.changes.specs.Aids.Changed.{SlotChanged}
 use Rattle.changes.specs.Files.{File, file, Holds, ShowsAt}
 use Rattle.changes.specs.Laws.Made.{empty-changed, empty-holds, empty-bytes, new-changed, new-holds, new-bytes}
 use Rattle.changes.specs.Laws.Wrote.{wrote-changed, wrote-holds, wrote-bytes}
+use Rattle.history.specs.Aids.Ours.{step}
 use Rattle.history.specs.Aids.Came.{Does, Came, stays}
-use Rattle.history.specs.History as history
 use Rattle.history.specs.Meant.{Names}
 use Rattle.history.specs.Promises.{Begins}
-use Rattle.history.specs.World.{World, outcomeOf, step, create, delete, write}
+use Rattle.history.specs.World.{World, ours, create, delete, write}
 use Rattle.history.specs.Laws.Begins.{on}
 use Rattle.history.specs.Laws.Count.{taken-fits, bytes-take}
 use Rattle.history.specs.Laws.Ended.{delete-changed, delete-ends, delete-bytes}
@@ -77,7 +78,7 @@ module _ (k : Kind) (w : World) (b : Begins k w) where
   unfolding writeOutcome writeAt
   came-write h bs given = came-by k w (write h bs) (writeRows l t h) (writeEffect l t h bs) [] refl by
     where
-      by : refusal (writeRows l t h) ≡ 0 → outcomeOf (write h bs) w ≡ writeEffect l t h bs → Came k w (write h bs)
+      by : refusal (writeRows l t h) ≡ 0 → ours (write h bs) w ≡ writeEffect l t h bs → Came k w (write h bs)
       by rows e =
           let row = passed-row (writeRows l t h) refl rows in
           let i = live-there k l (on b) t h (row 2) in
@@ -89,19 +90,19 @@ module _ (k : Kind) (w : World) (b : Begins k w) where
           elim (ℕ-discrete n 0) [
             | yes z ↦
                 let q = eq-eqb n 0 z in
-                let value : outcomeOf (write h bs) w .value ≡ 0 = ap (λ (o : Outcome). o .value) e ∙ rw (kind, q) in
+                let value : ours (write h bs) w .value ≡ 0 = ap (λ (o : Outcome). o .value) e ∙ rw (kind, q) in
                 stays s (record { well = ap (λ (o : Outcome). o .number) e ∙ rw (kind, q); named = named })
-                (ap (λ (o : Outcome). o .image) e ∙ rw (kind, q)) (λ f g. rw (eq-eqb (outcomeOf (write h bs) w .value) 0 value) (λ p. p, λ p. p))
+                (ap (λ (o : Outcome). o .image) e ∙ rw (kind, q)) (λ f g. rw (eq-eqb (ours (write h bs) w .value) 0 value) (λ p. p, λ p. p))
             | no d ↦
                 let q = ne-eqb n 0 d in
                 let does : Does k w (write h bs) s = record { well = ap (λ (o : Outcome). o .number) e ∙ rw (kind, q); named = named } in
-                let value : outcomeOf (write h bs) w .value ≡ n = ap (λ (o : Outcome). o .value) e ∙ rw (kind, q) in
+                let value : ours (write h bs) w .value ≡ n = ap (λ (o : Outcome). o .value) e ∙ rw (kind, q) in
                 let m : step w (write h bs) .image ≡ writtenIn k l s pointer (take n bs) = ap (λ (o : Outcome). o .image) e ∙ rw (kind, q) in
                 let p = taken-fits k l s pointer bs (on b) i (b .bytes) d in
                 came-at k w (write h bs) s _ _ does m
                 (wrote-changed k l s pointer (take n bs) p)
                 (wrote-bytes k l s pointer (take n bs) p (bytes-take n bs given))
-                i (history.withBytes pointer (take n bs)) (λ f g. rw (value, q) (λ p. p, λ p. p))
+                i (λ f. file (f .name) (f .attr) (written (f .bytes) pointer (take n bs))) (λ f g. rw (value, q) (λ p. p, λ p. p))
                 (wrote-holds k l s pointer (take n bs) p)
           ]
 
@@ -118,7 +119,7 @@ module _ (k : Kind) (w : World) (b : Begins k w) where
 
     -- a file was made in the slot of n, which is the image, with the clusters of the old file freed if there was one
     made-in : (n : List ℕ) (s time date : ℕ) → Names (create given attr stamp) k w s → nameGiven given .fits ≡ true
-        → outcomeOf (create given attr stamp) w ≡ made n t k s name attr time date
+        → ours (create given attr stamp) w ≡ made n t k s name attr time date
         → SlotChanged k l (withEntry n (slotAt k s) name attr time date 0 0) s [] → Bytes (withEntry n (slotAt k s) name attr time date 0 0)
         → Holds k (withEntry n (slotAt k s) name attr time date 0 0) s (file name attr []) → Came k w (create given attr stamp)
     made-in n s time date named fits e changed bytes holds =
@@ -128,7 +129,7 @@ module _ (k : Kind) (w : World) (b : Begins k w) where
         (λ f g y p. subst (ShowsAt k (withEntry n (slotAt k s) name attr time date 0 0) s) (sym (becomes fits g .0 p)) holds)
 
     well : (missing : Bool) → noFile l given ≡ missing → (p : Packed) → packed stamp ≡ p → refusal (createRows l t given attr stamp) ≡ 0
-        → outcomeOf (create given attr stamp) w ≡ createEffect l t given attr stamp
+        → ours (create given attr stamp) w ≡ createEffect l t given attr stamp
         → Came k w (create given attr stamp)
     unfolding slotForNew
     well missing q OutOfRange pe rows e =

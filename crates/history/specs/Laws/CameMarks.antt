@@ -3,6 +3,7 @@ use Prim.Native.Nat.{ℕ}
 use native.Mathlib.Omega.{arith}
 use mathlib.Core.Bool.{Bool, true, false}
 use mathlib.Core.List.{List, []}
+use mathlib.Core.Option.{Option·map}
 use mathlib.Core.Path.{_≡_, refl, ap, _∙_}
 use lib.Dec.{eqb}
 use borrow.Author.Tests.{not-false}
@@ -18,14 +19,15 @@ use Rattle.opened.specs.Records.{slotOf, writtenOf}
 use Rattle.calls.specs.Outcome.{Outcome, refusal}
 use Rattle.calls.specs.Refusals.{noFile, fileSlot, badAttr, isOut}
 use Rattle.calls.specs.Laws.Ready.{on-kind}
-use Rattle.closing.specs.Close.{stamped, closeRows, closeEffect, closeOutcome}
+use Rattle.closing.specs.Close.{archived, stamped, closeRows, closeEffect, closeOutcome}
 use Rattle.marking.specs.Mode.{modeRows, modeEffect, modeOutcome}
 use Rattle.renaming.specs.Rename.{renameRows, renameEffect, renameOutcome}
+use Rattle.changes.specs.Files.{File, file}
 use Rattle.changes.specs.Laws.Marks.{rename-changed, rename-holds, rename-bytes, mode-changed, mode-holds, mode-bytes, close-changed, close-holds, close-bytes}
+use Rattle.history.specs.Aids.Ours.{step}
 use Rattle.history.specs.Aids.Came.{Does, Came, stays}
-use Rattle.history.specs.History as history
 use Rattle.history.specs.Promises.{Begins}
-use Rattle.history.specs.World.{World, outcomeOf, step, rename, mode, close}
+use Rattle.history.specs.World.{World, ours, rename, mode, close}
 use Rattle.history.specs.Laws.Begins.{on}
 use Rattle.history.specs.Laws.Found.{good-name, file-there, no-file-found, live-there}
 use Rattle.history.specs.Laws.Meant.{meant-exactly, by-name, reaches}
@@ -56,7 +58,8 @@ module _ (k : Kind) (w : World) (b : Begins k w) where
       came-at k w (rename name new) s _ _ does m
       (rename-changed k l (on b) s i new fits free)
       (rename-bytes k l (on b) s i new fits (b .bytes))
-      i (history.renamedTo (nameGiven new .name)) (λ f g. meant-exactly new fits (λ n. g ≡ history.each (history.renamedTo n) f))
+      i (λ f. file (nameGiven new .name) (f .attr) (f .bytes))
+      (λ f g. meant-exactly new fits (λ n. g ≡ Option·map (λ (x : File). file n (x .attr) (x .bytes)) f))
       (rename-holds k l (on b) s i new fits))
 
   -- ---- file mode
@@ -67,7 +70,7 @@ module _ (k : Kind) (w : World) (b : Begins k w) where
       came-by k w (mode name function attr) (modeRows l t name function attr) (modeEffect l t name function attr) [] refl (by (eqb function 1) refl)
     where
       by : (sets : Bool) → eqb function 1 ≡ sets → refusal (modeRows l t name function attr) ≡ 0
-          → outcomeOf (mode name function attr) w ≡ modeEffect l t name function attr → Came k w (mode name function attr)
+          → ours (mode name function attr) w ≡ modeEffect l t name function attr → Came k w (mode name function attr)
       by false q rows e =
           let row = passed-row (modeRows l t name function attr) refl rows in
           stays (fileSlot l name)
@@ -85,7 +88,7 @@ module _ (k : Kind) (w : World) (b : Begins k w) where
           came-at k w (mode name function attr) s _ _ does m
           (mode-changed k l (on b) s i attr may)
           (mode-bytes k l (on b) s i attr may (b .bytes))
-          i (history.markedWith attr) (λ f g. rw q (λ z. z, λ z. z))
+          i (λ f. file (f .name) attr (f .bytes)) (λ f g. rw q (λ z. z, λ z. z))
           (mode-holds k l (on b) s i attr may)
 
   -- ---- close
@@ -96,7 +99,7 @@ module _ (k : Kind) (w : World) (b : Begins k w) where
       came-by k w (close h stamp) (closeRows l t h stamp) (closeEffect l t h stamp) [] refl (by (writtenOf t h) refl (packed stamp) refl)
     where
       by : (set : Bool) → writtenOf t h ≡ set → (p : Packed) → packed stamp ≡ p → refusal (closeRows l t h stamp) ≡ 0
-          → outcomeOf (close h stamp) w ≡ closeEffect l t h stamp → Came k w (close h stamp)
+          → ours (close h stamp) w ≡ closeEffect l t h stamp → Came k w (close h stamp)
       by false q p pe rows e =
           let row = passed-row (closeRows l t h stamp) refl rows in
           stays (slotOf t h) (record { well = ap (λ (o : Outcome). o .number) e; named = reaches k w (on b) h (row 3) })
@@ -114,5 +117,5 @@ module _ (k : Kind) (w : World) (b : Begins k w) where
           came-at k w (close h stamp) s _ _ does m
           (close-changed k l (on b) s i time date)
           (close-bytes k l (on b) s i time date (b .bytes))
-          i history.withArchiveBit (λ f g. rw q (λ z. z, λ z. z))
+          i (λ f. file (f .name) (archived (f .attr)) (f .bytes)) (λ f g. rw q (λ z. z, λ z. z))
           (close-holds k l (on b) s i time date)

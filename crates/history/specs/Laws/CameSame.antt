@@ -14,7 +14,7 @@ use Rattle.reading.specs.Read.{readRows, readEffect, readOutcome}
 use Rattle.history.specs.Aids.Came.{Does, Came, idle, stays}
 use Rattle.history.specs.Meant.{Names}
 use Rattle.history.specs.Promises.{Begins}
-use Rattle.history.specs.World.{World, Call, Look, outcomeOf, look, openFile, read, seek}
+use Rattle.history.specs.World.{World, Call, Look, ours, look, openFile, read, seek}
 use Rattle.history.specs.Laws.Begins.{on}
 use Rattle.history.specs.Laws.Found.{good-name}
 use Rattle.history.specs.Laws.Looks.{looks-alter-nothing}
@@ -30,11 +30,11 @@ module _ (k : Kind) (w : World) (b : Begins k w) where
   t = w .table
 
   -- an effect that ends well and leaves the image, of a call that names a slot
-  does : (c : Call) (effect : Outcome) → effect .number ≡ 0 → outcomeOf c w ≡ effect → (s : ℕ) → Names c k w s → Does k w c s
+  does : (c : Call) (effect : Outcome) → effect .number ≡ 0 → ours c w ≡ effect → (s : ℕ) → Names c k w s → Does k w c s
   does c effect well e s n = record { well = rw e well; named = n }
 
   pub came-look : (x : Look) → Came k w (look x)
-  came-look x = idle (inr refl) (ap (λ (u : World). u .image) (looks-alter-nothing w x))
+  came-look x = idle (inr (x, refl)) (ap (λ (u : World). u .image) (looks-alter-nothing w x))
 
   pub came-open : (name : List ℕ) (access : ℕ) → Came k w (openFile name access)
   unfolding openOutcome

@@ -30,7 +30,7 @@ use Rattle.creating.specs.Create.{made, createOutcome}
 use Rattle.closing.specs.Close.{closeEffect, closeOutcome}
 use Rattle.putting.specs.Written.{writtenIn}
 use Rattle.writing.specs.Write.{writeCount, writeOutcome, writeAt, accepted, roomOf}
-use Rattle.history.specs.World.{World, outcomeOf, create, write, close}
+use Rattle.history.specs.World.{World, ours, create, write, close}
 
 -- the one place of the table is taken for the file in slot n
 pub record TakenFor (t : List ℕ) (n pointer : ℕ) (written : Bool) : Type 0 where
@@ -78,7 +78,7 @@ module _ (k : Kind) (w : World) (v : OnVolume (w .image) k) where
   pub create-well : (s : List ℕ) (attr : ℕ) (stamp : Stamp) (time date n p : ℕ) → nameGiven s .fits ≡ true → packed stamp ≡ Words time date
       → badAttr attr ≡ false
       → fileFound l s ≡ Nothing → slotForNew l ≡ At n → lowestUnused t ≡ At p
-      → outcomeOf (create s attr stamp) w ≡ outcome 0 p (made l t k n (nameGiven s .name) attr time date .image) (withRecord t p 2 n 0 false) []
+      → ours (create s attr stamp) w ≡ outcome 0 p (made l t k n (nameGiven s .name) attr time date .image) (withRecord t p 2 n 0 false) []
   unfolding createOutcome decided refusal
   create-well s attr stamp time date n p fits stamped may none lowest place = rw (v .known, v .sound, fits, stamped, may, none, lowest, place)
 
@@ -98,7 +98,7 @@ module _ (k : Kind) (w : World) (v : OnVolume (w .image) k) where
   count-all n length h = omega arith
 
   pub write-well : (n : ℕ) → TakenFor t n 0 false → IsFile k l n → (bs : List ℕ) → 0 < length bs → length bs ≤ freeOf k l * clusterBytes k
-      → outcomeOf (write 0 bs) w ≡ outcome 0 (length bs) (writtenIn k l n 0 (take (length bs) bs)) (withWritten (withPointer t 0 (length bs)) 0) []
+      → ours (write 0 bs) w ≡ outcome 0 (length bs) (writtenIn k l n 0 (take (length bs) bs)) (withWritten (withPointer t 0 (length bs)) 0) []
   unfolding writeOutcome writeAt decided refusal
   write-well n x i bs some room =
       let z : 0 + length bs ≡ length bs = omega arith in
@@ -116,6 +116,6 @@ module _ (k : Kind) (w : World) (v : OnVolume (w .image) k) where
 
   pub close-well : (stamp : Stamp) (time date : ℕ) → packed stamp ≡ Words time date → (n pointer : ℕ) (written : Bool)
       → TakenFor t n pointer written → IsFile k l n
-      → outcomeOf (close 0 stamp) w ≡ closeEffect l t 0 stamp
+      → ours (close 0 stamp) w ≡ closeEffect l t 0 stamp
   unfolding closeOutcome decided refusal
   close-well stamp time date stamped n pointer written x i = rw (live n pointer written x i, v .known, v .sound, stamped)

@@ -3,7 +3,7 @@ use Prim.Native.Nat.{ℕ, _+_, _-_, _≤_, _<_}
 use native.Mathlib.Omega.{arith}
 use native.Mathlib.Decide.{ℕ-discrete}
 use mathlib.Core.Bool.{Bool, true, false}
-use mathlib.Core.List.{List, [], _∷_, map}
+use mathlib.Core.List.{List, [], _∷_}
 use mathlib.Core.Logic.{_≢_, inr}
 use mathlib.Core.Option.{Option, none, some}
 use mathlib.Core.Path.{_≡_, refl, sym, ap, _∙_, subst}
@@ -36,9 +36,10 @@ use Rattle.creating.specs.Create.{made}
 use Rattle.putting.specs.Written.{writtenIn}
 use Rattle.changes.specs.Files.{File, file, Files, ShowsAt}
 use Rattle.changes.specs.Laws.NewSlot.{none-of-name, lowest-vacant}
+use Rattle.history.specs.Aids.Ours.{step, run}
 use Rattle.history.specs.ListingCase.{fileCalls, HasStamp, answered}
 use Rattle.history.specs.Meant.{Reaches, IsForNew}
-use Rattle.history.specs.World.{World, outcomeOf, step, run, answers, create, write, close}
+use Rattle.history.specs.World.{World, ours, create, write, close}
 use Rattle.history.specs.Laws.Begins.{on}
 use Rattle.history.specs.Laws.EndsWell.{TakenFor, place-free, taken-made, taken-written, live, create-well, write-well, close-well}
 use Rattle.history.specs.Laws.Given.{given-create, given-write, given-close}
@@ -48,6 +49,10 @@ use Rattle.history.specs.Laws.OneFile.{take-all, written-first}
 use Rattle.history.specs.Laws.OneSlot.{Stands, Makes, stands-step, others-step, free-step, aside-step}
 use Rattle.history.specs.Laws.Room.{needed}
 use Rattle.history.specs.Laws.Stamped.{stamped-words, same-stamp}
+
+-- what is told of an answer
+abbrev told : Outcome → ℕ × ℕ
+told o = (o .number, o .value)
 
 three : {A : Type 0} {a b c x y z : A} → a ≡ x → b ≡ y → c ≡ z → a ∷ b ∷ c ∷ [] ≡ x ∷ y ∷ z ∷ []
 three e f g = rw (e, f, g)
@@ -88,7 +93,7 @@ module _ (k : Kind) (w : World) (fs : Files) (n free : ℕ) (x : HasFiles k w fs
   lowest : slotForNew (w .image) ≡ At n
   lowest = lowest-vacant k (w .image) (on (x .stands .begins)) fs (x .stands .shows) n slot (x .below) (x .never)
 
-  created : outcomeOf (create s attr stamp) w
+  created : ours (create s attr stamp) w
       ≡ outcome 0 0 (made (w .image) (w .table) k n name attr (g .time) (g .date) .image) (withRecord (w .table) 0 2 n 0 false) []
   created =
       create-well k w (on (x .stands .begins)) s attr stamp (g .time) (g .date) n 0 (g .fits) (g .stamped) (g .may) none-named lowest
@@ -134,7 +139,7 @@ module _ (k : Kind) (w : World) (fs : Files) (n free : ℕ) (x : HasFiles k w fs
   abbrev world-wrote : World
   world-wrote = step world-created (write 0 bs)
 
-  wrote : outcomeOf (write 0 bs) world-created
+  wrote : ours (write 0 bs) world-created
       ≡ outcome 0 (length bs) (writtenIn k (world-created .image) n 0 (take (length bs) bs))
       (withWritten (withPointer (world-created .table) 0 (length bs)) 0) []
   wrote =
@@ -148,7 +153,7 @@ module _ (k : Kind) (w : World) (fs : Files) (n free : ℕ) (x : HasFiles k w fs
 
   makes-wrote : Makes k world-created (write 0 bs) n (put-file attr []) (put-file attr bs)
   makes-wrote =
-      let value : outcomeOf (write 0 bs) world-created .value ≡ length bs = ap (λ (o : Outcome). o .value) wrote in
+      let value : ours (write 0 bs) world-created .value ≡ length bs = ap (λ (o : Outcome). o .value) wrote in
       record {
         given = given-write 0 bs (g .bytes);
         does = record { well = ap (λ (o : Outcome). o .number) wrote; named = reached world-created attr [] stands-created 0 false taken-created };
@@ -171,7 +176,7 @@ module _ (k : Kind) (w : World) (fs : Files) (n free : ℕ) (x : HasFiles k w fs
   abbrev world-closed : World
   world-closed = step world-wrote (close 0 stamp)
 
-  closed : outcomeOf (close 0 stamp) world-wrote ≡ closeEffect (world-wrote .image) (world-wrote .table) 0 stamp
+  closed : ours (close 0 stamp) world-wrote ≡ closeEffect (world-wrote .image) (world-wrote .table) 0 stamp
   closed =
       close-well k world-wrote (on (stands-wrote .begins)) stamp (g .time) (g .date) (g .stamped) n (length bs) true taken-wrote
       (file-there world-wrote attr bs stands-wrote)
@@ -228,8 +233,8 @@ module _ (k : Kind) (w : World) (fs : Files) (n free : ℕ) (x : HasFiles k w fs
 
   -- ---- all three
 
-  pub file-answers : map answered (answers w (fileCalls s attr bs stamp)) ≡ (0, 0) ∷ (0, length bs) ∷ (0, 0) ∷ []
-  file-answers = three (ap answered created) (ap answered wrote) (ap answered closed)
+  pub file-answers : answered w (fileCalls s attr bs stamp) ≡ (0, 0) ∷ (0, length bs) ∷ (0, 0) ∷ []
+  file-answers = three (ap told created) (ap told wrote) (ap told closed)
 
   pub file-made : n + 1 < rootEntries k
       → HasFiles k (run w (fileCalls s attr bs stamp)) (put-file (archived attr) bs) (n + 1) (free - clustersFor (clusterBytes k) (length bs))

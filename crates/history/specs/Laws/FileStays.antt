@@ -4,7 +4,7 @@ use native.Mathlib.Omega.{arith}
 use native.Mathlib.Decide.{ℕ-discrete}
 use mathlib.Core.Bool.{Bool, true, false, cond}
 use mathlib.Core.List.{List}
-use mathlib.Core.Option.{Option, none, some}
+use mathlib.Core.Option.{Option, none, some, Option·map}
 use mathlib.Core.Path.{_≡_, refl, sym, _∙_, subst}
 use lib.Dec.{eqb}
 use Rattle.diskette.specs.declared.Kind.{Kind}
@@ -12,11 +12,12 @@ use Rattle.opened.specs.Records.{writtenOf}
 use Rattle.sound.specs.Files.{IsFile}
 use Rattle.stamps.specs.declared.Stamp.{Stamp}
 use Rattle.changes.specs.Files.{File, Files, Shows, ShowsAt}
+use Rattle.history.specs.Aids.Ours.{step}
 use Rattle.history.specs.Aids.Came.{Came, Does, idle, stays, changes}
-use Rattle.history.specs.History.{Becomes, each}
+use Rattle.history.specs.History.{Becomes}
 use Rattle.history.specs.Meant.{Names}
 use Rattle.history.specs.Promises.{Given, Begins}
-use Rattle.history.specs.World.{World, Call, outcomeOf, step, look, openFile, create, read, write, seek, close, delete, rename, mode}
+use Rattle.history.specs.World.{World, Call, ours, look, openFile, create, read, write, seek, close, delete, rename, mode}
 use Rattle.history.specs.Laws.Begins.{on}
 use Rattle.history.specs.Laws.Came.{came-after, came-shows, came-others}
 use Rattle.history.specs.Laws.EveryCall.{came}
@@ -44,7 +45,7 @@ module _ (k : Kind) (l : List ℕ) (s : ℕ) where
 
 -- ---- what becomes of a file
 
-each-some : (h : File → File) (f : Option File) → Some f → Some (each h f)
+each-some : (h : File → File) (f : Option File) → Some f → Some (Option·map h f)
 each-some h none x = absurd (clash (x .1))
   where
     clash : {f : File} → none ≡ some f → ⊥
@@ -59,12 +60,12 @@ module _ (k : Kind) (w : World) (s : ℕ) (f g : Option File) (x : Some f) where
   by : {o : Option File} → g ≡ o → Some o → Some g
   by e y = (y .0, e ∙ y .1)
 
-  becomes-some : (c : Call) → Does k w c s → ¬ Erases k w c s → Becomes c w (outcomeOf c w) f g → Some g
+  becomes-some : (c : Call) → Does k w c s → ¬ Erases k w c s → Becomes c w (ours c w) f g → Some g
   becomes-some (look i) d n e = by e x
   becomes-some (openFile name access) d n e = by e x
   becomes-some (create name attr stamp) d n e = (_, e .2)
   becomes-some (read h buffer) d n e = by e x
-  becomes-some (write h bs) d n e = by e (either-some (eqb (outcomeOf (write h bs) w .value) 0) f _ x (each-some _ f x))
+  becomes-some (write h bs) d n e = by e (either-some (eqb (ours (write h bs) w .value) 0) f _ x (each-some _ f x))
   becomes-some (seek h method offset) d n e = by e x
   becomes-some (close h stamp) d n e = by e (either-some (writtenOf (w .table) h) _ f (each-some _ f x) x)
   becomes-some (delete name) d n e = absurd (n (record { name = name; call = refl; does = d }))
@@ -101,7 +102,7 @@ module _ (k : Kind) (w : World) (b : Begins k w) where
     pub file-stays : Given c → IsFile k (step w c .image) s
     file-stays given = came-file (came k w c b given)
 
-  pub created-file : (name : List ℕ) (attr : ℕ) (stamp : Stamp) (s : ℕ) → outcomeOf (create name attr stamp) w .number ≡ 0
+  pub created-file : (name : List ℕ) (attr : ℕ) (stamp : Stamp) (s : ℕ) → ours (create name attr stamp) w .number ≡ 0
       → Names (create name attr stamp) k w s → IsFile k (step w (create name attr stamp) .image) s
   created-file name attr stamp s well named =
       let c = create name attr stamp in

@@ -14,9 +14,10 @@ use Rattle.opened.specs.Laws.Uses.{only-count}
 use Rattle.opening.specs.Open.{openEffect, openOutcome}
 use Rattle.calls.specs.Laws.Ready.{on-usable}
 use Rattle.sound.specs.Files.{IsFile}
+use Rattle.history.specs.Aids.Ours.{step, run}
 use Rattle.history.specs.Handles.{HandedOut, HandsOut, HandsOutItsFile}
 use Rattle.history.specs.Promises.{Begins}
-use Rattle.history.specs.World.{World, Call, ours, outcomeOf, step, run, openFile, create}
+use Rattle.history.specs.World.{World, Call, ours, openFile, create}
 use Rattle.history.specs.Laws.Begins.{on}
 use Rattle.history.specs.Laws.FileStays.{created-file}
 use Rattle.history.specs.Laws.OneNamed.{names-one}
@@ -28,11 +29,11 @@ use Rattle.history.specs.Laws.TableStored.{Took, open-took, open-file, c
 module _ (k : Kind) (w : World) (b : Begins k w) where
   -- ---- what is handed out
 
-  handed : (c : Call) (access s : ℕ) → Took k w c access s (outcomeOf c w) → IsFile k (step w c .image) s
-      → HandedOut k w (step w c) (outcomeOf c w .value) access s
+  handed : (c : Call) (access s : ℕ) → Took k w c access s (ours c w) → IsFile k (step w c .image) s
+      → HandedOut k w (step w c) (ours c w .value) access s
   handed c access s x i =
       let t = w .table in
-      let p = outcomeOf c w .value in
+      let p = ours c w .value in
       let only = record-only t p (x .lowest .below) access s 0 false in
       let small : s < 4294967296 = omega (arith, i .below, on-usable (w .image) k (on b) .few-slots) in
       let y = record-holds t p (x .lowest .below) access s 0 false small (omega arith) in
@@ -55,7 +56,7 @@ module _ (k : Kind) (w : World) (b : Begins k w) where
       let c = openFile name access in
       let x = open-took k w (on b) name access well in
       let e = names-one k w (on b) _ s c (x .named) named in
-      handed c access s (subst (λ (i : ℕ). Took k w c access i (outcomeOf c w)) e x)
+      handed c access s (subst (λ (i : ℕ). Took k w c access i (ours c w)) e x)
       (rw (open-image name access) (subst (IsFile k (w .image)) e (open-file k w (on b) name access well)))
 
   create-hands : (name : List ℕ) (attr : ℕ) (stamp : Stamp) → HandsOut ours k w (create name attr stamp) 2
@@ -63,7 +64,7 @@ module _ (k : Kind) (w : World) (b : Begins k w) where
       let c = create name attr stamp in
       let x = create-took k w (on b) name attr stamp well in
       let e = names-one k w (on b) (x .0) s c (x .1 .named) named in
-      handed c 2 s (subst (λ (i : ℕ). Took k w c 2 i (outcomeOf c w)) e (x .1)) (created-file k w b name attr stamp s well named)
+      handed c 2 s (subst (λ (i : ℕ). Took k w c 2 i (ours c w)) e (x .1)) (created-file k w b name attr stamp s well named)
 
 pub hands-out-its-file : HandsOutItsFile ours
 hands-out-its-file k w b cs g = let after = begins-run k cs w b g in (open-hands k (run w cs) after, create-hands k (run w cs) after)

@@ -10,11 +10,12 @@ use Rattle.opened.specs.Places.{LivePlace}
 use Rattle.opened.specs.Records.{slotOf}
 use Rattle.opened.specs.Laws.Places.{closed-is}
 use Rattle.sound.specs.Files.{IsFile}
+use Rattle.history.specs.Aids.Ours.{step, run}
 use Rattle.history.specs.Aids.Came.{Does}
 use Rattle.history.specs.Handles.{HandlesKeepTheirFiles}
 use Rattle.history.specs.Meant.{Reaches}
 use Rattle.history.specs.Promises.{Given, Begins}
-use Rattle.history.specs.World.{World, Call, ours, outcomeOf, step, run, close, delete}
+use Rattle.history.specs.World.{World, Call, ours, close, delete}
 use Rattle.history.specs.Laws.Begins.{on}
 use Rattle.history.specs.Laws.FileStays.{Erases, file-stays}
 use Rattle.history.specs.Laws.PlaceKept.{kept}
@@ -34,7 +35,7 @@ module _ (k : Kind) (w : World) (b : Begins k w) where
             closed-is (w .table) s .0 (delete-closed k w (on b) name (d .well) s (d .named)) h (live .counted)
             (record { used = live .used; names = at })
 
-    live-still : Given c → outcomeOf c w .number ≡ 0 → ((stamp : Stamp) → ¬ (c ≡ close h stamp))
+    live-still : Given c → ours c w .number ≡ 0 → ((stamp : Stamp) → ¬ (c ≡ close h stamp))
         → LivePlace (step w c .table) h (step w c .image) (rootAt k) (rootEntries k) × (slotOf (step w c .table) h ≡ s)
     live-still given well other =
         let x = kept k w (on b) h (live .counted) (live .used) c well other in
@@ -51,14 +52,14 @@ module _ (k : Kind) (w : World) (b : Begins k w) where
           slot,
         )
 
-  well-keeps : (c : Call) → Given c → (h s : ℕ) → Reaches k w h s → outcomeOf c w .number ≡ 0 → ((stamp : Stamp) → ¬ (c ≡ close h stamp))
+  well-keeps : (c : Call) → Given c → (h s : ℕ) → Reaches k w h s → ours c w .number ≡ 0 → ((stamp : Stamp) → ¬ (c ≡ close h stamp))
       → Reaches k (step w c) h s
   well-keeps c given h s r well other = let x = live-still c h s (r .live) (r .slot) given well other in record { live = x .0; slot = x .1 }
 
 pub handles-keep-their-files : HandlesKeepTheirFiles ours
 handles-keep-their-files k v b cs g c given h s r other =
     let w = run v cs in
-    elim (ℕ-discrete (outcomeOf c w .number) 0) [
+    elim (ℕ-discrete (ours c w .number) 0) [
       | yes e ↦ well-keeps k w (begins-run k cs v b g) c given h s r e (λ stamp q. other stamp q e)
       | no n ↦ subst (λ (u : World). Reaches k u h s) (sym (refusals-leave-all w c n)) r
     ]

@@ -17,6 +17,7 @@ ours-keeps = record {
   files = files-of-history;
   first = first-files;
   reads = reads-are-of-history;
+  seeks = seeks-are-of-history;
   names = names-a-file;
   others = alters-no-other;
   total = total-after-each;
@@ -28,5 +29,4 @@ ours-keeps = record {
   handed = hands-out-its-file;
   handles = handles-keep-their-files;
   pointers = pointers-move;
-  seeks = seeks-are-of-history;
 }

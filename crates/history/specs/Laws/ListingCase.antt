@@ -28,8 +28,9 @@ use Rattle.formatting.specs.Laws.Blank.{blank-slot}
 use Rattle.calls.specs.Refusals.{badAttr}
 use Rattle.closing.specs.Close.{archived}
 use Rattle.changes.specs.Files.{File, file, Files, ShowsAt}
-use Rattle.history.specs.ListingCase.{tareGiven, tareName, dayGiven, dayName, timeThen, fileCalls, listingFiles, ListingEnds, ListingCase}
-use Rattle.history.specs.World.{World, world, run}
+use Rattle.history.specs.Aids.Ours.{run}
+use Rattle.history.specs.ListingCase.{tareGiven, tareName, dayGiven, dayName, timeThen, fileCalls, listingCalls, listingFiles, ListingEnds, ListingCase}
+use Rattle.history.specs.World.{World, world}
 use Rattle.history.specs.Laws.Blank.{blank-begins, blank-shows, blank-free, blank-aside, formatted-blank}
 use Rattle.history.specs.Laws.FileMade.{file-stamp, other-stamp, file-answers, file-made}
 use Rattle.history.specs.Laws.HasFiles.{HasFiles, GoodFile, verdict-of}
@@ -189,7 +190,7 @@ module _ (tare : List ℕ) (bytes : Bytes tare) (long : length tare ≡ 40) wher
         put-same first-files 1 _ 1 refl ∙ ap₂ (λ name attr. some (file name attr day)) (ap (λ (x : Spelled). x .name) day-read) (day-attr .1)
     as-listed (suc (suc s)) = put-other first-files 1 _ (suc (suc s)) (λ e. omega arith) ∙ put-other no-files 0 _ (suc (suc s)) (λ e. omega arith)
 
-    ends : ListingEnds at-first tare day
+    ends : ListingEnds at-first two-files tare day
     ends = record {
       verdict = verdict-of kindFE two-files both-files 2 309 second-made (omega arith) ∙ rw all-free;
       files = λ t. subst (ShowsAt kindFE (two-files .image) t) (as-listed t) (second-made .stands .shows t);
@@ -210,4 +211,6 @@ unfolding named formatted
 listing-case img tare day e bytes long day-bytes day-long =
     let is-blank = formatted-blank kindFE usable refl img e in
     let afterFirst = ends tare bytes long day day-bytes day-long in
-    (rw (eq-eqb (length img) 163840 e), subst (λ (l : List ℕ). ListingEnds (world l (replicate 16 0)) tare day) (sym is-blank) afterFirst)
+    let begun : List ℕ → World = λ l. world l (replicate 16 0) in
+    let Ends : List ℕ → Type 0 = λ l. ListingEnds (begun l) (run (begun l) (listingCalls tare day)) tare day in
+    (rw (eq-eqb (length img) 163840 e), subst Ends (sym is-blank) afterFirst)

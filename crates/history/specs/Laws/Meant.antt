@@ -23,8 +23,8 @@ use Rattle.calls.specs.Laws.Files.{root-within}
 use Rattle.calls.specs.Laws.Ready.{on-kind}
 use Rattle.opened.specs.Places.{LivePlace}
 use Rattle.opened.specs.Records.{slotOf}
-use Rattle.history.specs.Meant.{HasName, Reaches, IsForNew, Target, NamedBy, Names, target, nothing, byName}
-use Rattle.history.specs.World.{World, Call}
+use Rattle.history.specs.Meant.{HasName, Reaches, IsForNew, Names}
+use Rattle.history.specs.World.{World, Call, Look, look}
 use Rattle.history.specs.Laws.Found.{good-name, file-found, no-file-found, live-at, new-slot}
 
 -- ---- the 11 bytes that a name means
@@ -69,12 +69,12 @@ reaches k w v h e =
     let x : LivePlace (w .table) h (w .image) (rootAt k) (rootEntries k) = rw (← on-kind (w .image) k v) (live-at k (w .image) v (w .table) h e) in
     record { live = x; slot = refl }
 
--- a call that is about nothing names nothing
-pub names-none : (k : Kind) (w : World) (c : Call) → target c ≡ nothing → (s : ℕ) → ¬ Names c k w s
-names-none k w c e s = subst (λ (a : Target). ¬ NamedBy a k w s) (sym e) (λ x. x)
+-- a call that only looks names nothing
+pub names-none : (k : Kind) (w : World) (c : Call) (x : Look) → c ≡ look x → (s : ℕ) → ¬ Names c k w s
+names-none k w c x e s = subst (λ (d : Call). ¬ Names d k w s) (sym e) (λ n. n)
 
 -- ---- a call by a name, where the search finds a file
 
 module _ (k : Kind) (w : World) (v : OnVolume (w .image) k) (name : List ℕ) (good : badName name ≡ false) (there : noFile (w .image) name ≡ false) where
-  pub by-name : NamedBy (byName name) k w (fileSlot (w .image) name)
+  pub by-name : HasName k (w .image) name (fileSlot (w .image) name)
   by-name = has-name k (w .image) v name (good-name name good) there

@@ -11,8 +11,8 @@ use Rattle.search.specs.Search.{LowestBelow}
 use Rattle.calls.specs.Aids.Ready.{OnVolume}
 use Rattle.calls.specs.Refusals.{badName, noFile, fileSlot}
 use Rattle.changes.specs.Laws.Slots.{name-once}
-use Rattle.history.specs.Meant.{HasName, Target, NamedBy, Names, target, nothing, byName, byHandle, toMake}
-use Rattle.history.specs.World.{World, Call}
+use Rattle.history.specs.Meant.{HasName, Reaches, Names}
+use Rattle.history.specs.World.{World, Call, look, openFile, create, read, write, seek, close, delete, rename, mode}
 use Rattle.history.specs.Laws.Meant.{meant-is, by-name}
 
 module _ (k : Kind) (w : World) (v : OnVolume (w .image) k) (s t : ℕ) where
@@ -29,18 +29,24 @@ module _ (k : Kind) (w : World) (v : OnVolume (w .image) k) (s t : ℕ) where
     | no h ↦ elim (decLt t s) [ yes i ↦ absurd (x .none-lower t i (y .passes)) | no i ↦ omega arith ]
   ]
 
-  named-one : (a : Target) → NamedBy a k w s → NamedBy a k w t → s ≡ t
-  named-one nothing x y = absurd x
-  named-one (byName name) x y = name-one x y
-  named-one (byHandle h) x y = sym (x .slot) ∙ y .slot
-  named-one (toMake name) (inl x) (inl y) = name-one x y
-  named-one (toMake name) (inl x) (inr y) = absurd (y .new s x)
-  named-one (toMake name) (inr x) (inl y) = absurd (x .new t y)
-  named-one (toMake name) (inr x) (inr y) = lowest-one (x .lowest) (y .lowest)
+  reached-one : {h : ℕ} → Reaches k w h s → Reaches k w h t → s ≡ t
+  reached-one x y = sym (x .slot) ∙ y .slot
 
   pub names-one : (c : Call) → Names c k w s → Names c k w t → s ≡ t
-  names-one c = named-one (target c)
+  names-one (look n) x y = absurd x
+  names-one (openFile name access) x y = name-one x y
+  names-one (create name attr stamp) (inl x) (inl y) = name-one x y
+  names-one (create name attr stamp) (inl x) (inr y) = absurd (y .new s x)
+  names-one (create name attr stamp) (inr x) (inl y) = absurd (x .new t y)
+  names-one (create name attr stamp) (inr x) (inr y) = lowest-one (x .lowest) (y .lowest)
+  names-one (read h buffer) x y = reached-one x y
+  names-one (write h bs) x y = reached-one x y
+  names-one (seek h method offset) x y = reached-one x y
+  names-one (close h stamp) x y = reached-one x y
+  names-one (delete name) x y = name-one x y
+  names-one (rename name new) x y = name-one x y
+  names-one (mode name function attr) x y = name-one x y
 
 module _ (k : Kind) (w : World) (v : OnVolume (w .image) k) (name : List ℕ) (good : badName name ≡ false) (there : noFile (w .image) name ≡ false) where
-  pub by-name-only : (s : ℕ) → NamedBy (byName name) k w s → s ≡ fileSlot (w .image) name
-  by-name-only s x = named-one k w v s (fileSlot (w .image) name) (byName name) x (by-name k w v name good there)
+  pub by-name-only : (s : ℕ) → HasName k (w .image) name s → s ≡ fileSlot (w .image) name
+  by-name-only s x = name-one k w v s (fileSlot (w .image) name) x (by-name k w v name good there)

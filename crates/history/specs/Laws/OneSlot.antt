@@ -12,10 +12,11 @@ use Rattle.directory.specs.Laws.Entries.{same-fields}
 use Rattle.sound.specs.Counts.{freeOf, asideOf}
 use Rattle.calls.specs.Laws.Files.{slot-within}
 use Rattle.changes.specs.Files.{Files, Shows}
+use Rattle.history.specs.Aids.Ours.{step}
 use Rattle.history.specs.Aids.Came.{Came, Does}
 use Rattle.history.specs.History.{Becomes}
 use Rattle.history.specs.Promises.{Given, Begins}
-use Rattle.history.specs.World.{World, Call, outcomeOf, step}
+use Rattle.history.specs.World.{World, Call, ours}
 use Rattle.history.specs.Laws.Begins.{on}
 use Rattle.history.specs.Laws.Came.{came-begins, came-shows, came-entries, after-does}
 use Rattle.history.specs.Laws.EveryCall.{came}
@@ -32,7 +33,7 @@ pub record Stands (k : Kind) (w : World) (fs : Files) (n : ℕ) : Type 0 where
 pub record Makes (k : Kind) (w : World) (c : Call) (n : ℕ) (fs gs : Files) : Type 0 where
   pub given : Given c
   pub does : Does k w c n
-  pub becomes : Becomes c w (outcomeOf c w) (fs n) (gs n)
+  pub becomes : Becomes c w (ours c w) (fs n) (gs n)
   pub others : (t : ℕ) → t ≢ n → gs t ≡ fs t
 
 module _ (k : Kind) (w : World) (fs gs : Files) (n : ℕ) (below : n < rootEntries k) (x : Stands k w fs n) (c : Call) (y : Makes k w c n fs gs) where

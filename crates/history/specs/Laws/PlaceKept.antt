@@ -18,7 +18,7 @@ use Rattle.opened.specs.Laws.Records.{untouched}
 use Rattle.opened.specs.Laws.Stores.{record-only, pointer-only, cleared-only}
 use Rattle.opened.specs.Laws.Uses.{only-count, other-use, written-uses}
 use Rattle.calls.specs.Aids.Ready.{OnVolume}
-use Rattle.history.specs.World.{World, Call, outcomeOf, look, openFile, create, read, write, seek, close, delete, rename, mode}
+use Rattle.history.specs.World.{World, Call, ours, look, openFile, create, read, write, seek, close, delete, rename, mode}
 use Rattle.history.specs.Laws.Looks.{looks-alter-nothing}
 use Rattle.history.specs.Laws.TableStored.{Took, Pointed, open-took, create-took, read-pointed, write-pointed, seek-pointed}
 use Rattle.history.specs.Laws.TableStored.{close-freed, delete-same, rename-same, mode-same}
@@ -64,13 +64,13 @@ module _ (k : Kind) (w : World) (v : OnVolume (w .image) k) (h : ℕ) (counts : 
   t = w .table
 
   -- the place that is taken was unused
-  took-kept : (c : Call) (access s : ℕ) → Took k w c access s (outcomeOf c w) → Kept t h (outcomeOf c w .table)
+  took-kept : (c : Call) (access s : ℕ) → Took k w c access s (ours c w) → Kept t h (ours c w .table)
   took-kept c access s x =
-      let p = outcomeOf c w .value in
+      let p = ours c w .value in
       rw (x .table) (other-kept t h _ p (record-only t p (x .lowest .below) access s 0 false)
       (λ e. clash (subst (λ (q : ℕ). usedOf t q ≡ true) e used) (x .lowest .passes)))
 
-  pub kept : (c : Call) → outcomeOf c w .number ≡ 0 → ((stamp : Stamp) → ¬ (c ≡ close h stamp)) → Kept t h (outcomeOf c w .table)
+  pub kept : (c : Call) → ours c w .number ≡ 0 → ((stamp : Stamp) → ¬ (c ≡ close h stamp)) → Kept t h (ours c w .table)
   kept (look x) well n = same-kept t h (ap (λ (u : World). u .table) (looks-alter-nothing w x))
   kept (openFile name access) well n = took-kept (openFile name access) access _ (open-took k w v name access well)
   kept (create name attr stamp) well n = took-kept (create name attr stamp) 2 _ (create-took k w v name attr stamp well .1)

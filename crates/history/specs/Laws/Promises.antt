@@ -15,8 +15,9 @@ use Rattle.calls.specs.Outcome.{Outcome}
 use Rattle.calls.specs.Laws.Ready.{on-kind, on-usable}
 use Rattle.writing.specs.Write.{writeCount, writeRows, writeEffect, writeOutcome, writeAt, roomOf}
 use Rattle.writing.specs.Laws.Write.{count-within}
+use Rattle.history.specs.Aids.Ours.{run}
 use Rattle.history.specs.Promises.{Begins, SoundAfterEach, FilesOfHistory, NamesAFile, AltersNoOther, TotalAfterEach, ShortOnlyWhereFull}
-use Rattle.history.specs.World.{World, ours, outcomeOf, run, write}
+use Rattle.history.specs.World.{World, ours, write}
 use Rattle.history.specs.Laws.Begins.{on}
 use Rattle.history.specs.Laws.Came.{came-names, came-entries, came-others}
 use Rattle.history.specs.Laws.Count.{write-short}
@@ -48,8 +49,8 @@ pub total-after-each : TotalAfterEach ours
 total-after-each k w b cs g = total-of k (run w cs) (begins-run k cs w b g)
 
 -- as many bytes as the room allows
-counted : (k : Kind) (w : World) → Begins k w → (h : ℕ) (bs : List ℕ) → outcomeOf (write h bs) w .number ≡ 0
-    → outcomeOf (write h bs) w .value ≡ writeCount k (w .image) (slotOf (w .table) h) (pointerOf (w .table) h) (length bs)
+counted : (k : Kind) (w : World) → Begins k w → (h : ℕ) (bs : List ℕ) → ours (write h bs) w .number ≡ 0
+    → ours (write h bs) w .value ≡ writeCount k (w .image) (slotOf (w .table) h) (pointerOf (w .table) h) (length bs)
 unfolding writeOutcome writeAt
 counted k w b h bs well =
     let l = w .image in

@@ -23,10 +23,11 @@ use Rattle.changes.specs.Aids.Changed.{SlotChanged}
 use Rattle.changes.specs.Files.{File, ShowsAt}
 use Rattle.changes.specs.Laws.Changed.{on-theory, changed-on}
 use Rattle.changes.specs.Laws.Root.{root-file, root-none}
+use Rattle.history.specs.Aids.Ours.{step}
 use Rattle.history.specs.Aids.Came.{Came, idle, stays, changes}
 use Rattle.history.specs.Meant.{Names}
 use Rattle.history.specs.Promises.{Begins}
-use Rattle.history.specs.World.{World, Call, step}
+use Rattle.history.specs.World.{World, Call}
 use Rattle.history.specs.Laws.Begins.{on}
 use Rattle.history.specs.Laws.Came.{came-begins}
 use Rattle.history.specs.Laws.OneNamed.{names-one}

@@ -3,9 +3,10 @@ use mathlib.Core.List.{List, [], _∷_}
 use mathlib.Core.Path.{refl, sym, subst}
 use Rattle.diskette.specs.declared.Kind.{Kind}
 use Rattle.changes.specs.Files.{Files, Shows, ShowsAt}
+use Rattle.history.specs.Aids.Ours.{step, run}
 use Rattle.history.specs.History.{History}
 use Rattle.history.specs.Promises.{Given, AllGiven, Begins}
-use Rattle.history.specs.World.{World, Call, ours, step, run}
+use Rattle.history.specs.World.{World, Call, ours}
 use Rattle.history.specs.Laws.Came.{came-begins, came-after, came-shows}
 use Rattle.history.specs.Laws.EveryCall.{came}
 

@@ -4,7 +4,7 @@ use mathlib.Core.Bool.{Bool, true, false, cond}
 use mathlib.Core.List.{[]}
 use mathlib.Core.Logic.{inl, inr}
 use mathlib.Core.Path.{_≡_, refl, sym, ap, _∙_}
-use lib.Dec.{leb}
+use lib.Dec.{eqb, leb}
 use lib.IntN.{ℤ, pos, negsuc, _+ℤ_}
 use lib.ListN.{length}
 use Rattle.chains.specs.Laws.Tests.{clash}
@@ -17,8 +17,9 @@ use Rattle.calls.specs.Outcome.{Outcome}
 use Rattle.calls.specs.Laws.Ready.{on-kind}
 use Rattle.seeking.specs.Seek.{answerOf, isBeyond, seekBase, seekRows, seekEffect, seekOutcome}
 use Rattle.sound.specs.Files.{IsFile}
-use Rattle.history.specs.Seeks.{countedFrom, SeeksAreOfHistory}
-use Rattle.history.specs.World.{ours, run}
+use Rattle.history.specs.Aids.Ours.{run}
+use Rattle.history.specs.Promises.{SeeksAreOfHistory}
+use Rattle.history.specs.World.{ours}
 use Rattle.history.specs.Laws.Begins.{on}
 use Rattle.history.specs.Laws.Passed.{passed-row}
 use Rattle.history.specs.Laws.Rows.{decided-cases}
@@ -43,7 +44,8 @@ seeks-are-of-history k v c cs g h method offset s f e n x =
     let t = w .table in
     let i : IsFile k l s = x .is-file in
     let size : sizeOf l (slotAt k s) ≡ length (f .bytes) = sym (bytes-long k l (on b) s i) ∙ ap length (holds-bytes k l (on b) s f x) in
-    let base : seekBase l t h method ≡ countedFrom method (pointerOf t h) (length (f .bytes)) = rw (on-kind l k (on b), n .slot, size) in
+    let base : seekBase l t h method
+    ≡ cond (eqb method 0) 0 (cond (eqb method 1) (pointerOf t h) (length (f .bytes))) = rw (on-kind l k (on b), n .slot, size) in
     elim (decided-cases (seekRows l t h method offset) (seekEffect l t h method offset) l t []) [
       | inl y ↦ absurd (y .0 (sym (ap (λ (o : Outcome). o .number) (y .1)) ∙ e))
       | inr y ↦

@@ -31,8 +31,9 @@ use Rattle.holding.specs.Laws.Clusters.{on-clusters}
 use Rattle.reading.specs.Read.{readRows, readEffect, readOutcome}
 use Rattle.changes.specs.Files.{File, file, Files, Holds, Shows, ShowsAt}
 use Rattle.changes.specs.Laws.Changed.{on-sound}
+use Rattle.history.specs.Aids.Ours.{run}
 use Rattle.history.specs.Promises.{FirstFiles, ReadsAreOfHistory}
-use Rattle.history.specs.World.{ours, run}
+use Rattle.history.specs.World.{ours}
 use Rattle.history.specs.Laws.Begins.{on}
 use Rattle.history.specs.Laws.Rows.{decided-cases}
 use Rattle.history.specs.Laws.Runs.{begins-run}

@@ -16,8 +16,9 @@ use Rattle.opened.specs.Laws.Stores.{record-only, record-bytes, pointer-only, p
 use Rattle.opened.specs.Laws.Stores.{written-only, written-holds, written-bytes, cleared-only, cleared-holds, cleared-bytes}
 use Rattle.opened.specs.Laws.Uses.{only-count}
 use Rattle.calls.specs.Aids.Ready.{OnVolume}
+use Rattle.history.specs.Aids.Ours.{run}
 use Rattle.history.specs.Handles.{Moved, TableBecomes, PointersMove}
-use Rattle.history.specs.World.{World, Call, ours, outcomeOf, run, look, openFile, create, read, write, seek, close, delete, rename, mode}
+use Rattle.history.specs.World.{World, Call, ours, look, openFile, create, read, write, seek, close, delete, rename, mode}
 use Rattle.history.specs.Laws.Begins.{on}
 use Rattle.history.specs.Laws.Looks.{looks-alter-nothing}
 use Rattle.history.specs.Laws.Runs.{begins-run}
@@ -51,11 +52,11 @@ only-both p m n t x y = record {
 -- ---- a place taken
 
 module _ (k : Kind) (w : World) (bytes : Bytes (w .table)) where
-  took-only : (c : Call) (access s : ℕ) → Took k w c access s (outcomeOf c w)
-      → OnlyAt (outcomeOf c w .value) (outcomeOf c w .table) (w .table) × Bytes (outcomeOf c w .table)
+  took-only : (c : Call) (access s : ℕ) → Took k w c access s (ours c w)
+      → OnlyAt (ours c w .value) (ours c w .table) (w .table) × Bytes (ours c w .table)
   took-only c access s x = rw (x .table) (
-    record-only (w .table) (outcomeOf c w .value) (x .lowest .below) access s 0 false,
-    record-bytes (w .table) (outcomeOf c w .value) (x .lowest .below) access s 0 false bytes (omega (arith, x .access-fits)),
+    record-only (w .table) (ours c w .value) (x .lowest .below) access s 0 false,
+    record-bytes (w .table) (ours c w .value) (x .lowest .below) access s 0 false bytes (omega (arith, x .access-fits)),
   )
 
 -- ---- a pointer moved
@@ -94,20 +95,20 @@ module _ (k : Kind) (w : World) (v : OnVolume (w .image) k) (bytes : Bytes (w .t
   t = w .table
 
   abbrev Goes : Call → Type 0
-  Goes c = TableBecomes c (outcomeOf c w .value) t (outcomeOf c w .table) × Bytes (outcomeOf c w .table)
+  Goes c = TableBecomes c (ours c w .value) t (ours c w .table) × Bytes (ours c w .table)
 
-  write-goes : (h : ℕ) (bs : List ℕ) → outcomeOf (write h bs) w .number ≡ 0 → Goes (write h bs)
+  write-goes : (h : ℕ) (bs : List ℕ) → ours (write h bs) w .number ≡ 0 → Goes (write h bs)
   write-goes h bs well = elim (write-pointed k w v h bs well) [
     | inl x ↦
         let z : pointerOf t h + 0 ≡ pointerOf t h = omega arith in
         rw (x .0, x .1, z) ((only-same h t, record { used = refl; access = refl; slot = refl; pointer = refl; written = refl }), bytes)
-    | inr x ↦ rw (x .2, lt-ltb 0 (outcomeOf (write h bs) w .value) (omega (arith, x .1))) (marked-moved t bytes h _ (x .0) (x .3))
+    | inr x ↦ rw (x .2, lt-ltb 0 (ours (write h bs) w .value) (omega (arith, x .1))) (marked-moved t bytes h _ (x .0) (x .3))
   ]
 
   stays : {m : List ℕ} → m ≡ t → (m ≡ t) × Bytes m
   stays e = (e, subst Bytes (sym e) bytes)
 
-  pub goes : (c : Call) → outcomeOf c w .number ≡ 0 → Goes c
+  pub goes : (c : Call) → ours c w .number ≡ 0 → Goes c
   goes (look x) well = stays (ap (λ (u : World). u .table) (looks-alter-nothing w x))
   goes (openFile name access) well = took-only k w bytes (openFile name access) access _ (open-took k w v name access well)
   goes (create name attr stamp) well = took-only k w bytes (create name attr stamp) 2 _ (create-took k w v name attr stamp well .1)

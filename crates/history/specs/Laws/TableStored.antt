@@ -42,7 +42,7 @@ use Rattle.putting.specs.Laws.Room.{room-own, room-fits}
 use Rattle.writing.specs.Write.{writeCount, writeRows, writeEffect, writeOutcome, writeAt}
 use Rattle.writing.specs.Laws.Write.{pointer-fits}
 use Rattle.history.specs.Meant.{Names}
-use Rattle.history.specs.World.{World, Call, outcomeOf, openFile, create, read, write, seek, close, delete, rename, mode}
+use Rattle.history.specs.World.{World, Call, ours, openFile, create, read, write, seek, close, delete, rename, mode}
 use Rattle.history.specs.Laws.Found.{good-name, found-at, file-there, live-at, live-there}
 use Rattle.history.specs.Laws.Meant.{by-name, has-name, for-new}
 use Rattle.history.specs.Laws.OneNamed.{by-name-only}
@@ -102,8 +102,8 @@ module _ (k : Kind) (w : World) (v : OnVolume (w .image) k) where
 
   -- ---- open and create
 
-  pub open-took : (name : List ℕ) (access : ℕ) → outcomeOf (openFile name access) w .number ≡ 0
-      → Took k w (openFile name access) access (fileSlot l name) (outcomeOf (openFile name access) w)
+  pub open-took : (name : List ℕ) (access : ℕ) → ours (openFile name access) w .number ≡ 0
+      → Took k w (openFile name access) access (fileSlot l name) (ours (openFile name access) w)
   unfolding openOutcome
   open-took name access well =
       let x = well-is (openRows l t name access) (openEffect l t name access) l t [] well in
@@ -115,7 +115,7 @@ module _ (k : Kind) (w : World) (v : OnVolume (w .image) k) where
         table = refl;
       })
 
-  pub open-file : (name : List ℕ) (access : ℕ) → outcomeOf (openFile name access) w .number ≡ 0 → IsFile k l (fileSlot l name)
+  pub open-file : (name : List ℕ) (access : ℕ) → ours (openFile name access) w .number ≡ 0 → IsFile k l (fileSlot l name)
   unfolding openOutcome
   open-file name access well =
       let x = well-is (openRows l t name access) (openEffect l t name access) l t [] well in
@@ -136,7 +136,7 @@ module _ (k : Kind) (w : World) (v : OnVolume (w .image) k) where
     either true o q f g = f refl
     either false o q f g = g refl
 
-    pub create-took : outcomeOf (create name attr stamp) w .number ≡ 0 → Makes (outcomeOf (create name attr stamp) w)
+    pub create-took : ours (create name attr stamp) w .number ≡ 0 → Makes (ours (create name attr stamp) w)
     unfolding createOutcome
     create-took well =
         let x = well-is (createRows l t name attr stamp) (createEffect l t name attr stamp) l t [] well in
@@ -151,8 +151,8 @@ module _ (k : Kind) (w : World) (v : OnVolume (w .image) k) where
 
   -- ---- read, write and seek
 
-  pub read-pointed : (h : ℕ) (buffer : List ℕ) → outcomeOf (read h buffer) w .number ≡ 0
-      → Pointed t h (pointerOf t h + outcomeOf (read h buffer) w .value) (outcomeOf (read h buffer) w .table)
+  pub read-pointed : (h : ℕ) (buffer : List ℕ) → ours (read h buffer) w .number ≡ 0
+      → Pointed t h (pointerOf t h + ours (read h buffer) w .value) (ours (read h buffer) w .table)
   unfolding readOutcome
   read-pointed h buffer well =
       let x = well-is (readRows l t h) (readEffect l t h buffer) l t buffer well in
@@ -162,10 +162,10 @@ module _ (k : Kind) (w : World) (v : OnVolume (w .image) k) where
       rw (x .1, on-kind l k v) (record { counted = live-at k l v t h live .counted; table = refl; fits = λ small. omega (arith, size, small) })
 
   -- "If 0, nothing changes"
-  pub write-pointed : (h : ℕ) (bs : List ℕ) → outcomeOf (write h bs) w .number ≡ 0
-      → ((outcomeOf (write h bs) w .value ≡ 0) × (outcomeOf (write h bs) w .table ≡ t))
-      ⊎ ((m : List ℕ) × (outcomeOf (write h bs) w .value ≢ 0) × (outcomeOf (write h bs) w .table ≡ withWritten m h)
-      × Pointed t h (pointerOf t h + outcomeOf (write h bs) w .value) m)
+  pub write-pointed : (h : ℕ) (bs : List ℕ) → ours (write h bs) w .number ≡ 0
+      → ((ours (write h bs) w .value ≡ 0) × (ours (write h bs) w .table ≡ t))
+      ⊎ ((m : List ℕ) × (ours (write h bs) w .value ≢ 0) × (ours (write h bs) w .table ≡ withWritten m h)
+      × Pointed t h (pointerOf t h + ours (write h bs) w .value) m)
   unfolding writeOutcome writeAt
   write-pointed h bs well =
       let x = well-is (writeRows l t h) (writeEffect l t h bs) l t [] well in
@@ -185,8 +185,8 @@ module _ (k : Kind) (w : World) (v : OnVolume (w .image) k) where
         ))
       ]
 
-  pub seek-pointed : (h method : ℕ) (offset : ℤ) → outcomeOf (seek h method offset) w .number ≡ 0
-      → Pointed t h (outcomeOf (seek h method offset) w .value) (outcomeOf (seek h method offset) w .table)
+  pub seek-pointed : (h method : ℕ) (offset : ℤ) → ours (seek h method offset) w .number ≡ 0
+      → Pointed t h (ours (seek h method offset) w .value) (ours (seek h method offset) w .table)
   unfolding seekOutcome
   seek-pointed h method offset well =
       let x = well-is (seekRows l t h method offset) (seekEffect l t h method offset) l t [] well in
@@ -195,22 +195,22 @@ module _ (k : Kind) (w : World) (v : OnVolume (w .image) k) where
 
   -- ---- close, and the calls that leave the table
 
-  pub close-freed : (h : ℕ) (stamp : Stamp) → outcomeOf (close h stamp) w .number ≡ 0
-      → (h < placeCount t) × (outcomeOf (close h stamp) w .table ≡ cleared t h)
+  pub close-freed : (h : ℕ) (stamp : Stamp) → ours (close h stamp) w .number ≡ 0
+      → (h < placeCount t) × (ours (close h stamp) w .table ≡ cleared t h)
   unfolding closeOutcome
   close-freed h stamp well =
       let x = well-is (closeRows l t h stamp) (closeEffect l t h stamp) l t [] well in
       (live-at k l v t h (passed-row (closeRows l t h stamp) refl (x .0) 3) .counted, ap (λ (o : Outcome). o .table) (x .1))
 
-  pub delete-same : (name : List ℕ) → outcomeOf (delete name) w .table ≡ t
+  pub delete-same : (name : List ℕ) → ours (delete name) w .table ≡ t
   unfolding deleteOutcome
   delete-same name = table-stays (deleteRows l t name) (deleteEffect l t name) l t [] refl
 
-  pub rename-same : (name new : List ℕ) → outcomeOf (rename name new) w .table ≡ t
+  pub rename-same : (name new : List ℕ) → ours (rename name new) w .table ≡ t
   unfolding renameOutcome
   rename-same name new = table-stays (renameRows l t name new) (renameEffect l t name new) l t [] refl
 
-  pub mode-same : (name : List ℕ) (function attr : ℕ) → outcomeOf (mode name function attr) w .table ≡ t
+  pub mode-same : (name : List ℕ) (function attr : ℕ) → ours (mode name function attr) w .table ≡ t
   unfolding modeOutcome
   mode-same name function attr =
       table-stays (modeRows l t name function attr) (modeEffect l t name function attr) l t [] (either-same (eqb function 1) _ _ refl refl)
@@ -220,7 +220,7 @@ module _ (k : Kind) (w : World) (v : OnVolume (w .image) k) where
       either-same false o q e f = f
 
   -- delete is refused where the file is open
-  pub delete-closed : (name : List ℕ) → outcomeOf (delete name) w .number ≡ 0 → (s : ℕ) → Names (delete name) k w s → isOpen t s ≡ false
+  pub delete-closed : (name : List ℕ) → ours (delete name) w .number ≡ 0 → (s : ℕ) → Names (delete name) k w s → isOpen t s ≡ false
   unfolding deleteOutcome
   delete-closed name well s x =
       let row = passed-row (deleteRows l t name) refl (well-is (deleteRows l t name) (deleteEffect l t name) l t [] well .0) in

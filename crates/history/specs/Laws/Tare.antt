@@ -6,7 +6,7 @@ use native.Mathlib.Decide.{ℕ-discrete}
 use mathlib.Core.Bool.{true}
 use mathlib.Core.List.{List, [], _∷_}
 use mathlib.Core.Logic.{inl, inr}
-use mathlib.Core.Option.{some}
+use mathlib.Core.Option.{Option}
 use mathlib.Core.Path.{_≡_, refl, sym, ap, _∙_, subst}
 use lib.ListN.{getD}
 use Rattle.diskette.specs.Places.{slotAt}
@@ -14,10 +14,11 @@ use Rattle.diskette.specs.declared.Kind.{Kind}
 use Rattle.directory.specs.Entries.{SameBytes}
 use Rattle.calls.specs.Refusals.{readOnly}
 use Rattle.calls.specs.Laws.Ready.{on-kind}
-use Rattle.changes.specs.Files.{File, Holds}
-use Rattle.history.specs.Promises.{Given, AllGiven, Begins}
-use Rattle.history.specs.Tare.{Tare, SetsMode, NoModeSet, SameFile, TareStays}
-use Rattle.history.specs.World.{World, Call, ours, outcomeOf, step, run, look, openFile, create, read, write, seek, close, delete, rename, mode}
+use Rattle.changes.specs.Files.{File, ShowsAt}
+use Rattle.history.specs.Aids.Ours.{step, run}
+use Rattle.history.specs.Promises.{Given, AllGiven, Begins, SameFile}
+use Rattle.history.specs.Tare.{Tare, SetsMode, NoModeSet, TareStays}
+use Rattle.history.specs.World.{World, Call, ours, look, openFile, create, read, write, seek, close, delete, rename, mode}
 use Rattle.history.specs.Laws.Begins.{on}
 use Rattle.history.specs.Laws.Came.{came-entries, came-others}
 use Rattle.history.specs.Laws.EveryCall.{came}
@@ -35,10 +36,10 @@ tare-guarded k w s x = record { is-file = x .is-file; marked = x .marked; places
 
 module _ (k : Kind) (w : World) (b : Begins k w) (s : ℕ) (g : Guarded k w s) where
   -- a call that leaves the world
-  same-spares : (c : Call) → step w c ≡ w → Spares k w s c (outcomeOf c w)
+  same-spares : (c : Call) → step w c ≡ w → Spares k w s c (ours c w)
   same-spares c e = record { image = inl (ap (λ (x : World). x .image) e); places = subst (λ (x : World). Watched (x .table) s) (sym e) (g .places) }
 
-  pub spared : (c : Call) → ¬ SetsMode ours k w c s → Spares k w s c (outcomeOf c w)
+  pub spared : (c : Call) → ¬ SetsMode ours k w c s → Spares k w s c (ours c w)
   spared (look x) u = same-spares (look x) (looks-alter-nothing w x)
   spared (openFile name access) u = open-spares k w (on b) s g name access
   spared (create name attr stamp) u = create-spares k w (on b) s g name attr stamp
@@ -48,7 +49,7 @@ module _ (k : Kind) (w : World) (b : Begins k w) (s : ℕ) (g : Guarded k w s) w
   spared (close h stamp) u = close-spares k w (on b) s g h stamp
   spared (delete name) u = delete-spares k w (on b) s g name
   spared (rename name new) u = rename-spares k w (on b) s g name new
-  spared (mode name function attr) u = elim (ℕ-discrete (outcomeOf (mode name function attr) w .number) 0) [
+  spared (mode name function attr) u = elim (ℕ-discrete (ours (mode name function attr) w .number) 0) [
     | yes e ↦ mode-spares k w (on b) s g name function attr
         (λ q x. u (record { name = name; attr = attr; call = ap (λ (f : ℕ). mode name f attr) q; named = x; well = e }))
     | no n ↦ same-spares (mode name function attr) (refusals-leave-all w (mode name function attr) n)
@@ -61,10 +62,10 @@ module _ (k : Kind) (w : World) (b : Begins k w) (s : ℕ) (g : Guarded k w s) w
       | inr n ↦ came-entries k w c b (came k w c b given) s (g .is-file .below) n
     ]
 
-    same-holds : (f : File) → Holds k (w .image) s f → Holds k (step w c .image) s f
-    same-holds f h = elim (spared c u .image) [
-      | inl e ↦ subst (λ (l : List ℕ). Holds k l s f) (sym e) h
-      | inr n ↦ came-others k w c b (came k w c b given) s n (some f) h
+    same-shows : (o : Option File) → ShowsAt k (w .image) s o → ShowsAt k (step w c .image) s o
+    same-shows o h = elim (spared c u .image) [
+      | inl e ↦ subst (λ (l : List ℕ). ShowsAt k l s o) (sym e) h
+      | inr n ↦ came-others k w c b (came k w c b given) s n o h
     ]
 
     -- its attribute, and the first byte of its name
@@ -94,11 +95,11 @@ module _ (k : Kind) (w : World) (b : Begins k w) (s : ℕ) (g : Guarded k w s) w
 
 guarded-stays : (k : Kind) (s : ℕ) (cs : List Call) (w : World) → Begins k w → Guarded k w s → AllGiven cs → NoModeSet ours k w cs s
     → SameFile k s (w .image) (run w cs .image)
-guarded-stays k s [] w b g given unset = (λ j h. refl, λ f h. h)
+guarded-stays k s [] w b g given unset = (λ j h. refl, λ o h. h)
 guarded-stays k s (c ∷ cs) w b g given unset =
     let rest
     = guarded-stays k s cs (step w c) (begins-step k w c b (given .0)) (guarded-still k w b s g c (given .0) (unset .0)) (given .1) (unset .1) in
-    (λ j h. rest .0 j h ∙ same-entry k w b s g c (given .0) (unset .0) j h, λ f h. rest .1 f (same-holds k w b s g c (given .0) (unset .0) f h))
+    (λ j h. rest .0 j h ∙ same-entry k w b s g c (given .0) (unset .0) j h, λ o h. rest .1 o (same-shows k w b s g c (given .0) (unset .0) o h))
 
 pub tare-stays : TareStays ours
 tare-stays k w b ds g s x cs = guarded-stays k s cs (run w ds) (begins-run k ds w b g) (tare-guarded k (run w ds) s x)

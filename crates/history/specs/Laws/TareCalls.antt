@@ -36,8 +36,8 @@ use Rattle.opening.specs.Open.{openRows, openEffect, openOutcome}
 use Rattle.seeking.specs.Seek.{seekRows, seekEffect, seekOutcome}
 use Rattle.reading.specs.Read.{readRows, readEffect, readOutcome}
 use Rattle.writing.specs.Write.{writeCount, writeRows, writeAt, writeEffect, writeOutcome}
-use Rattle.history.specs.Meant.{Names, NamedBy, byName}
-use Rattle.history.specs.World.{World, Call, outcomeOf, openFile, create, read, write, seek, close, delete, rename, mode}
+use Rattle.history.specs.Meant.{HasName, Names}
+use Rattle.history.specs.World.{World, Call, ours, openFile, create, read, write, seek, close, delete, rename, mode}
 use Rattle.history.specs.Laws.Found.{good-name, place-counts, named-small, live-at, new-slot}
 use Rattle.history.specs.Laws.Meant.{has-name, for-new}
 use Rattle.history.specs.Laws.OneNamed.{names-one, by-name-only}
@@ -91,14 +91,14 @@ module _ (k : Kind) (w : World) (v : OnVolume (w .image) k) (s : ℕ) (g : Guard
   t = w .table
 
   abbrev Spared : Call → Type 0
-  Spared c = Spares k w s c (outcomeOf c w)
+  Spared c = Spares k w s c (ours c w)
 
   -- a slot whose file is not read-only is another, and its name is of another file
   other-slot : (slot : ℕ) → readOnly l slot ≡ false → ¬ (s ≡ slot)
   other-slot slot e q = clash (subst (λ (n : ℕ). readOnly l n ≡ true) q (g .marked)) e
 
   other-file : (name : List ℕ) → badName name ≡ false → noFile l name ≡ false → readOnly l (fileSlot l name) ≡ false
-      → ¬ NamedBy (byName name) k w s
+      → ¬ HasName k l name s
   other-file name good there writable x = other-slot (fileSlot l name) writable (by-name-only k w v name good there s x)
 
   -- ---- delete and rename: the row of read-only files was passed
@@ -117,7 +117,7 @@ module _ (k : Kind) (w : World) (v : OnVolume (w .image) k) (s : ℕ) (g : Guard
 
   -- ---- file mode: function 1 is on another file, and any other function leaves the image
 
-  pub mode-spares : (name : List ℕ) (function attr : ℕ) → (function ≡ 1 → ¬ NamedBy (byName name) k w s) → Spared (mode name function attr)
+  pub mode-spares : (name : List ℕ) (function attr : ℕ) → (function ≡ 1 → ¬ HasName k l name s) → Spared (mode name function attr)
   unfolding modeOutcome
   mode-spares name function attr unset =
       decided-spares k w s (mode name function attr) (modeRows l t name function attr) (modeEffect l t name function attr) [] (g .places) (λ p.

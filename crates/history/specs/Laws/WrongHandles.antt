@@ -24,7 +24,7 @@ use Rattle.history.specs.Aids.WrongHandles.{opensFirst}
 use Rattle.history.specs.Handles.{HandsOutItsFile}
 use Rattle.history.specs.ListingCase.{dayGiven, timeThen}
 use Rattle.history.specs.Meant.{HasName}
-use Rattle.history.specs.World.{World, outcomeOf, openFile}
+use Rattle.history.specs.World.{World, ours, openFile}
 use Rattle.history.specs.Laws.Begins.{on}
 use Rattle.history.specs.Laws.EndsWell.{place-free}
 use Rattle.history.specs.Laws.FileMade.{file-made}
@@ -43,7 +43,7 @@ module _ (k : Kind) (w : World) (v : OnVolume (w .image) k) (name : List ℕ) (f
       cases false e = e
 
   open-well : (s p : ℕ) → HasName k (w .image) name s → lowestUnused (w .table) ≡ At p
-      → outcomeOf (openFile name 0) w ≡ openEffect (w .image) (w .table) name 0
+      → ours (openFile name 0) w ≡ openEffect (w .image) (w .table) name 0
   unfolding openOutcome decided refusal
   open-well s p x place = rw (v .known, v .sound, fits, found-at (fileFound (w .image) name) (there s x), place)
 

@@ -35,9 +35,9 @@ use Rattle.changes.specs.Laws.Emptied.{file-emptied}
 use Rattle.changes.specs.Laws.NewSlot.{none-of-name, lowest-vacant}
 use Rattle.changes.specs.Laws.Wrote.{wrote-changed, wrote-holds}
 use Rattle.history.specs.Aids.WrongLibraries.{fileIn, erasesFirst, takesFirst, writesThrough}
-use Rattle.history.specs.Meant.{HasName, Names, nothing, byName, byHandle}
+use Rattle.history.specs.Meant.{HasName, Names}
 use Rattle.history.specs.Promises.{Given, Begins, NamesAFile}
-use Rattle.history.specs.World.{World, Call, Library, world, stepBy, create, write, delete}
+use Rattle.history.specs.World.{World, Call, Look, Library, world, stepBy, look, create, write, delete}
 use Rattle.history.specs.Laws.Begins.{on}
 use Rattle.history.specs.Laws.Count.{taken-fits}
 use Rattle.history.specs.Laws.Ended.{delete-ends}
@@ -49,12 +49,12 @@ use Rattle.history.specs.Laws.OneFile.{take-all}
 use Rattle.history.specs.Laws.Shown.{holds-bytes}
 use Rattle.history.specs.Laws.Spoils.{Spoils}
 
--- a call by a name or by a handle is about a file
-named-about : {name : List ℕ} → byName name ≢ nothing
-named-about e = let z : _≡_ {A = ℕ} 0 1 = cc in omega arith
+-- delete and write do not only look
+delete-acts : {name : List ℕ} (x : Look) → delete name ≢ look x
+delete-acts x e = let z : _≡_ {A = ℕ} 0 1 = cc in omega arith
 
-held-about : {h : ℕ} → byHandle h ≢ nothing
-held-about e = let z : _≡_ {A = ℕ} 0 1 = cc in omega arith
+write-acts : {h : ℕ} {bs : List ℕ} (x : Look) → write h bs ≢ look x
+write-acts x e = let z : _≡_ {A = ℕ} 0 1 = cc in omega arith
 
 -- the file f stands in slot 0, and a new file may have this name, attribute, stamp and bytes
 pub record Scene (k : Kind) (w : World) (fs : Files) (f : File) (name : List ℕ) (attr : ℕ) (bs : List ℕ) (stamp : Stamp) : Type 0 where
@@ -129,7 +129,7 @@ module _ {k : Kind} {w : World} {fs : Files} {f : File} {name : List ℕ} {attr 
   -- it names no file, and ends well all the same
   pub erases-first-strays : ¬ NamesAFile erasesFirst
   erases-first-strays keeps =
-      let r = keeps k u begins [] tt (delete name) (given-delete name) named-about (rw (none-named, file-in)) in
+      let r = keeps k u begins [] tt (delete name) (given-delete name) delete-acts (rw (none-named, file-in)) in
       no-file (r .0) (r .1)
 
   -- ---- create of a new name, with place 0 in use
@@ -184,4 +184,4 @@ module _ {k : Kind} {w : World} {fs : Files} {f : File} {name : List ℕ} {attr 
 
     pub writes-through-strays : ¬ NamesAFile (writesThrough lets)
     writes-through-strays keeps =
-        dead (keeps k u begins [] tt (write 0 bs) (given-write 0 bs (g .bytes)) held-about (wrote .1) .1 .live)
+        dead (keeps k u begins [] tt (write 0 bs) (given-write 0 bs (g .bytes)) write-acts (wrote .1) .1 .live)

@@ -31,13 +31,14 @@ use Rattle.reading.specs.Read.{readOutcome}
 use Rattle.rescuing.specs.Rescue.{goodChain, rescueOutcome}
 use Rattle.rescuing.specs.Laws.Chain.{says-chain}
 use Rattle.changes.specs.Laws.Changed.{on-sound}
+use Rattle.history.specs.Aids.Ours.{step, run}
 use Rattle.history.specs.Laws.Found.{place-counts, file-there, named-small}
 use Rattle.history.specs.Laws.Passed.{testOf, passed-row}
 use Rattle.history.specs.Laws.Rows.{decided-cases}
 use Rattle.history.specs.Laws.Begins.{on}
 use Rattle.history.specs.Laws.Runs.{begins-run}
-use Rattle.history.specs.World.{ours, world, run}
-use Rattle.reset.specs.AsRead.{readThen, closedThen, SameAsRead, RescueAsRead, RefusedAsOpen}
+use Rattle.history.specs.World.{World, ours, world, look, rescue, openFile, read, close}
+use Rattle.reset.specs.AsRead.{SameAsRead, RescueAsRead, RefusedAsOpen}
 
 module _ (k : Kind) (img : List ℕ) (v : OnVolume img k) (name : List ℕ) where
   -- a file of a sound volume has a good chain
@@ -104,6 +105,22 @@ module _ (k : Kind) (img : List ℕ) (v : OnVolume img k) (name : List ℕ) wher
         abbrev U : List ℕ
         U = withPointer T p n
 
+        -- what the three calls answer
+        abbrev afterOpen : World
+        afterOpen = step (world img t) (openFile name 0)
+
+        abbrev handle : ℕ
+        handle = openOutcome img t name 0 .value
+
+        abbrev reads : Outcome
+        reads = ours (read handle out) afterOpen
+
+        abbrev closes : Stamp → Outcome
+        closes stamp = ours (close handle stamp) (step afterOpen (read handle out))
+
+        abbrev rescues : Outcome
+        rescues = ours (look (rescue name out)) (world img t)
+
         module _ (b : Bytes img) where
           small : n < 4294967296
           small = let z : size < 4294967296 = number-small img (slotAt k slot + 28) 4 b in omega arith
@@ -128,12 +145,11 @@ module _ (k : Kind) (img : List ℕ) (v : OnVolume img k) (name : List ℕ) wher
               (λ fine. rw (known-passed img k v, sound-passed img k v, fine, still-live, not-written))
 
           pub same-as-read : openOutcome img t name 0 ≡ openEffect img t name 0 → badName name ≡ false → (stamp : Stamp)
-              → SameAsRead ours (world img t) name out stamp
+              → SameAsRead (world img t) stamp reads (closes stamp) rescues
           same-as-read x fits stamp =
-              let w = world img t in
-              let r : readThen ours w name out ≡ outcome 0 n img U (filled out)
+              let r : reads ≡ outcome 0 n img U (filled out)
               = ap (λ (o : Outcome). readOutcome (o .image) (o .table) (o .value) out) x ∙ read-is in
-              let c : closedThen ours w name out stamp ≡ closeOutcome img U p stamp
+              let c : closes stamp ≡ closeOutcome img U p stamp
               = ap (λ (o : Outcome). let q = readOutcome (o .image) (o .table) (o .value) out in closeOutcome (q .image) (q .table) (o .value) stamp) x
               ∙ ap (λ (o : Outcome). closeOutcome (o .image) (o .table) p stamp) read-is in
               let y = rescue-is fits out in

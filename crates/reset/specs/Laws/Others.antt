@@ -4,8 +4,9 @@ use mathlib.Core.List.{List}
 use Rattle.diskette.specs.declared.Kind.{Kind}
 use Rattle.sound.specs.Files.{IsFile}
 use Rattle.changes.specs.Files.{File, Holds}
+use Rattle.history.specs.Aids.Ours.{run}
 use Rattle.history.specs.Promises.{AllGiven, Begins}
-use Rattle.history.specs.World.{World, Call, ours, run}
+use Rattle.history.specs.World.{World, Call, ours}
 use Rattle.history.specs.Laws.Begins.{on}
 use Rattle.history.specs.Laws.EveryCall.{came}
 use Rattle.history.specs.Laws.Runs.{begins-run}

@@ -29,8 +29,8 @@ use Rattle.holding.specs.Holding.{fileBytes}
 use Rattle.rescuing.specs.Rescue.{goodChain, rescueOutcome}
 use Rattle.rescuing.specs.Laws.Chain.{says-chain, held-long, held-by}
 use Rattle.changes.specs.Files.{File, Holds}
-use Rattle.history.specs.World.{ours, world, look, rescue}
-use Rattle.reset.specs.Promises.{Gives, Rescued}
+use Rattle.history.specs.World.{ours}
+use Rattle.reset.specs.Promises.{Rescued}
 
 module _ (m : List ℕ) (k : Kind) (e : kindOfImage m ≡ Known k) (s : ℕ) (f : File) (h : Holds k m s f)
     (alone : (r : ℕ) → IsFile k m r → nameOf m (slotAt k r) ≡ nameOf m (slotAt k s) → r ≡ s) (name : List ℕ) (means : Means name (f .name)) where
@@ -73,15 +73,10 @@ module _ (m : List ℕ) (k : Kind) (e : kindOfImage m ≡ Known k) (s : ℕ) (f 
       let z : length (f .bytes) ≡ sizeOf m (slotAt k s) = ap length (sym held) ∙ held-long m k e s good in
       rw (p, q, found, is-kind, good, held, z)
 
-  gives : (table out : List ℕ) → Gives (ours (look (rescue name out)) (world m table)) out (f .bytes)
-  gives table out =
-      let x = rescue-is out in
-      record {
-        well = ap (λ (o : Outcome). o .number) x;
-        count = ap (λ (o : Outcome). o .value) x;
-        put = ap (λ (o : Outcome). o .buffer) x ∙ ap (λ (n : ℕ). stored out 0 (take n (f .bytes))) (sym (ap (λ (o : Outcome). o .value) x));
-      }
-
 pub rescued-by-name : (m : List ℕ) (k : Kind) → kindOfImage m ≡ Known k → (s : ℕ) (f : File) → Holds k m s f
     → ((r : ℕ) → IsFile k m r → nameOf m (slotAt k r) ≡ nameOf m (slotAt k s) → r ≡ s) → Rescued ours m f
-rescued-by-name = gives
+rescued-by-name m k e s f h alone name means table out =
+    let x = rescue-is m k e s f h alone name means out in
+    let count = ap (λ (o : Outcome). o .value) x in
+    let put = ap (λ (o : Outcome). o .buffer) x ∙ ap (λ (n : ℕ). stored out 0 (take n (f .bytes))) (sym count) in
+    (ap (λ (o : Outcome). o .number) x, count, put)

@@ -4,10 +4,11 @@ use mathlib.Core.List.{List, [], _∷_}
 use mathlib.Core.Path.{_≡_, sym, subst}
 use Rattle.diskette.specs.declared.Kind.{Kind}
 use Rattle.sound.specs.Files.{IsFile, ChainOf}
+use Rattle.history.specs.Aids.Ours.{step, run}
 use Rattle.history.specs.Aids.Came.{Came, idle, stays, changes}
 use Rattle.history.specs.Promises.{Given, AllGiven, Begins}
 use Rattle.history.specs.Meant.{Names}
-use Rattle.history.specs.World.{World, Call, step, run}
+use Rattle.history.specs.World.{World, Call}
 use Rattle.history.specs.Laws.Begins.{on}
 use Rattle.history.specs.Laws.Runs.{begins-step}
 use Rattle.reset.specs.Aids.Same.{SameIn}

@@ -5,9 +5,10 @@ use mathlib.Core.Logic.{inl, inr}
 use Rattle.diskette.specs.declared.Kind.{Kind}
 use Rattle.sound.specs.Files.{IsFile, ChainOf}
 use Rattle.changes.specs.Files.{File, Holds}
+use Rattle.history.specs.Aids.Ours.{step, run}
 use Rattle.history.specs.Promises.{Given, AllGiven, Begins}
 use Rattle.history.specs.Tare.{Tare, NoModeSet}
-use Rattle.history.specs.World.{World, Call, ours, step, run}
+use Rattle.history.specs.World.{World, Call, ours}
 use Rattle.history.specs.Laws.Begins.{on}
 use Rattle.history.specs.Laws.EveryCall.{came}
 use Rattle.history.specs.Laws.Runs.{begins-run}
