@@ -23,7 +23,8 @@ pub record HandedOut (k : Kind) (w u : World) (h access s : ℕ) : Type 0 where
 
 -- a call that ends well answers a handle of the file that it names
 abbrev pub HandsOut : Library → Kind → World → Call → ℕ → Type 0
-HandsOut lib k w c access = lib c w .number ≡ 0 → (s : ℕ) → Names c k w s → HandedOut k w (stepBy lib w c) (lib c w .value) access s
+HandsOut lib k w c access =
+    lib c w .number ≡ 0 → (s : ℕ) → Names c k w s → HandedOut k w (stepBy lib w c) (lib c w .value) access s
 
 -- so do open, with the access that is given, and create: "Opened with access 2"
 abbrev pub HandsOutItsFile : Library → Type 0

@@ -27,10 +27,14 @@ Becomes (write h bs) w o f g =
     let put : File → File = λ x. file (x .name) (x .attr) (written (x .bytes) (pointerOf (w .table) h) (take (o .value) bs)) in
     g ≡ cond (eqb (o .value) 0) f (Option·map put f)
 -- a close of a written file sets bit 20
-Becomes (close h stamp) w o f g = g ≡ cond (writtenOf (w .table) h) (Option·map (λ (x : File). file (x .name) (archived (x .attr)) (x .bytes)) f) f
+Becomes (close h stamp) w o f g =
+    let mark : File → File = λ x. file (x .name) (archived (x .attr)) (x .bytes) in
+    g ≡ cond (writtenOf (w .table) h) (Option·map mark f) f
 Becomes (delete name) w o f g = g ≡ none
 Becomes (rename name new) w o f g = (n : List ℕ) × Means new n × (g ≡ Option·map (λ (x : File). file n (x .attr) (x .bytes)) f)
-Becomes (mode name function attr) w o f g = g ≡ cond (eqb function 1) (Option·map (λ (x : File). file (x .name) attr (x .bytes)) f) f
+Becomes (mode name function attr) w o f g =
+    let mark : File → File = λ x. file (x .name) attr (x .bytes) in
+    g ≡ cond (eqb function 1) (Option·map mark f) f
 Becomes (openFile name access) w o f g = g ≡ f
 Becomes (read h buffer) w o f g = g ≡ f
 Becomes (seek h method offset) w o f g = g ≡ f
