@@ -3,7 +3,6 @@ use Prim.Native.Nat.{ℕ}
 use mathlib.Core.Bool.{Bool, cond}
 use mathlib.Core.List.{List, [], _∷_}
 use lib.Dec.{eqb}
-use Rattle.calls.specs.declared.Answer.{Answer}
 
 -- the refusal's number (0 where the call ends well), its value, and image, table and buffer after it
 pub record Outcome : Type 0 where
@@ -28,10 +27,3 @@ refusal (r ∷ rs) = cond (r .0) (r .1) (refusal rs)
 -- "A refusal answers its number, count or handle 0, and alters nothing"; where there is none, the effect
 unfoldable pub decided : List Row → Outcome → List ℕ → List ℕ → List ℕ → Outcome
 decided rows effect l t b = cond (eqb (refusal rows) 0) effect (outcome (refusal rows) 0 l t b)
-
--- what a refusal answers, and a call that ends well
-abbrev pub refusedBy : ℕ → Answer
-refusedBy n = record { number = n; value = 0 }
-
-abbrev pub answering : ℕ → Answer
-answering v = record { number = 0; value = v }

@@ -9,6 +9,7 @@ use Rattle.diskette.specs.Places.{rootAt, rootEntries, slotAt}
 use Rattle.diskette.specs.declared.Kind.{Kind}
 use Rattle.diskette.specs.declared.WhichKind.{WhichKind}
 use Rattle.diskette.specs.declared.WhichKind.the-variants.{Known, Unknown}
+use Rattle.search.specs.Search.{isFound}
 use Rattle.search.specs.declared.Found.{Found}
 use Rattle.search.specs.declared.Found.the-variants.{At, Nothing}
 use Rattle.fields.specs.Fields.{attrOf}
@@ -23,11 +24,7 @@ use Rattle.opened.specs.Places.{isLive, lowestUnused}
 use Rattle.sound.specs.Judged.{isSound}
 use Rattle.calls.specs.Numbers.{outOfRange}
 
--- ---- what a search found, as a test and as a number (0 where there is nothing; no rule rests on it then)
-
-abbrev pub isNothing : Found → Bool
-isNothing (At i) = false
-isNothing Nothing = true
+-- ---- what a search found, as a number (0 where there is nothing; no rule rests on it then)
 
 abbrev pub placeFound : Found → ℕ
 placeFound (At i) = i
@@ -66,12 +63,9 @@ abbrev pub stampNumber : Packed → ℕ
 stampNumber (Words time date) = 0
 stampNumber OutOfRange = outOfRange
 
-abbrev pub isOut : Packed → Bool
-isOut p = not (eqb (stampNumber p) 0)
-
 -- 43: a stamp out of its ranges
 abbrev pub badStamp : Stamp → Bool
-badStamp s = isOut (packed s)
+badStamp s = not (eqb (stampNumber (packed s)) 0)
 
 -- 5: attribute bit not allowed: a number with another bit than 01, 02, 04 and 20
 unfoldable pub badAttr : ℕ → Bool
@@ -85,7 +79,7 @@ fileFound img s = slotNamed img (rootAt (theKind img)) (rootEntries (theKind img
 
 -- 2: no such plain file
 abbrev pub noFile : List ℕ → List ℕ → Bool
-noFile img s = isNothing (fileFound img s)
+noFile img s = not (isFound (fileFound img s))
 
 abbrev pub fileSlot : List ℕ → List ℕ → ℕ
 fileSlot img s = placeFound (fileFound img s)
@@ -104,7 +98,7 @@ notLive img t h = not (isLive t h img (rootAt (theKind img)) (rootEntries (theKi
 
 -- 4: no unused place
 abbrev pub noPlace : List ℕ → Bool
-noPlace t = isNothing (lowestUnused t)
+noPlace t = not (isFound (lowestUnused t))
 
 abbrev pub freePlace : List ℕ → ℕ
 freePlace t = placeFound (lowestUnused t)

@@ -7,7 +7,7 @@ use diskette::Kind;
 use diskette::WhichKind;
 use sound::Verdict;
 ghost use mathlib.Core.Path.{_≡_};
-ghost use Rattle.calls.specs.Outcome.{refusedBy, answering};
+ghost use Rattle.calls.specs.Aids.Answers.{refusedBy, answering};
 ghost use Rattle.calls.specs.Aids.Ready.{readyOf};
 
 // What a call answers: a refusal number with value 0, or 0 with the call's value.

@@ -7,6 +7,7 @@ use mathlib.Core.List.{List, [], _∷_}
 use mathlib.Core.Path.{_≡_}
 use Rattle.diskette.specs.Places.{slotAt}
 use Rattle.diskette.specs.declared.Kind.{Kind}
+use Rattle.search.specs.Search.{isFound}
 use Rattle.fields.specs.Fields.{withEntry}
 use Rattle.names.specs.Reading.{nameGiven}
 use Rattle.stamps.specs.Stamps.{packed}
@@ -17,7 +18,7 @@ use Rattle.opened.specs.Places.{isOpen}
 use Rattle.opened.specs.Records.{withRecord}
 use Rattle.calls.specs.Outcome.{Row, Outcome, outcome, decided}
 use Rattle.calls.specs.Numbers.{ofNoKind, unsound, breaksRules, outOfRange, accessDenied, tooManyOpen}
-use Rattle.calls.specs.Refusals.{isNothing, placeFound, theKind, notOfKind, notSound, badName, badStamp, badAttr, noFile, fileSlot, readOnly, slotForNew, noPlace, freePlace}
+use Rattle.calls.specs.Refusals.{placeFound, theKind, notOfKind, notSound, badName, badStamp, badAttr, noFile, fileSlot, readOnly, slotForNew, noPlace, freePlace}
 use Rattle.freeing.specs.Freed.{chainFreed}
 use Rattle.calls.specs.declared.Answer.{Answer}
 
@@ -31,7 +32,7 @@ createRows img t s attr stamp =
     ∷ (badAttr attr, accessDenied)
     ∷ (not (noFile img s) && isOpen t (fileSlot img s), accessDenied)
     ∷ (not (noFile img s) && readOnly img (fileSlot img s), accessDenied)
-    ∷ (noFile img s && isNothing (slotForNew img), accessDenied)
+    ∷ (noFile img s && not (isFound (slotForNew img)), accessDenied)
     ∷ (noPlace t, tooManyOpen)
     ∷ []
 

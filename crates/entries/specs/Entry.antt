@@ -1,7 +1,7 @@
 -- "entry answers 'none' for a slot that is out of range, erased or never used, else, for the label too, the name bytes,
 -- attribute, time and date words, start and size as stored." It refuses only by 40.
 use Prim.Native.Nat.{ℕ}
-use mathlib.Core.Bool.{Bool, true, false, cond, not}
+use mathlib.Core.Bool.{true, false, cond, _||_}
 use mathlib.Core.List.{List}
 use mathlib.Core.Path.{_≡_}
 use lib.Dec.{leb}
@@ -12,7 +12,6 @@ use Rattle.diskette.specs.declared.WhichKind.{WhichKind}
 use Rattle.diskette.specs.declared.WhichKind.the-variants.{Known, Unknown}
 use Rattle.fields.specs.Fields.{nameOf, attrOf, timeOf, dateOf, startOf, sizeOf}
 use Rattle.directory.specs.Slots.{standingOf, isVacant}
-use Rattle.directory.specs.declared.Standing.{Standing}
 use Rattle.calls.specs.Numbers.{ofNoKind}
 use Rattle.entries.specs.declared.EntryAnswer.{EntryAnswer}
 
@@ -33,16 +32,9 @@ asStored l a = record {
   size = sizeOf l a;
 }
 
--- not where the slot is "erased or never used"; "for the label too"
-abbrev pub isTold : Standing → Bool
-isTold s = not (isVacant s)
-
-unfoldable pub toldAt : List ℕ → ℕ → EntryAnswer
-toldAt l a = cond (isTold (standingOf l a)) (asStored l a) (nothing 0)
-
--- "none" where the slot is out of range; "40: image not of a kind"
+-- "out of range, erased or never used"; "40: image not of a kind"
 abbrev pub onKind : WhichKind → List ℕ → ℕ → EntryAnswer
-onKind (Known k) l s = cond (leb (rootEntries k) s) (nothing 0) (toldAt l (slotAt k s))
+onKind (Known k) l s = cond (leb (rootEntries k) s || isVacant (standingOf l (slotAt k s))) (nothing 0) (asStored l (slotAt k s))
 onKind Unknown l s = nothing ofNoKind
 
 unfoldable pub entryTold : List ℕ → ℕ → EntryAnswer

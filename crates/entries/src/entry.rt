@@ -3,10 +3,12 @@ use crate::EntryAnswer;
 use calls::numbers;
 use directory::Standing;
 use diskette::WhichKind;
+ghost use mathlib.Core.Bool.{cond, not};
 ghost use mathlib.Core.Path.{_≡_};
 ghost use Prim.Native.Nat.{_+_, _≤_};
 ghost use lib.ListN.{length};
-ghost use Rattle.entries.specs.Entry.{nothing, asStored, isTold, toldAt, Told};
+ghost use Rattle.directory.specs.Slots.{standingOf, isVacant};
+ghost use Rattle.entries.specs.Entry.{nothing, asStored, Told};
 
 // The answer where no entry was found.
 fn without_entry(number: u32) -> EntryAnswer
@@ -43,7 +45,7 @@ fn fields_at(img: &[u8], a: usize) -> EntryAnswer
 
 // Whether an entry is told of: not where the slot is erased or never used; for the label too.
 fn is_told(standing: Standing) -> bool
-    ensures { λ r. ⌜ r ≡ isTold standing ⌝ }
+    ensures { λ r. ⌜ r ≡ not (isVacant standing) ⌝ }
 {
     match standing {
         Standing::NeverUsed => false,
@@ -56,7 +58,7 @@ fn is_told(standing: Standing) -> bool
 // The answer for the slot at byte a.
 fn told_at(img: &[u8], a: usize) -> EntryAnswer
     requires { ⌜ a + 32 ≤ length (now img) ⌝ }
-    ensures { λ r. ⌜ r ≡ toldAt (now (img .entry)) a ⌝ }
+    ensures { λ r. ⌜ r ≡ cond (isVacant (standingOf (now (img .entry)) a)) (nothing 0) (asStored (now (img .entry)) a) ⌝ }
 {
     if is_told(directory::standing_at(img, a)) {
         return fields_at(img, a);

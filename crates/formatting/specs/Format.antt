@@ -11,6 +11,7 @@ use Rattle.diskette.specs.Places.{firstData, copyOne, copyTwo}
 use Rattle.diskette.specs.declared.Kind.{Kind}
 use Rattle.diskette.specs.declared.WhichKind.{WhichKind}
 use Rattle.diskette.specs.declared.WhichKind.the-variants.{Known, Unknown}
+use Rattle.calls.specs.Outcome.{Outcome, outcome}
 use Rattle.calls.specs.Numbers.{ofNoKind}
 
 -- "data bytes F6; everything before it zero,"
@@ -25,23 +26,15 @@ tableHead byte = byte ∷ 0xFF ∷ 0xFF ∷ []
 unfoldable pub blank : Kind → List ℕ
 blank k = stored (stored (zerosAndData k) copyOne (tableHead (k .byte))) (copyTwo k) (tableHead (k .byte))
 
--- the refusal number or 0, and the image after the call
-pub record AfterFormat : Type 0 where
-  pub number : ℕ
-  pub image : List ℕ
-
-abbrev pub afterFormat : ℕ → List ℕ → AfterFormat
-afterFormat n img = record { number = n; image = img }
-
 -- "40: unknown kind byte or wrong length". A refusal alters nothing.
-abbrev pub formattedAs : WhichKind → List ℕ → AfterFormat
-formattedAs (Known k) img = cond (eqb (length img) (512 * k .sectors)) (afterFormat 0 (blank k)) (afterFormat ofNoKind img)
-formattedAs Unknown img = afterFormat ofNoKind img
+abbrev pub formattedAs : WhichKind → List ℕ → Outcome
+formattedAs (Known k) img = cond (eqb (length img) (512 * k .sectors)) (outcome 0 0 (blank k) [] []) (outcome ofNoKind 0 img [] [])
+formattedAs Unknown img = outcome ofNoKind 0 img [] []
 
--- The kind is taken as a whole number.
-unfoldable pub formatted : ℕ → List ℕ → AfterFormat
+-- The kind is taken as a whole number. No table comes in, and no buffer.
+unfoldable pub formatted : ℕ → List ℕ → Outcome
 formatted kind img = formattedAs (named kind) img
 
 -- what the call promises: its answer, and the image after it
 pub record Formatted (img : List ℕ) (kind number : ℕ) (after : List ℕ) : Type 0 where
-  pub is : afterFormat number after ≡ formatted kind img
+  pub is : outcome number 0 after [] [] ≡ formatted kind img

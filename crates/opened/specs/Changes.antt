@@ -19,12 +19,8 @@ pub record PlaceHolds (t : List ℕ) (p : ℕ) (u : Bool) (a s x : ℕ) (w : Boo
 abbrev pub SamePlace : List ℕ → List ℕ → ℕ → Type 0
 SamePlace m t q = PlaceHolds m q (usedOf t q) (accessOf t q) (slotOf t q) (pointerOf t q) (writtenOf t q)
 
--- byte j of the table stands after the records that are used
-abbrev pub PastPlaces : List ℕ → ℕ → Type 0
-PastPlaces t j = placeAt (placeCount t) ≤ j
-
--- m is t but for what place p holds
+-- m is t but for what place p holds; past the records that are used every byte is the same
 pub record OnlyAt (p : ℕ) (m t : List ℕ) : Type 0 where
   pub long : length m ≡ length t
   pub others : (q : ℕ) → q ≢ p → SamePlace m t q
-  pub past : (j : ℕ) → PastPlaces t j → getD m j 0 ≡ getD t j 0
+  pub past : (j : ℕ) → placeAt (placeCount t) ≤ j → getD m j 0 ≡ getD t j 0

@@ -20,12 +20,9 @@ pub record LivePlace (t : List ℕ) (h : ℕ) (l : List ℕ) (root count : ℕ) 
   pub slot : slotOf t h < count
   pub plain : PlainAt l (slotFrom root (slotOf t h))
 
--- slot s is one of the volume's and holds a plain file
-abbrev pub holdsFile : List ℕ → ℕ → ℕ → ℕ → Bool
-holdsFile l root count s = ltb s count && isPlain (standingOf l (slotFrom root s))
-
 unfoldable pub isLive : List ℕ → ℕ → List ℕ → ℕ → ℕ → Bool
-isLive t h l root count = ltb h (placeCount t) && (usedOf t h && (leb (accessOf t h) 2 && holdsFile l root count (slotOf t h)))
+isLive t h l root count =
+    ltb h (placeCount t) && (usedOf t h && (leb (accessOf t h) 2 && (ltb (slotOf t h) count && isPlain (standingOf l (slotFrom root (slotOf t h))))))
 
 -- ---- A file is open when a used place names its slot.
 

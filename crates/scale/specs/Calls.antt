@@ -1,4 +1,4 @@
--- The calls as C sees them: what each leaves, as one function of what came in. The calls over an open table, and rescue, have
+-- The calls as C sees them: what each leaves, as one function of what came in. The calls over an open table, format and rescue have
 -- this function from their own crates; the others have it here.
 use Prim.Native.Nat.{ℕ}
 use mathlib.Core.Bool.{cond}
@@ -9,10 +9,7 @@ use Rattle.sound.specs.Judged.{checkOf, checkOfArea}
 use Rattle.sound.specs.declared.Verdict.{Verdict}
 use Rattle.sound.specs.declared.Verdict.the-variants.{Sound, Finding}
 use Rattle.entries.specs.Entry.{entryTold}
-use Rattle.formatting.specs.Format.{formatted}
 use Rattle.freespace.specs.FreeSpace.{freeSpace}
-use Rattle.entries.specs.declared.EntryAnswer.{EntryAnswer}
-use Rattle.freespace.specs.declared.FreeAnswer.{FreeAnswer}
 use Rattle.calls.specs.Outcome.{Outcome, outcome}
 use Rattle.viewing.specs.View.{viewOutcome}
 use Rattle.packing.specs.Packing.{upper, lower}
@@ -25,47 +22,34 @@ pub record Leaves (o : Outcome) (answer : ℕ) (image table buffer : List ℕ) :
 
 -- ---- the calls that need no open table
 
--- "bm_format: image, kind; value 0"
-unfoldable pub formatCall : List ℕ → ℕ → Outcome
-formatCall img kind = outcome (formatted kind img .number) 0 (formatted kind img .image) [] []
-
--- what is told in answer and out, of an image that is only read
-abbrev pub toldOf : List ℕ → Outcome → Outcome
-toldOf img o = outcome (o .number) (o .value) img (o .table) (o .buffer)
-
 -- "check and check_system never refuse: there the upper half is the finding (0: sound) and the lower its place",
--- "if sound, 16 bytes: files, free, held, aside"
-unfoldable pub verdictTold : Verdict → List ℕ → Outcome
-verdictTold (Sound files free held aside) out = outcome 0 0 [] [] (putOut out (words (files ∷ free ∷ held ∷ aside ∷ [])))
-verdictTold (Finding number place) out = outcome number place [] [] out
+-- "if sound, 16 bytes: files, free, held, aside"; l is the image, or the system area
+unfoldable pub verdictTold : List ℕ → Verdict → List ℕ → Outcome
+verdictTold l (Sound files free held aside) out = outcome 0 0 l [] (putOut out (words (files ∷ free ∷ held ∷ aside ∷ [])))
+verdictTold l (Finding number place) out = outcome number place l [] out
 
 -- "bm_check: image, out"
 abbrev pub checkCall : List ℕ → List ℕ → Outcome
-checkCall img out = toldOf img (verdictTold (checkOf img) out)
+checkCall img out = verdictTold img (checkOf img) out
 
 -- "bm_check_system: system area, out"
 abbrev pub checkSystemCall : List ℕ → List ℕ → Outcome
-checkSystemCall area out = toldOf area (verdictTold (checkOfArea area) out)
+checkSystemCall area out = verdictTold area (checkOfArea area) out
 
--- "16 bytes: free, clusters, 512, sectors per cluster"; "or the call refuses, it is left as it came"
-unfoldable pub spaceTold : FreeAnswer → List ℕ → Outcome
-spaceTold a out =
-    cond (eqb (a .number) 0) (outcome 0 (a .free) [] [] (putOut out (words (a .free ∷ a .clusters ∷ a .sector ∷ a .per ∷ []))))
-    (outcome (a .number) 0 [] [] out)
+-- "bm_free_space: image, out; value free clusters", "16 bytes: free, clusters, 512, sectors per cluster"; where "the call refuses, it
+-- is left as it came"
+unfoldable pub freeSpaceCall : List ℕ → List ℕ → Outcome
+freeSpaceCall img out =
+    let a = freeSpace img in
+    cond (eqb (a .number) 0) (outcome 0 (a .free) img [] (putOut out (words (a .free ∷ a .clusters ∷ a .sector ∷ a .per ∷ []))))
+    (outcome (a .number) 0 img [] out)
 
--- "bm_free_space: image, out; value free clusters"
-abbrev pub freeSpaceCall : List ℕ → List ℕ → Outcome
-freeSpaceCall img out = toldOf img (spaceTold (freeSpace img) out)
-
--- "1, or 0 for none", "if 1, 22 bytes as stored"
-unfoldable pub entryTaken : EntryAnswer → List ℕ → Outcome
-entryTaken e out =
-    cond (e .found) (outcome 0 1 [] [] (putOut out (fields (e .name) (e .attr) (e .time) (e .date) (e .start) (e .size))))
-    (outcome (e .number) 0 [] [] out)
-
--- "bm_entry: image, slot, out"
-abbrev pub entryCall : List ℕ → ℕ → List ℕ → Outcome
-entryCall img slot out = toldOf img (entryTaken (entryTold img slot) out)
+-- "bm_entry: image, slot, out", "1, or 0 for none", "if 1, 22 bytes as stored"
+unfoldable pub entryCall : List ℕ → ℕ → List ℕ → Outcome
+entryCall img slot out =
+    let e = entryTold img slot in
+    cond (e .found) (outcome 0 1 img [] (putOut out (fields (e .name) (e .attr) (e .time) (e .date) (e .start) (e .size))))
+    (outcome (e .number) 0 img [] out)
 
 -- "bm_view_number: image, name, offset; value 0 (its upper half is view's refusal number)"
 unfoldable pub viewNumberCall : List ℕ → List ℕ → ℕ → Outcome

@@ -6,13 +6,15 @@ use entries::EntryAnswer;
 use freespace::FreeAnswer;
 use sound::Verdict;
 ghost use mathlib.Core.List.{[]};
-ghost use Rattle.scale.specs.Calls.{Leaves, formatCall, verdictTold, checkCall, checkSystemCall, spaceTold, freeSpaceCall, entryTaken, entryCall};
+ghost use Rattle.formatting.specs.Format.{formatted};
+ghost use Rattle.scale.specs.Calls.{Leaves, checkCall, checkSystemCall, freeSpaceCall, entryCall};
 ghost use Rattle.scale.specs.Aids.Fits.{VerdictFits, SpaceFits};
+ghost use Rattle.scale.specs.Aids.Tells.{TellsVerdict, TellsSpace, TellsEntry};
 
 // Makes a blank volume of the kind.
 #[no_mangle]
 pub extern "C" fn bm_format(img: &mut [u8], kind: u32) -> u64
-    ensures { λ r. ⌜ Leaves (formatCall (now (img .entry)) kind) r (now (img .exit)) [] [] ⌝ }
+    ensures { λ r. ⌜ Leaves (formatted kind (now (img .entry))) r (now (img .exit)) [] [] ⌝ }
 {
     let number = formatting::format::format(img, kind);
     packing::answer::pack(number, 0)
@@ -21,7 +23,7 @@ pub extern "C" fn bm_format(img: &mut [u8], kind: u32) -> u64
 // A verdict as check answers it: the counts in out where the volume is sound, else the finding and its place.
 fn tell_verdict(v: Verdict, out: &mut [u8]) -> u64
     requires { ⌜ VerdictFits v ⌝ }
-    ensures { λ r. ⌜ Leaves (verdictTold v (now (out .entry))) r [] [] (now (out .exit)) ⌝ }
+    ensures { λ r. ⌜ TellsVerdict v (now (out .entry)) r (now (out .exit)) ⌝ }
 {
     match v {
         Verdict::Sound(files, free, held, aside) => {
@@ -57,7 +59,7 @@ pub extern "C" fn bm_check_system(area: &[u8], out: &mut [u8]) -> u64
 // What free space answers: the four numbers in out where it is not refused.
 fn tell_space(a: FreeAnswer, out: &mut [u8]) -> u64
     requires { ⌜ SpaceFits a ⌝ }
-    ensures { λ r. ⌜ Leaves (spaceTold a (now (out .entry))) r [] [] (now (out .exit)) ⌝ }
+    ensures { λ r. ⌜ TellsSpace a (now (out .entry)) r (now (out .exit)) ⌝ }
 {
     if a.number == 0 {
         put::four_words(out, a.free, a.clusters, a.sector, a.per);
@@ -77,7 +79,7 @@ pub extern "C" fn bm_free_space(img: &[u8], out: &mut [u8]) -> u64
 
 // What entry at a slot answers: the fields in out where there is an entry.
 fn tell_entry(e: EntryAnswer, out: &mut [u8]) -> u64
-    ensures { λ r. ⌜ Leaves (entryTaken e (now (out .entry))) r [] [] (now (out .exit)) ⌝ }
+    ensures { λ r. ⌜ TellsEntry e (now (out .entry)) r (now (out .exit)) ⌝ }
 {
     if e.found {
         let name = e.name;

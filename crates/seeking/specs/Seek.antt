@@ -11,7 +11,7 @@ use Rattle.offset.specs.Offset.{movedBy}
 use Rattle.offset.specs.declared.Moved.{Moved}
 use Rattle.offset.specs.declared.Moved.the-variants.{To, Beyond}
 use Rattle.opened.specs.Records.{slotOf, pointerOf, withPointer}
-use Rattle.calls.specs.Outcome.{Row, Outcome, outcome, decided, refusedBy, answering}
+use Rattle.calls.specs.Outcome.{Row, Outcome, outcome, decided}
 use Rattle.calls.specs.Numbers.{ofNoKind, unsound, invalidFunction, invalidHandle}
 use Rattle.calls.specs.Refusals.{notOfKind, notSound, notLive, addressOf}
 use Rattle.calls.specs.declared.Answer.{Answer}
@@ -26,8 +26,8 @@ seekMoved img t h method offset = movedBy (seekBase img t h method) offset
 
 -- what it answers: the pointer; refused by 1 where it leads nowhere
 abbrev pub answerOf : Moved → Answer
-answerOf (To v) = answering v
-answerOf Beyond = refusedBy invalidFunction
+answerOf (To v) = record { number = 0; value = v }
+answerOf Beyond = record { number = invalidFunction; value = 0 }
 
 -- 1: seek result below 0 or above 4,294,967,295
 abbrev pub isBeyond : Moved → Bool

@@ -14,17 +14,15 @@ use Rattle.calls.specs.Numbers.{ofNoKind, unsound, breaksRules, fileNotFound}
 use Rattle.calls.specs.Refusals.{theKind, notOfKind, notSound, badName, noFile, fileSlot}
 use Rattle.holding.specs.Holding.{fileChain}
 
--- where byte offset of the file in a slot lies in the image
-abbrev pub viewAt : Kind → List ℕ → ℕ → ℕ → ℕ
-viewAt k img slot offset = byteAt (512 * firstData k) (clusterBytes k) (fileChain k img slot) offset
-
--- how many bytes there are from it on to the end of its cluster of cb bytes or of its file, whichever is first; none at or past the end
+-- how many bytes there are from offset on to the end of its cluster of cb bytes or of its file, whichever is first; none at or past the end
 abbrev pub viewCount : ℕ → ℕ → ℕ → ℕ
 viewCount cb size offset = min (cb - offset % cb) (size - offset)
 
--- the part of the image
+-- the part of the image, from where that byte of the file in a slot lies
 unfoldable pub viewPart : Kind → List ℕ → ℕ → ℕ → List ℕ
-viewPart k img slot offset = part img (viewAt k img slot offset) (viewCount (clusterBytes k) (sizeOf img (slotAt k slot)) offset)
+viewPart k img slot offset =
+    let at = byteAt (512 * firstData k) (clusterBytes k) (fileChain k img slot) offset in
+    part img at (viewCount (clusterBytes k) (sizeOf img (slotAt k slot)) offset)
 
 abbrev pub viewRows : List ℕ → List ℕ → List Row
 viewRows img s =

@@ -24,13 +24,9 @@ use Rattle.putting.specs.Written.{writtenIn}
 unfoldable pub roomOf : Kind → List ℕ → ℕ → ℕ
 roomOf k img slot = (length (fileChain k img slot) + freeOf k img) * clusterBytes k
 
--- "the smaller of the length and room less pointer; 0 when the pointer is at or past the room"
-unfoldable pub accepted : ℕ → ℕ → ℕ → ℕ
-accepted room pos n = min n (room - pos)
-
--- so many of n bytes are written into the file in the slot
+-- "the smaller of the length and room less pointer; 0 when the pointer is at or past the room": so many of n bytes are written
 abbrev pub writeCount : Kind → List ℕ → ℕ → ℕ → ℕ → ℕ
-writeCount k img slot pointer n = accepted (roomOf k img slot) pointer n
+writeCount k img slot pointer n = min n (roomOf k img slot - pointer)
 
 abbrev pub writeRows : List ℕ → List ℕ → ℕ → List Row
 writeRows img t h =
@@ -40,16 +36,15 @@ writeRows img t h =
     ∷ (eqb (accessOf t h) 0, accessDenied)
     ∷ []
 
--- at the pointer of place h, into the file in the slot: "If 0, nothing changes"
-unfoldable pub writeAt : Kind → List ℕ → List ℕ → ℕ → ℕ → List ℕ → Outcome
-writeAt k img t slot h bs =
+-- "If 0, nothing changes"
+unfoldable pub writeEffect : List ℕ → List ℕ → ℕ → List ℕ → Outcome
+writeEffect img t h bs =
+    let k = theKind img in
+    let slot = slotOf t h in
     let pointer = pointerOf t h in
     let n = writeCount k img slot pointer (length bs) in
     cond (eqb n 0) (outcome 0 0 img t [])
     (outcome 0 n (writtenIn k img slot pointer (take n bs)) (withWritten (withPointer t h (pointer + n)) h) [])
-
-abbrev pub writeEffect : List ℕ → List ℕ → ℕ → List ℕ → Outcome
-writeEffect img t h bs = writeAt (theKind img) img t (slotOf t h) h bs
 
 unfoldable pub writeOutcome : List ℕ → List ℕ → ℕ → List ℕ → Outcome
 writeOutcome img t h bs = decided (writeRows img t h) (writeEffect img t h bs) img t []

@@ -6,13 +6,13 @@ use calls::make_ready;
 use calls::numbers;
 use diskette::Kind;
 use search::Found;
-ghost use Prim.Native.Nat.{_+_, _<_};
+ghost use Prim.Native.Nat.{_+_, _-_, _<_, min};
 ghost use mathlib.Core.Path.{_≡_};
 ghost use Rattle.opened.specs.Records.{placeCount, withPointer, withWritten};
 ghost use Rattle.sound.specs.Counts.{freeOf};
 ghost use Rattle.calls.specs.Aids.Ready.{OnVolume};
 ghost use Rattle.sound.specs.Files.{IsFile};
-ghost use Rattle.writing.specs.Write.{Writes, accepted, roomOf};
+ghost use Rattle.writing.specs.Write.{Writes, roomOf};
 ghost use Rattle.writing.specs.Aids.Write.{WritesAt};
 
 // The bytes for which the file in the slot has room, where so many clusters are free.
@@ -28,7 +28,7 @@ fn room_for(img: &[u8], k: Kind, slot: usize, free: usize) -> usize
 
 // How many of n bytes are written at the pointer.
 fn count_of(room: usize, pointer: u32, n: usize) -> usize
-    ensures { λ r. ⌜ r ≡ accepted room pointer n ⌝ }
+    ensures { λ r. ⌜ r ≡ min n (room - pointer) ⌝ }
 {
     let pointer = pointer as usize;
     if room <= pointer {

@@ -17,7 +17,8 @@ use Rattle.stamps.specs.declared.Packed.{Packed}
 use Rattle.stamps.specs.declared.Packed.the-variants.{Words}
 use Rattle.opened.specs.Records.{writtenOf, cleared}
 use Rattle.opened.specs.Aids.Places.{liveSlot}
-use Rattle.calls.specs.Outcome.{Outcome, refusal, decided, refusedBy, answering}
+use Rattle.calls.specs.Outcome.{Outcome, refusal, decided}
+use Rattle.calls.specs.Aids.Answers.{refusedBy, answering}
 use Rattle.calls.specs.Aids.Ready.{OnVolume}
 use Rattle.closing.specs.Close.{archived, stamped, closeRows, closeOutcome, Closes}
 use Rattle.calls.specs.Laws.Rows.{Stops, stopped}

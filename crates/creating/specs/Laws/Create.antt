@@ -8,6 +8,7 @@ use lib.ListN.{length}
 use Rattle.diskette.specs.Places.{rootAt, rootEntries, slotAt}
 use Rattle.diskette.specs.declared.Kind.{Kind}
 use Rattle.search.specs.Laws.Meaning.{lowest-is}
+use Rattle.search.specs.Search.{isFound}
 use Rattle.search.specs.declared.Found.{Found}
 use Rattle.search.specs.declared.Found.the-variants.{At, Nothing}
 use Rattle.fields.specs.Fields.{withEntry}
@@ -21,9 +22,10 @@ use Rattle.stamps.specs.declared.Packed.{Packed}
 use Rattle.stamps.specs.declared.Packed.the-variants.{Words}
 use Rattle.opened.specs.Places.{isOpen, lowestUnused}
 use Rattle.opened.specs.Records.{withRecord}
-use Rattle.calls.specs.Outcome.{Row, Outcome, refusal, decided, refusedBy, answering}
+use Rattle.calls.specs.Outcome.{Row, Outcome, refusal, decided}
+use Rattle.calls.specs.Aids.Answers.{refusedBy, answering}
 use Rattle.calls.specs.Numbers.{accessDenied}
-use Rattle.calls.specs.Refusals.{isNothing, readOnly, badAttr, slotForNew}
+use Rattle.calls.specs.Refusals.{readOnly, badAttr, slotForNew}
 use Rattle.calls.specs.Aids.Ready.{OnVolume}
 use Rattle.calls.specs.Laws.Rows.{Stops, stops-at, stops-past, stopped}
 use Rattle.calls.specs.Laws.Ready.{on-kind, on-usable, known-passed, sound-passed}
@@ -99,10 +101,10 @@ module _ (img : List ℕ) (k : Kind) (f : Found) (found : f ≡ lowestVacant img
   pub open-within : OnVolume img k → (slot : ℕ) → f ≡ At slot → (a : ℕ) → a ≡ slotAt k slot → a + 32 ≤ length img
   open-within v slot q a i = slot-within img k v slot a (open-below slot q) i
 
-  pub slot-stops : f ≡ Nothing → (rows : List Row) → Stops ((isNothing (lowestVacant img (rootAt k) (rootEntries k)), accessDenied) ∷ rows) accessDenied
+  pub slot-stops : f ≡ Nothing → (rows : List Row) → Stops ((not (isFound (lowestVacant img (rootAt k) (rootEntries k))), accessDenied) ∷ rows) accessDenied
   slot-stops q rows = stops-at _ accessDenied rows (rw (← found, q)) refl
 
-  pub slot-past : (slot : ℕ) → f ≡ At slot → (m n : ℕ) (rows : List Row) → Stops rows n → Stops ((isNothing (lowestVacant img (rootAt k) (rootEntries k)), m) ∷ rows) n
+  pub slot-past : (slot : ℕ) → f ≡ At slot → (m n : ℕ) (rows : List Row) → Stops rows n → Stops ((not (isFound (lowestVacant img (rootAt k) (rootEntries k))), m) ∷ rows) n
   slot-past slot q m n rows x = stops-past _ m n rows (rw (← found, q)) x
 
 module _ (img t : List ℕ) (k : Kind) (name : List ℕ) (attr time date : ℕ) (a : Answer) where

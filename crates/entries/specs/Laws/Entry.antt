@@ -1,11 +1,11 @@
 -- Entry at a slot: in the form of the code's needs, what its answer means, and that one answer only is allowed.
 use Prim.Native.Nat.{ℕ, _+_, _≤_, _<_}
 use native.Mathlib.Omega.{arith}
-use mathlib.Core.Bool.{Bool, true, false, not}
+use mathlib.Core.Bool.{Bool, true, false, cond, not}
 use mathlib.Core.List.{List}
-use mathlib.Core.Path.{_≡_, refl, sym, ap, _∙_}
+use mathlib.Core.Path.{_≡_, sym, ap, _∙_}
 use lib.ListN.{length}
-use borrow.Author.Tests.{le-leb, lt-leb}
+use borrow.Author.Tests.{le-leb, lt-leb, not-true, not-false}
 use Rattle.diskette.specs.Images.{kindOfImage}
 use Rattle.diskette.specs.Aids.Usable.{Usable}
 use Rattle.diskette.specs.Places.{rootEntries, slotAt}
@@ -17,24 +17,18 @@ use Rattle.diskette.specs.declared.WhichKind.the-variants.{Known, Unknown}
 use Rattle.directory.specs.Slots.{standingOf, isVacant, VacantAt, LiveAt}
 use Rattle.directory.specs.Laws.Slots.{vacant-is, live-is}
 use Rattle.directory.specs.declared.Standing.{Standing}
-use Rattle.directory.specs.declared.Standing.the-variants.{NeverUsed, Erased, Label, Plain}
 use Rattle.calls.specs.Numbers.{ofNoKind}
-use Rattle.entries.specs.Entry.{nothing, asStored, isTold, toldAt, onKind, entryTold, Told}
+use Rattle.entries.specs.Entry.{nothing, asStored, onKind, entryTold, Told}
 use Rattle.entries.specs.declared.EntryAnswer.{EntryAnswer}
 
 -- ---- a slot by what it stands for: m is what was read, b whether it is told
 
-module _ (l : List ℕ) (a : ℕ) (m : Standing) (b : Bool) (x : EntryAnswer) (e : m ≡ standingOf l a) (t : b ≡ isTold m) where
-  test : isTold (standingOf l a) ≡ b
-  test = ap isTold (sym e) ∙ sym t
+module _ (l : List ℕ) (a : ℕ) (m : Standing) (b : Bool) (x : EntryAnswer) (e : m ≡ standingOf l a) (t : b ≡ not (isVacant m)) where
+  pub told : b ≡ true → x ≡ asStored l a → x ≡ cond (isVacant (standingOf l a)) (nothing 0) (asStored l a)
+  told q h = h ∙ rw (← e, not-true (isVacant m) (sym t ∙ q))
 
-  pub told : b ≡ true → x ≡ asStored l a → x ≡ toldAt l a
-  unfolding toldAt
-  told q h = h ∙ rw (test, q)
-
-  pub untold : b ≡ false → x ≡ nothing 0 → x ≡ toldAt l a
-  unfolding toldAt
-  untold q h = h ∙ rw (test, q)
+  pub untold : b ≡ false → x ≡ nothing 0 → x ≡ cond (isVacant (standingOf l a)) (nothing 0) (asStored l a)
+  untold q h = h ∙ rw (← e, not-false (isVacant m) (sym t ∙ q))
 
 -- ---- the whole answer x: r is the kind that was found
 
@@ -59,7 +53,7 @@ module _ (l : List ℕ) (s : ℕ) (r : WhichKind) (p : r ≡ kindOfImage l) wher
           let o = image-of-kind l k .0 (sym p ∙ q) in
           omega (arith, slot-before-data k kind-usable s (omega arith), image-has-area l k o kind-usable)
 
-      pub in-range : (x : EntryAnswer) → x ≡ toldAt l a → Told l s x
+      pub in-range : (x : EntryAnswer) → x ≡ cond (isVacant (standingOf l a)) (nothing 0) (asStored l a) → Told l s x
       in-range x y = told-on x (y ∙ rw (q, lt-leb (rootEntries k) s (omega arith), g))
 
 -- ---- what the answer means
@@ -78,24 +72,14 @@ module _ (l : List ℕ) (s : ℕ) where
       abbrev at : ℕ
       at = slotAt k s
 
-      told-at : entryTold l s ≡ toldAt l at
-      unfolding entryTold
-      told-at = rw (q, lt-leb (rootEntries k) s h)
-
-      told-not-open : (m : Standing) → isTold m ≡ not (isVacant m)
-      told-not-open NeverUsed = refl
-      told-not-open Erased = refl
-      told-not-open Label = refl
-      told-not-open Plain = refl
-
       pub told-open : VacantAt l at → entryTold l s ≡ nothing 0
-      unfolding toldAt
-      told-open o = told-at ∙ rw (told-not-open (standingOf l at), vacant-is l at .1 o)
+      unfolding entryTold
+      told-open o = rw (q, lt-leb (rootEntries k) s h, vacant-is l at .1 o)
 
       -- the label too
       pub told-live : LiveAt l at → entryTold l s ≡ asStored l at
-      unfolding toldAt
-      told-live v = told-at ∙ rw (told-not-open (standingOf l at), live-is l at .1 v)
+      unfolding entryTold
+      told-live v = rw (q, lt-leb (rootEntries k) s h, live-is l at .1 v)
 
 -- ---- no second answer satisfies the contract
 

@@ -2,7 +2,7 @@
 use Prim.Native.Nat.{ℕ, _+_, _-_, _*_, _<_}
 use native.Mathlib.Omega.{arith}
 use native.Mathlib.Decide.{ℕ-discrete}
-use mathlib.Core.List.{List, _++_}
+use mathlib.Core.List.{List, [], _++_}
 use mathlib.Core.Logic.{_≢_}
 use mathlib.Core.Path.{_≡_, sym, ap, _∙_}
 use lib.ListN.{length, set, replicate, length-append, length-replicate}
@@ -16,8 +16,9 @@ use Rattle.diskette.specs.Laws.Kinds.{OfKnown, NamedBy, named-is}
 use Rattle.diskette.specs.declared.Kind.{Kind}
 use Rattle.diskette.specs.declared.WhichKind.{WhichKind}
 use Rattle.diskette.specs.declared.WhichKind.the-variants.{Known, Unknown}
+use Rattle.calls.specs.Outcome.{Outcome, outcome}
 use Rattle.calls.specs.Numbers.{ofNoKind}
-use Rattle.formatting.specs.Format.{tableHead, blank, AfterFormat, afterFormat, formattedAs, formatted, Formatted}
+use Rattle.formatting.specs.Format.{tableHead, blank, formattedAs, formatted, Formatted}
 
 -- ---- the kind
 
@@ -57,7 +58,7 @@ blank-made k l l₁ l₂ l₃ l₄ d c u e p q x₁ x₂ x₃ x₄ =
 -- ---- the outcome: r is what the number names
 
 module _ (kind : ℕ) (l : List ℕ) (r : WhichKind) (p : r ≡ named kind) where
-  formatted-by : (n : ℕ) (m : List ℕ) → afterFormat n m ≡ formattedAs r l → Formatted l kind n m
+  formatted-by : (n : ℕ) (m : List ℕ) → outcome n 0 m [] [] ≡ formattedAs r l → Formatted l kind n m
   unfolding formatted
   formatted-by n m h = record { is = h ∙ ap (λ w. formattedAs w l) p }
 
@@ -75,15 +76,15 @@ module _ (kind : ℕ) (l : List ℕ) (r : WhichKind) (p : r ≡ named kind) wher
 
 module _ (kind : ℕ) (img : List ℕ) where
   module _ (k : Kind) (q : named kind ≡ Known k) where
-    pub format-makes : length img ≡ 512 * k .sectors → formatted kind img ≡ afterFormat 0 (blank k)
+    pub format-makes : length img ≡ 512 * k .sectors → formatted kind img ≡ outcome 0 0 (blank k) [] []
     unfolding formatted
     format-makes e = rw (q, eq-eqb (length img) (512 * k .sectors) e)
 
-    pub format-wrong-length : length img ≢ 512 * k .sectors → formatted kind img ≡ afterFormat ofNoKind img
+    pub format-wrong-length : length img ≢ 512 * k .sectors → formatted kind img ≡ outcome ofNoKind 0 img [] []
     unfolding formatted
     format-wrong-length d = rw (q, ne-eqb (length img) (512 * k .sectors) d)
 
-  pub format-unknown : named kind ≡ Unknown → formatted kind img ≡ afterFormat ofNoKind img
+  pub format-unknown : named kind ≡ Unknown → formatted kind img ≡ outcome ofNoKind 0 img [] []
   unfolding formatted
   format-unknown q = rw q
 
@@ -97,14 +98,14 @@ pub format-made : (img : List ℕ) (kind : ℕ) (after : List ℕ) → Formatted
 unfolding formatted
 format-made img kind after s = by (named kind) (named-is kind) (s .is)
   where
-    by : (w : WhichKind) → OfKnown (NamedBy kind) w → afterFormat 0 after ≡ formattedAs w img → (k : Kind) × Made kind img after k
+    by : (w : WhichKind) → OfKnown (NamedBy kind) w → outcome 0 0 after [] [] ≡ formattedAs w img → (k : Kind) × Made kind img after k
     by (Known k) n e = elim (ℕ-discrete (length img) (512 * k .sectors)) [
-      | yes l ↦ (k, record { listed = n; long = l; whole = ap (λ (o : AfterFormat). o .image) (rw (eq-eqb (length img) (512 * k .sectors) l) at e) })
-      | no d ↦ absurd (let z : 0 ≡ ofNoKind = ap (λ (o : AfterFormat). o .number) (rw (ne-eqb (length img) (512 * k .sectors) d) at e) in omega arith)
+      | yes l ↦ (k, record { listed = n; long = l; whole = ap (λ (o : Outcome). o .image) (rw (eq-eqb (length img) (512 * k .sectors) l) at e) })
+      | no d ↦ absurd (let z : 0 ≡ ofNoKind = ap (λ (o : Outcome). o .number) (rw (ne-eqb (length img) (512 * k .sectors) d) at e) in omega arith)
     ]
-    by Unknown n e = absurd (let z : 0 ≡ ofNoKind = ap (λ (o : AfterFormat). o .number) e in omega arith)
+    by Unknown n e = absurd (let z : 0 ≡ ofNoKind = ap (λ (o : Outcome). o .number) e in omega arith)
 
 -- ---- no second outcome satisfies the contract
 
 pub formatted-only : (img : List ℕ) (kind m n : ℕ) (x y : List ℕ) → Formatted img kind m x → Formatted img kind n y → (m ≡ n) × (x ≡ y)
-formatted-only img kind m n x y s t = let e = s .is ∙ sym (t .is) in (ap (λ (o : AfterFormat). o .number) e, ap (λ (o : AfterFormat). o .image) e)
+formatted-only img kind m n x y s t = let e = s .is ∙ sym (t .is) in (ap (λ (o : Outcome). o .number) e, ap (λ (o : Outcome). o .image) e)

@@ -7,7 +7,7 @@ use Rattle.diskette.specs.Places.{rootAt, rootEntries}
 use Rattle.names.specs.Reading.{nameGiven}
 use Rattle.stamps.specs.Stamps.{packed}
 use Rattle.stamps.specs.declared.Stamp.{Stamp}
-use Rattle.opened.specs.Places.{holdsFile}
+use Rattle.opened.specs.Aids.Places.{holdsFile}
 use Rattle.opened.specs.Records.{placeCount, usedOf, slotOf, accessOf}
 use Rattle.calls.specs.Outcome.{Outcome, outcome}
 use Rattle.calls.specs.Refusals.{theKind, noFile}

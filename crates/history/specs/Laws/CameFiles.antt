@@ -24,13 +24,13 @@ use Rattle.stamps.specs.declared.Packed.{Packed}
 use Rattle.stamps.specs.declared.Packed.the-variants.{Words, OutOfRange}
 use Rattle.opened.specs.Records.{slotOf, pointerOf}
 use Rattle.calls.specs.Outcome.{Outcome, refusal}
-use Rattle.calls.specs.Refusals.{placeFound, noFile, fileSlot, slotForNew, isOut}
+use Rattle.calls.specs.Refusals.{placeFound, noFile, fileSlot, slotForNew}
 use Rattle.calls.specs.Laws.Ready.{on-kind}
 use Rattle.creating.specs.Create.{made, createRows, createEffect, createOutcome}
 use Rattle.deleting.specs.Delete.{erasedIn, deleteRows, deleteEffect, deleteOutcome}
 use Rattle.freeing.specs.Freed.{chainFreed}
 use Rattle.putting.specs.Written.{writtenIn}
-use Rattle.writing.specs.Write.{writeCount, writeRows, writeEffect, writeOutcome, writeAt}
+use Rattle.writing.specs.Write.{writeCount, writeRows, writeEffect, writeOutcome}
 use Rattle.changes.specs.Aids.Changed.{SlotChanged}
 use Rattle.changes.specs.Files.{File, file, Holds, ShowsAt}
 use Rattle.changes.specs.Laws.Made.{empty-changed, empty-holds, empty-bytes, new-changed, new-holds, new-bytes}
@@ -75,7 +75,7 @@ module _ (k : Kind) (w : World) (b : Begins k w) where
   -- ---- write
 
   pub came-write : (h : ℕ) (bs : List ℕ) → Bytes bs → Came k w (write h bs)
-  unfolding writeOutcome writeAt
+  unfolding writeOutcome writeEffect
   came-write h bs given = came-by k w (write h bs) (writeRows l t h) (writeEffect l t h bs) [] refl by
     where
       by : refusal (writeRows l t h) ≡ 0 → ours (write h bs) w ≡ writeEffect l t h bs → Came k w (write h bs)
@@ -134,7 +134,7 @@ module _ (k : Kind) (w : World) (b : Begins k w) where
     unfolding slotForNew
     well missing q OutOfRange pe rows e =
         let row = passed-row (createRows l t given attr stamp) refl rows in
-        absurd (let y : isOut OutOfRange ≡ false = rw pe at (row 3) in let z : _≡_ {A = ℕ} 0 1 = cc in omega arith)
+        absurd (let y : true ≡ false = rw pe at (row 3) in let z : _≡_ {A = ℕ} 0 1 = cc in omega arith)
     well true q (Words time date) pe rows e =
         let row = passed-row (createRows l t given attr stamp) refl rows in
         let fits = good-name given (row 2) in

@@ -17,7 +17,7 @@ use Rattle.stamps.specs.declared.Packed.{Packed}
 use Rattle.stamps.specs.declared.Packed.the-variants.{Words, OutOfRange}
 use Rattle.opened.specs.Records.{slotOf, writtenOf}
 use Rattle.calls.specs.Outcome.{Outcome, refusal}
-use Rattle.calls.specs.Refusals.{noFile, fileSlot, badAttr, isOut}
+use Rattle.calls.specs.Refusals.{noFile, fileSlot, badAttr}
 use Rattle.calls.specs.Laws.Ready.{on-kind}
 use Rattle.closing.specs.Close.{archived, stamped, closeRows, closeEffect, closeOutcome}
 use Rattle.marking.specs.Mode.{modeRows, modeEffect, modeOutcome}
@@ -106,7 +106,7 @@ module _ (k : Kind) (w : World) (b : Begins k w) where
           (ap (λ (o : Outcome). o .image) e ∙ rw q) (λ f g. rw q (λ z. z, λ z. z))
       by true q OutOfRange pe rows e =
           let row = passed-row (closeRows l t h stamp) refl rows in
-          absurd (let y : isOut OutOfRange ≡ false = rw pe at (row 2) in let z : _≡_ {A = ℕ} 0 1 = cc in omega arith)
+          absurd (let y : true ≡ false = rw pe at (row 2) in let z : _≡_ {A = ℕ} 0 1 = cc in omega arith)
       by true q (Words time date) pe rows e =
           let row = passed-row (closeRows l t h stamp) refl rows in
           let s = slotOf t h in

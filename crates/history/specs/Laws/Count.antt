@@ -11,7 +11,7 @@ use Rattle.diskette.specs.declared.Kind.{Kind}
 use Rattle.calls.specs.Aids.Ready.{OnVolume}
 use Rattle.sound.specs.Files.{IsFile}
 use Rattle.putting.specs.Aids.Put.{CanPut}
-use Rattle.writing.specs.Write.{writeCount, accepted, roomOf}
+use Rattle.writing.specs.Write.{writeCount, roomOf}
 use Rattle.writing.specs.Laws.Write.{count-within, count-reaches}
 
 pub bytes-take : (n : ℕ) (bs : List ℕ) → Bytes bs → Bytes (take n bs)
@@ -40,5 +40,4 @@ module _ (k : Kind) (l : List ℕ) (s pointer n : ℕ) where
   -- the last byte lies past the room, and what is written above 0 fills it to the end
   pub write-short : writeCount k l s pointer n < n
       → (roomOf k l s < pointer + n) × (0 < writeCount k l s pointer n → pointer + writeCount k l s pointer n ≡ roomOf k l s)
-  unfolding accepted
   write-short h = (omega arith, λ some. omega arith)

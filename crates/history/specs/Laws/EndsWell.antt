@@ -29,7 +29,7 @@ use Rattle.calls.specs.Laws.Ready.{on-kind}
 use Rattle.creating.specs.Create.{made, createOutcome}
 use Rattle.closing.specs.Close.{closeEffect, closeOutcome}
 use Rattle.putting.specs.Written.{writtenIn}
-use Rattle.writing.specs.Write.{writeCount, writeOutcome, writeAt, accepted, roomOf}
+use Rattle.writing.specs.Write.{writeCount, writeEffect, writeOutcome, roomOf}
 use Rattle.history.specs.World.{World, ours, create, write, close}
 
 -- the one place of the table is taken for the file in slot n
@@ -94,12 +94,12 @@ module _ (k : Kind) (w : World) (v : OnVolume (w .image) k) where
       })))
 
   pub count-all : (n length : ℕ) → length ≤ freeOf k l * clusterBytes k → writeCount k l n 0 length ≡ length
-  unfolding accepted roomOf
+  unfolding roomOf
   count-all n length h = omega arith
 
   pub write-well : (n : ℕ) → TakenFor t n 0 false → IsFile k l n → (bs : List ℕ) → 0 < length bs → length bs ≤ freeOf k l * clusterBytes k
       → ours (write 0 bs) w ≡ outcome 0 (length bs) (writtenIn k l n 0 (take (length bs) bs)) (withWritten (withPointer t 0 (length bs)) 0) []
-  unfolding writeOutcome writeAt decided refusal
+  unfolding writeOutcome writeEffect decided refusal
   write-well n x i bs some room =
       let z : 0 + length bs ≡ length bs = omega arith in
       rw (

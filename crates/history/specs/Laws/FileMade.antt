@@ -2,7 +2,7 @@
 use Prim.Native.Nat.{ℕ, _+_, _-_, _≤_, _<_}
 use native.Mathlib.Omega.{arith}
 use native.Mathlib.Decide.{ℕ-discrete}
-use mathlib.Core.Bool.{Bool, true, false}
+use mathlib.Core.Bool.{Bool, true, false, not}
 use mathlib.Core.List.{List, [], _∷_}
 use mathlib.Core.Logic.{_≢_, inr}
 use mathlib.Core.Option.{Option, none, some}
@@ -21,13 +21,15 @@ use Rattle.fields.specs.Fields.{timeOf, dateOf}
 use Rattle.names.specs.Reading.{nameGiven}
 use Rattle.stamps.specs.declared.Stamp.{Stamp}
 use Rattle.stamps.specs.declared.Packed.the-variants.{Words}
+use Rattle.search.specs.Search.{isFound}
+use Rattle.search.specs.declared.Found.{Found}
 use Rattle.search.specs.declared.Found.the-variants.{At, Nothing}
 use Rattle.sound.specs.Counts.{freeOf, asideOf}
 use Rattle.sound.specs.Files.{IsFile}
 use Rattle.opened.specs.Places.{lowestUnused}
 use Rattle.opened.specs.Records.{withRecord, withPointer, withWritten, cleared}
 use Rattle.calls.specs.Outcome.{Outcome, outcome}
-use Rattle.calls.specs.Refusals.{isNothing, placeFound, fileFound, slotForNew}
+use Rattle.calls.specs.Refusals.{placeFound, fileFound, slotForNew}
 use Rattle.calls.specs.Laws.Ready.{on-kind, on-usable}
 use Rattle.calls.specs.Laws.Files.{slot-within}
 use Rattle.closing.specs.Close.{archived, stamped, closeEffect}
@@ -108,7 +110,7 @@ module _ (k : Kind) (w : World) (fs : Files) (n free : ℕ) (x : HasFiles k w fs
 
   created-new : IsForNew k (w .image) s n
   created-new = subst (IsForNew k (w .image) s) (ap placeFound lowest)
-      (for-new k (w .image) (on (x .stands .begins)) s (g .fits) (ap isNothing none-named) (ap isNothing lowest))
+      (for-new k (w .image) (on (x .stands .begins)) s (g .fits) (ap (λ (f : Found). not (isFound f)) none-named) (ap (λ (f : Found). not (isFound f)) lowest))
 
   makes-created : Makes k w (create s attr stamp) n fs (put-file attr [])
   makes-created = record {

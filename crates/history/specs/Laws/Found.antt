@@ -1,13 +1,13 @@
 -- What rows that were passed say of the name, the file, the slot or the place that a call goes on with.
 use Prim.Native.Nat.{ℕ, _<_}
-use mathlib.Core.Bool.{true, false}
+use mathlib.Core.Bool.{true, false, not}
 use mathlib.Core.List.{List}
 use mathlib.Core.Path.{_≡_, refl, sym, _∙_, subst}
 use borrow.Author.Tests.{not-false}
 use Rattle.chains.specs.Laws.Tests.{clash}
 use Rattle.diskette.specs.Places.{rootAt, rootEntries, slotAt}
 use Rattle.diskette.specs.declared.Kind.{Kind}
-use Rattle.search.specs.Search.{LowestBelow, Answers}
+use Rattle.search.specs.Search.{isFound, LowestBelow, Answers}
 use Rattle.search.specs.declared.Found.{Found}
 use Rattle.search.specs.declared.Found.the-variants.{At, Nothing}
 use Rattle.directory.specs.Search.{lowestVacant, slotNamed}
@@ -18,7 +18,7 @@ use Rattle.opened.specs.Places.{LivePlace}
 use Rattle.opened.specs.Records.{placeCount, slotOf}
 use Rattle.opened.specs.Laws.Places.{live-is}
 use Rattle.calls.specs.Aids.Ready.{OnVolume}
-use Rattle.calls.specs.Refusals.{isNothing, placeFound, theKind, badName, fileFound, noFile, fileSlot, notLive, noPlace, freePlace, slotForNew}
+use Rattle.calls.specs.Refusals.{placeFound, theKind, badName, fileFound, noFile, fileSlot, notLive, noPlace, freePlace, slotForNew}
 use Rattle.calls.specs.Laws.Files.{found-is, named-fits, unused-below}
 use Rattle.calls.specs.Laws.Ready.{on-kind}
 use Rattle.sound.specs.Files.{IsFile}
@@ -27,11 +27,11 @@ use Rattle.holding.specs.Laws.Found.{named-file}
 pub good-name : (s : List ℕ) → badName s ≡ false → nameGiven s .fits ≡ true
 good-name s e = not-false (nameGiven s .fits) e
 
-pub found-at : (f : Found) → isNothing f ≡ false → f ≡ At (placeFound f)
+pub found-at : (f : Found) → not (isFound f) ≡ false → f ≡ At (placeFound f)
 found-at (At i) e = refl
 found-at Nothing e = absurd (clash refl e)
 
-found-nothing : (f : Found) → isNothing f ≡ true → f ≡ Nothing
+found-nothing : (f : Found) → not (isFound f) ≡ true → f ≡ Nothing
 found-nothing (At i) e = absurd (clash e refl)
 found-nothing Nothing e = refl
 
@@ -70,7 +70,7 @@ module _ (k : Kind) (l : List ℕ) (v : OnVolume l k) where
   live-there t h e = let x = live-at t h e in record { below = rw (← on-kind l k v) (x .slot); plain = rw (← on-kind l k v) (x .plain) }
 
   -- the slot that a new file takes: below the root's count, and open
-  pub new-slot : isNothing (slotForNew l) ≡ false → LowestBelow (λ (i : ℕ). VacantAt l (slotAt k i)) (rootEntries k) (placeFound (slotForNew l))
+  pub new-slot : not (isFound (slotForNew l)) ≡ false → LowestBelow (λ (i : ℕ). VacantAt l (slotAt k i)) (rootEntries k) (placeFound (slotForNew l))
   unfolding slotForNew
   new-slot e =
       let same : slotForNew l ≡ lowestVacant l (rootAt k) (rootEntries k) = rw (on-kind l k v) refl in

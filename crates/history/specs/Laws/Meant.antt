@@ -1,12 +1,12 @@
 -- The file that a call names: that there is one, by the rows that were passed, and that there is no second.
 use Prim.Native.Nat.{ℕ}
-use mathlib.Core.Bool.{true, false}
+use mathlib.Core.Bool.{true, false, not}
 use mathlib.Core.List.{List}
 use mathlib.Core.Logic.{_↔_}
 use mathlib.Core.Path.{_≡_, refl, sym, subst}
 use Rattle.diskette.specs.Places.{rootAt, rootEntries, slotAt}
 use Rattle.diskette.specs.declared.Kind.{Kind}
-use Rattle.search.specs.Search.{Answers}
+use Rattle.search.specs.Search.{isFound, Answers}
 use Rattle.search.specs.declared.Found.{Found}
 use Rattle.search.specs.declared.Found.the-variants.{At, Nothing}
 use Rattle.fields.specs.Fields.{nameOf}
@@ -18,7 +18,7 @@ use Rattle.names.specs.Spelling.{Means}
 use Rattle.names.specs.Laws.Meaning.{accepted}
 use Rattle.names.specs.Laws.Proper.{proper}
 use Rattle.calls.specs.Aids.Ready.{OnVolume}
-use Rattle.calls.specs.Refusals.{isNothing, placeFound, badName, noFile, fileSlot, notLive, slotForNew}
+use Rattle.calls.specs.Refusals.{placeFound, badName, noFile, fileSlot, notLive, slotForNew}
 use Rattle.calls.specs.Laws.Files.{root-within}
 use Rattle.calls.specs.Laws.Ready.{on-kind}
 use Rattle.opened.specs.Places.{LivePlace}
@@ -60,7 +60,7 @@ module _ (k : Kind) (l : List ℕ) (v : OnVolume l k) (name : List ℕ) (fits : 
   pub no-name : noFile l name ≡ true → (s : ℕ) → ¬ HasName k l name s
   no-name none s x = searched Nothing (no-file-found k l v name none) s (x .is-file .below) (x .is-file .plain, sym (meant-is (x .meant)))
 
-  pub for-new : noFile l name ≡ true → isNothing (slotForNew l) ≡ false → IsForNew k l name (placeFound (slotForNew l))
+  pub for-new : noFile l name ≡ true → not (isFound (slotForNew l)) ≡ false → IsForNew k l name (placeFound (slotForNew l))
   for-new none room = record { good = (nameGiven name .name, means name fits); new = no-name none; lowest = new-slot k l v room }
 
 pub reaches : (k : Kind) (w : World) → OnVolume (w .image) k → (h : ℕ) → notLive (w .image) (w .table) h ≡ false

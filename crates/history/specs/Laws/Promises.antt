@@ -13,7 +13,7 @@ use Rattle.sound.specs.Counts.{freeOf, heldOf, asideOf}
 use Rattle.sound.specs.Laws.Total.{total}
 use Rattle.calls.specs.Outcome.{Outcome}
 use Rattle.calls.specs.Laws.Ready.{on-kind, on-usable}
-use Rattle.writing.specs.Write.{writeCount, writeRows, writeEffect, writeOutcome, writeAt, roomOf}
+use Rattle.writing.specs.Write.{writeCount, writeRows, writeEffect, writeOutcome, roomOf}
 use Rattle.writing.specs.Laws.Write.{count-within}
 use Rattle.history.specs.Aids.Ours.{run}
 use Rattle.history.specs.Promises.{Begins, SoundAfterEach, FilesOfHistory, NamesAFile, AltersNoOther, TotalAfterEach, ShortOnlyWhereFull}
@@ -51,7 +51,7 @@ total-after-each k w b cs g = total-of k (run w cs) (begins-run k cs w b g)
 -- as many bytes as the room allows
 counted : (k : Kind) (w : World) → Begins k w → (h : ℕ) (bs : List ℕ) → ours (write h bs) w .number ≡ 0
     → ours (write h bs) w .value ≡ writeCount k (w .image) (slotOf (w .table) h) (pointerOf (w .table) h) (length bs)
-unfolding writeOutcome writeAt
+unfolding writeOutcome writeEffect
 counted k w b h bs well =
     let l = w .image in
     let t = w .table in

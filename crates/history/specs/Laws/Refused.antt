@@ -23,8 +23,8 @@ use Rattle.renaming.specs.Rename.{renameEffect, renameOutcome}
 use Rattle.reading.specs.Read.{readRows, readEffect, readOutcome}
 use Rattle.creating.specs.Create.{createEffect, createOutcome, madeBy}
 use Rattle.deleting.specs.Delete.{deleteEffect, deleteOutcome}
-use Rattle.opened.specs.Records.{pointerOf}
-use Rattle.writing.specs.Write.{writeCount, writeEffect, writeOutcome, writeAt}
+use Rattle.opened.specs.Records.{slotOf, pointerOf}
+use Rattle.writing.specs.Write.{writeCount, writeEffect, writeOutcome}
 use Rattle.history.specs.Promises.{RefusalsLeaveAll, RefusedReadsLeaveBuffer}
 use Rattle.history.specs.World.{World, world, ours, look, openFile, create, read, write, seek, close, delete, rename, mode}
 use Rattle.history.specs.Laws.Looks.{looks-alter-nothing}
@@ -48,9 +48,9 @@ well-create l t s attr stamp =
     well-made (noFile l s) l (chainFreed (theKind l) l (fileSlot l s)) t (theKind l) (placeFound (slotForNew l)) (fileSlot l s)
     (nameGiven s .name) attr (packed stamp)
 
-well-write : (k : Kind) (l t : List ℕ) (slot h : ℕ) (bs : List ℕ) → writeAt k l t slot h bs .number ≡ 0
-unfolding writeAt
-well-write k l t slot h bs = well-either (eqb (writeCount k l slot (pointerOf t h) (length bs)) 0) (outcome 0 0 l t []) _ refl refl
+well-write : (l t : List ℕ) (h : ℕ) (bs : List ℕ) → writeEffect l t h bs .number ≡ 0
+unfolding writeEffect
+well-write l t h bs = well-either (eqb (writeCount (theKind l) l (slotOf t h) (pointerOf t h) (length bs)) 0) (outcome 0 0 l t []) _ refl refl
 
 both : {w : World} {l t : List ℕ} → (l ≡ w .image) × (t ≡ w .table) → world l t ≡ w
 both e = ap₂ world (e .0) (e .1)
@@ -62,7 +62,7 @@ refusals-leave-all w (openFile name access) n = both (refused-leaves _ (openEffe
 refusals-leave-all w (create name attr stamp) n =
     both (refused-leaves _ (createEffect (w .image) (w .table) name attr stamp) _ _ _ (well-create (w .image) (w .table) name attr stamp) n)
 refusals-leave-all w (read h buffer) n = both (refused-leaves _ (readEffect (w .image) (w .table) h buffer) _ _ _ refl n)
-refusals-leave-all w (write h bs) n = both (refused-leaves _ (writeEffect (w .image) (w .table) h bs) _ _ _ (well-write _ _ _ _ _ _) n)
+refusals-leave-all w (write h bs) n = both (refused-leaves _ (writeEffect (w .image) (w .table) h bs) _ _ _ (well-write _ _ _ _) n)
 refusals-leave-all w (seek h method offset) n = both (refused-leaves _ (seekEffect (w .image) (w .table) h method offset) _ _ _ refl n)
 refusals-leave-all w (close h stamp) n = both (refused-leaves _ (closeEffect (w .image) (w .table) h stamp) _ _ _ refl n)
 refusals-leave-all w (delete name) n = both (refused-leaves _ (deleteEffect (w .image) (w .table) name) _ _ _ refl n)

@@ -2,7 +2,7 @@
 use Prim.Native.Nat.{ℕ, _+_, _≤_, _<_}
 use native.Mathlib.Omega.{arith}
 use native.Mathlib.Decide.{ℕ-discrete}
-use mathlib.Core.Bool.{Bool, true, false, cond, _&&_}
+use mathlib.Core.Bool.{Bool, true, false, cond, not, _&&_}
 use mathlib.Core.List.{List, []}
 use mathlib.Core.Logic.{_⊎_, _≢_, inl, inr}
 use mathlib.Core.Path.{_≡_, refl, sym, ap, _∙_, subst}
@@ -16,7 +16,7 @@ use Rattle.fields.specs.Fields.{sizeOf}
 use Rattle.names.specs.Reading.{nameGiven}
 use Rattle.offset.specs.Offset.{asPointer, movedBy}
 use Rattle.offset.specs.declared.Moved.the-variants.{To, Beyond}
-use Rattle.search.specs.Search.{LowestBelow, Answers}
+use Rattle.search.specs.Search.{isFound, LowestBelow, Answers}
 use Rattle.stamps.specs.Stamps.{packed}
 use Rattle.stamps.specs.declared.Packed.{Packed}
 use Rattle.stamps.specs.declared.Packed.the-variants.{Words, OutOfRange}
@@ -26,7 +26,7 @@ use Rattle.opened.specs.Records.{placeCount, usedOf, slotOf, pointerOf, withRec
 use Rattle.opened.specs.Laws.Places.{unused-answers}
 use Rattle.calls.specs.Outcome.{Row, Outcome, refusal, decided}
 use Rattle.calls.specs.Aids.Ready.{OnVolume}
-use Rattle.calls.specs.Refusals.{isNothing, placeFound, theKind, noFile, fileSlot, noPlace, freePlace, slotForNew}
+use Rattle.calls.specs.Refusals.{placeFound, theKind, noFile, fileSlot, noPlace, freePlace, slotForNew}
 use Rattle.calls.specs.Laws.Ready.{on-kind}
 use Rattle.sound.specs.Files.{IsFile}
 use Rattle.freeing.specs.Freed.{chainFreed}
@@ -39,7 +39,7 @@ use Rattle.reading.specs.Read.{readRows, readEffect, readOutcome}
 use Rattle.renaming.specs.Rename.{renameRows, renameEffect, renameOutcome}
 use Rattle.marking.specs.Mode.{modeRows, modeEffect, modeOutcome}
 use Rattle.putting.specs.Laws.Room.{room-own, room-fits}
-use Rattle.writing.specs.Write.{writeCount, writeRows, writeEffect, writeOutcome, writeAt}
+use Rattle.writing.specs.Write.{writeCount, writeRows, writeEffect, writeOutcome}
 use Rattle.writing.specs.Laws.Write.{pointer-fits}
 use Rattle.history.specs.Meant.{Names}
 use Rattle.history.specs.World.{World, Call, ours, openFile, create, read, write, seek, close, delete, rename, mode}
@@ -142,7 +142,7 @@ module _ (k : Kind) (w : World) (v : OnVolume (w .image) k) where
         let x = well-is (createRows l t name attr stamp) (createEffect l t name attr stamp) l t [] well in
         let row = passed-row (createRows l t name attr stamp) refl (x .0) in
         let fits = good-name name (row 2) in
-        let found : (noFile l name && isNothing (slotForNew l)) ≡ false = row 7 in
+        let found : (noFile l name && not (isFound (slotForNew l))) ≡ false = row 7 in
         subst Makes (sym (x .1)) (either (noFile l name) _ _
         (λ e. made-took l (theKind l) (placeFound (slotForNew l))
         (inr (for-new k l v name fits e (rw e at found))) (row 8) (packed stamp))
@@ -166,7 +166,7 @@ module _ (k : Kind) (w : World) (v : OnVolume (w .image) k) where
       → ((ours (write h bs) w .value ≡ 0) × (ours (write h bs) w .table ≡ t))
       ⊎ ((m : List ℕ) × (ours (write h bs) w .value ≢ 0) × (ours (write h bs) w .table ≡ withWritten m h)
       × Pointed t h (pointerOf t h + ours (write h bs) w .value) m)
-  unfolding writeOutcome writeAt
+  unfolding writeOutcome writeEffect
   write-pointed h bs well =
       let x = well-is (writeRows l t h) (writeEffect l t h bs) l t [] well in
       let live = passed-row (writeRows l t h) refl (x .0) 2 in

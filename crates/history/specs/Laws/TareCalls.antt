@@ -20,11 +20,12 @@ use Rattle.stamps.specs.Stamps.{packed}
 use Rattle.stamps.specs.declared.Stamp.{Stamp}
 use Rattle.stamps.specs.declared.Packed.{Packed}
 use Rattle.stamps.specs.declared.Packed.the-variants.{Words, OutOfRange}
+use Rattle.search.specs.Search.{isFound}
 use Rattle.opened.specs.Records.{slotOf, pointerOf, accessOf}
 use Rattle.sound.specs.Files.{IsFile}
 use Rattle.calls.specs.Outcome.{Row, Outcome, refusal, decided}
 use Rattle.calls.specs.Aids.Ready.{OnVolume}
-use Rattle.calls.specs.Refusals.{isNothing, placeFound, theKind, badName, noFile, fileSlot, readOnly, notLive, noPlace, freePlace, slotForNew}
+use Rattle.calls.specs.Refusals.{placeFound, theKind, badName, noFile, fileSlot, readOnly, notLive, noPlace, freePlace, slotForNew}
 use Rattle.calls.specs.Laws.Ready.{on-usable}
 use Rattle.creating.specs.Create.{made, madeBy, createRows, createEffect, createOutcome}
 use Rattle.deleting.specs.Delete.{deleteRows, deleteEffect, deleteOutcome}
@@ -35,7 +36,7 @@ use Rattle.closing.specs.Close.{closeRows, closeEffect, closeOutcome}
 use Rattle.opening.specs.Open.{openRows, openEffect, openOutcome}
 use Rattle.seeking.specs.Seek.{seekRows, seekEffect, seekOutcome}
 use Rattle.reading.specs.Read.{readRows, readEffect, readOutcome}
-use Rattle.writing.specs.Write.{writeCount, writeRows, writeAt, writeEffect, writeOutcome}
+use Rattle.writing.specs.Write.{writeCount, writeRows, writeEffect, writeOutcome}
 use Rattle.history.specs.Meant.{HasName, Names}
 use Rattle.history.specs.World.{World, Call, ours, openFile, create, read, write, seek, close, delete, rename, mode}
 use Rattle.history.specs.Laws.Found.{good-name, place-counts, named-small, live-at, new-slot}
@@ -164,7 +165,7 @@ module _ (k : Kind) (w : World) (v : OnVolume (w .image) k) (s : ℕ) (g : Guard
   reads-only h e q = let live = live-at k l v t h e in g .places h (live .counted) (record { used = live .used; names = q })
 
   pub write-spares : (h : ℕ) (bs : List ℕ) → Spared (write h bs)
-  unfolding writeOutcome writeAt
+  unfolding writeOutcome writeEffect
   write-spares h bs = decided-spares k w s (write h bs) (writeRows l t h) (writeEffect l t h bs) [] (g .places) (λ p.
       let row = passed-row (writeRows l t h) refl p in
       let other : ¬ (slotOf t h ≡ s) = λ q. eqb-false (accessOf t h) 0 (row 3) (reads-only h (row 2) q .access) in
@@ -200,10 +201,10 @@ module _ (k : Kind) (w : World) (v : OnVolume (w .image) k) (s : ℕ) (g : Guard
       made-by-spares (Words time date) = made-spares time date
       made-by-spares OutOfRange = made-spares 0 0
 
-    new-small : isNothing (slotForNew l) ≡ false → placeFound (slotForNew l) < 4294967296
+    new-small : not (isFound (slotForNew l)) ≡ false → placeFound (slotForNew l) < 4294967296
     new-small e = omega (arith, new-slot k l v e .below, on-usable l k v .few-slots)
 
-    new-other : isNothing (slotForNew l) ≡ false → ¬ (s ≡ placeFound (slotForNew l))
+    new-other : not (isFound (slotForNew l)) ≡ false → ¬ (s ≡ placeFound (slotForNew l))
     new-other e q = elim (subst (λ (n : ℕ). VacantAt l (slotAt k n)) (sym q) (new-slot k l v e .passes)) [
       | inl z ↦ g .is-file .plain .0 .1 z
       | inr z ↦ g .is-file .plain .0 .0 z
@@ -216,7 +217,7 @@ module _ (k : Kind) (w : World) (v : OnVolume (w .image) k) (s : ℕ) (g : Guard
         let row = passed-row (createRows l t name attr stamp) refl p in
         let fits = good-name name (row 2) in
         either-spares k w s (create name attr stamp) (noFile l name) _ _
-        (λ e. let found = first-holds (noFile l name) (isNothing (slotForNew l)) (row 7) e in
+        (λ e. let found = first-holds (noFile l name) (not (isFound (slotForNew l))) (row 7) e in
         made-by-spares (placeFound (slotForNew l)) (new-small found) (new-other found) (inr (for-new k l v name fits e found)) (row 8)
         l (theKind l) (packed stamp))
         (λ e. let writable = first-holds (not (noFile l name)) (readOnly l (fileSlot l name)) (row 6) (ap not e) in

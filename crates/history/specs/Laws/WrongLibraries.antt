@@ -2,7 +2,7 @@
 -- slots, and what is given is fit for a new file.
 use Prim.Native.Nat.{ℕ, _<_}
 use native.Mathlib.Omega.{arith}
-use mathlib.Core.Bool.{Bool, true}
+use mathlib.Core.Bool.{Bool, true, not}
 use mathlib.Core.List.{List, []}
 use mathlib.Core.Logic.{_≢_, inl, inr}
 use mathlib.Core.Option.{some}
@@ -16,11 +16,13 @@ use Rattle.fields.specs.Fields.{withEntry}
 use Rattle.directory.specs.Laws.Entries.{fresh}
 use Rattle.directory.specs.Laws.Slots.{plain-is}
 use Rattle.names.specs.Reading.{nameGiven}
+use Rattle.search.specs.Search.{isFound}
+use Rattle.search.specs.declared.Found.{Found}
 use Rattle.search.specs.declared.Found.the-variants.{At, Nothing}
 use Rattle.stamps.specs.declared.Stamp.{Stamp}
 use Rattle.opened.specs.Places.{LivePlace, lowestUnused}
 use Rattle.opened.specs.Records.{usedOf, slotOf, pointerOf}
-use Rattle.calls.specs.Refusals.{isNothing, fileFound}
+use Rattle.calls.specs.Refusals.{fileFound}
 use Rattle.calls.specs.Aids.Ready.{OnVolume}
 use Rattle.calls.specs.Laws.Files.{slot-within}
 use Rattle.calls.specs.Laws.Ready.{on-kind}
@@ -28,7 +30,7 @@ use Rattle.deleting.specs.Delete.{erasedIn}
 use Rattle.freeing.specs.Freed.{chainFreed}
 use Rattle.sound.specs.Files.{IsFile}
 use Rattle.putting.specs.Written.{writtenIn}
-use Rattle.writing.specs.Write.{writeCount, writeAt}
+use Rattle.writing.specs.Write.{writeCount, writeEffect}
 use Rattle.changes.specs.Files.{File, Files, Holds, Shows, ShowsAt}
 use Rattle.changes.specs.Laws.Changed.{changed-on}
 use Rattle.changes.specs.Laws.Emptied.{file-emptied}
@@ -99,7 +101,7 @@ module _ {k : Kind} {w : World} {fs : Files} {f : File} {name : List ℕ} {attr 
   none-named = none-of-name k l v fs shown name (g .long) (g .new-name)
 
   no-file : (s : ℕ) → ¬ HasName k l name s
-  no-file = no-name k l v name (g .fits) (ap isNothing none-named)
+  no-file = no-name k l v name (g .fits) (ap (λ (f : Found). not (isFound f)) none-named)
 
   -- a call that makes the image m, in which slot 0 does not hold f, and does not name slot 0
   spoils : (lib : Library) (c : Call) (m : List ℕ) → Given c → ¬ Names c k u 0 → stepBy lib u c .image ≡ m → ¬ Holds k m 0 f → Spoils lib
@@ -166,7 +168,7 @@ module _ {k : Kind} {w : World} {fs : Files} {f : File} {name : List ℕ} {attr 
     count = count-all k u v 0 (length bs) (rw (x .has .free-are) (g .room))
 
     wrote : (stepBy (writesThrough lets) u (write 0 bs) .image ≡ m) × (writesThrough lets (write 0 bs) u .number ≡ 0)
-    unfolding writeAt
+    unfolding writeEffect
     wrote = rw (passes, at, file-in, on-kind l k v, pointer, count, ne-eqb (length bs) 0 (omega (arith, g .some-bytes))) (refl, refl)
 
     -- the file has other bytes then

@@ -1,12 +1,13 @@
 -- Open over bytes, by the place that is free.
 use Prim.Native.Nat.{ℕ, _<_}
 use native.Mathlib.Omega.{arith}
-use mathlib.Core.Bool.{Bool, true, false, cond, _&&_}
+use mathlib.Core.Bool.{Bool, true, false, cond, not, _&&_}
 use mathlib.Core.List.{List, [], _∷_}
 use mathlib.Core.Path.{_≡_, refl, sym, ap, _∙_}
 use lib.Dec.{eqb, ltb}
 use borrow.Author.Tests.{eqb-true}
 use Rattle.image.specs.Numbers.{number}
+use Rattle.search.specs.Search.{isFound}
 use Rattle.search.specs.declared.Found.{Found}
 use Rattle.search.specs.declared.Found.the-variants.{At, Nothing}
 use Rattle.opened.specs.Records.{placeCount, recordBytes, withRecord}
@@ -14,7 +15,7 @@ use Rattle.opened.specs.Places.{lowestUnused}
 use Rattle.opened.specs.Laws.Stores.{length-record, whole-place, record-only}
 use Rattle.calls.specs.Outcome.{Row, Outcome, outcome, refusal, decided}
 use Rattle.calls.specs.Numbers.{ofNoKind, unsound, invalidAccess, breaksRules, fileNotFound, accessDenied, tooManyOpen}
-use Rattle.calls.specs.Refusals.{isNothing, placeFound, notOfKind, notSound, badName, noFile, fileSlot, readOnly}
+use Rattle.calls.specs.Refusals.{placeFound, notOfKind, notSound, badName, noFile, fileSlot, readOnly}
 use Rattle.calls.specs.Laws.Files.{unused-below, unused-fits}
 use Rattle.opening.specs.Open.{openOutcome}
 use Rattle.records.specs.Row.{recordOf, rowOf, withRecordAt, lowestUnusedIn}
@@ -74,7 +75,7 @@ module _ (img s : List ℕ) (access : ℕ) where
 
   -- the number that it answers
   abbrev pub numberBy : Found → ℕ
-  numberBy f = refusal (rowsBy (isNothing f))
+  numberBy f = refusal (rowsBy (not (isFound f)))
 
   none-refused : 0 < numberBy Nothing
   none-refused =

@@ -12,7 +12,8 @@ use lib.Seq.{set-getD, set-set}
 use borrow.Author.Tests.{lt-ltb, le-ltb, not-false}
 use Rattle.diskette.specs.Places.{rootAt, rootEntries}
 use Rattle.opened.specs.Records.{placeCount}
-use Rattle.opened.specs.Places.{holdsFile, isLive}
+use Rattle.opened.specs.Places.{isLive}
+use Rattle.opened.specs.Aids.Places.{holdsFile}
 use Rattle.opened.specs.Laws.Places.{live-is}
 use Rattle.calls.specs.Outcome.{Row, Outcome, outcome, decided}
 use Rattle.calls.specs.Refusals.{theKind, notLive}

@@ -20,7 +20,7 @@ use Rattle.seeking.specs.Seek.{answerOf, seekBase, seekMoved, isBeyond, seekEff
 use Rattle.closing.specs.Close.{closeEffect, closeOutcome}
 use Rattle.reading.specs.Read.{readCount, readEffect, readOutcome}
 use Rattle.putting.specs.Written.{writtenIn}
-use Rattle.writing.specs.Write.{writeCount, writeAt, writeEffect, writeOutcome}
+use Rattle.writing.specs.Write.{writeCount, writeEffect, writeOutcome}
 use Rattle.records.specs.Row.{unused, recordOf, rowOf, recordAt, withRecordAt}
 use Rattle.records.specs.Seek.{movedTo}
 use Rattle.records.specs.Laws.Alike.{fields-of}
@@ -170,7 +170,7 @@ module _ (t : List ℕ) (h : ℕ) (t′ : List ℕ) (h′ : ℕ) (e : recordAt (
     }
 
     effect-same : Lives → Same t h t′ h′ (writeEffect img t h bs) (writeEffect img t′ h′ bs)
-    unfolding writeAt
+    unfolding writeEffect
     effect-same w =
         let slot = slotOf t′ h′ in
         let pointer = pointerOf t′ h′ in

@@ -12,7 +12,8 @@ use Rattle.diskette.specs.declared.Kind.{Kind}
 use Rattle.fields.specs.Fields.{attrOf, withAttr}
 use Rattle.opened.specs.Places.{isOpen}
 use Rattle.calls.specs.Numbers.{accessDenied}
-use Rattle.calls.specs.Outcome.{Row, Outcome, refusal, decided, refusedBy, answering}
+use Rattle.calls.specs.Outcome.{Row, Outcome, refusal, decided}
+use Rattle.calls.specs.Aids.Answers.{refusedBy, answering}
 use Rattle.calls.specs.Refusals.{badAttr, fileSlot}
 use Rattle.calls.specs.Aids.Ready.{OnVolume}
 use Rattle.calls.specs.Laws.Ready.{on-kind}

@@ -12,8 +12,8 @@ use Rattle.search.specs.declared.Found.the-variants.{At, Nothing}
 use Rattle.directory.specs.Slots.{standingOf, isPlain}
 use Rattle.directory.specs.Laws.Search.{lowest-hit, lowest-miss, lowest-end}
 use Rattle.opened.specs.Records.{placeCount, usedOf, slotOf, accessOf}
-use Rattle.opened.specs.Places.{holdsFile, isLive}
-use Rattle.opened.specs.Aids.Places.{liveSlot, namesSlot, unusedAt}
+use Rattle.opened.specs.Places.{isLive}
+use Rattle.opened.specs.Aids.Places.{liveSlot, holdsFile, namesSlot, unusedAt}
 
 -- ---- searches: what is left goes on from here; b is the test's answer
 

@@ -15,8 +15,8 @@ use Rattle.directory.specs.Slots.{standingOf, isPlain}
 use Rattle.diskette.specs.Places.{slotFrom}
 use Rattle.directory.specs.Laws.Slots.{plain-is}
 use Rattle.opened.specs.Records.{placeCount, usedOf, slotOf, accessOf}
-use Rattle.opened.specs.Places.{LivePlace, holdsFile, isLive, NamesAt, isOpen, lowestUnused}
-use Rattle.opened.specs.Aids.Places.{liveSlot, namesSlot, unusedAt}
+use Rattle.opened.specs.Places.{LivePlace, isLive, NamesAt, isOpen, lowestUnused}
+use Rattle.opened.specs.Aids.Places.{liveSlot, holdsFile, namesSlot, unusedAt}
 
 both : (a b : Bool) → (a && b) ≡ true → (a ≡ true) × (b ≡ true)
 both true b e = (refl, e)

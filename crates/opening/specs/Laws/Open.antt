@@ -10,7 +10,8 @@ use Rattle.search.specs.declared.Found.the-variants.{At}
 use Rattle.opened.specs.Records.{withRecord}
 use Rattle.opened.specs.Places.{lowestUnused}
 use Rattle.calls.specs.Numbers.{accessDenied}
-use Rattle.calls.specs.Outcome.{Row, Outcome, refusal, decided, refusedBy, answering}
+use Rattle.calls.specs.Outcome.{Row, Outcome, refusal, decided}
+use Rattle.calls.specs.Aids.Answers.{refusedBy, answering}
 use Rattle.calls.specs.Refusals.{readOnly, fileSlot}
 use Rattle.calls.specs.Laws.Rows.{Stops, stops-at, stops-past, stopped}
 use Rattle.calls.specs.Laws.Named.{FileNamed}

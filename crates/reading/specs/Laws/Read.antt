@@ -23,7 +23,8 @@ use Rattle.search.specs.declared.Found.the-variants.{At}
 use Rattle.fields.specs.Fields.{startOf, sizeOf}
 use Rattle.opened.specs.Records.{accessOf, pointerOf, withPointer}
 use Rattle.opened.specs.Aids.Places.{liveSlot}
-use Rattle.calls.specs.Outcome.{Row, Outcome, refusal, decided, refusedBy, answering}
+use Rattle.calls.specs.Outcome.{Row, Outcome, refusal, decided}
+use Rattle.calls.specs.Aids.Answers.{refusedBy, answering}
 use Rattle.calls.specs.Numbers.{accessDenied}
 use Rattle.calls.specs.Aids.Ready.{OnVolume}
 use Rattle.holding.specs.Holding.{fileChain, fileBytes}

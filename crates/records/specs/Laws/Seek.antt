@@ -12,7 +12,7 @@ use borrow.Author.Tests.{lt-ltb, le-ltb, eq-eqb, ne-eqb}
 use Rattle.offset.specs.Offset.{movedBy}
 use Rattle.offset.specs.declared.Moved.{Moved}
 use Rattle.offset.specs.declared.Moved.the-variants.{To, Beyond}
-use Rattle.calls.specs.Outcome.{refusedBy, answering}
+use Rattle.calls.specs.Aids.Answers.{refusedBy, answering}
 use Rattle.calls.specs.Numbers.{invalidFunction}
 use Rattle.calls.specs.declared.Answer.{Answer}
 use Rattle.records.specs.declared.OpenRecord.{OpenRecord}

@@ -2,22 +2,22 @@
 use Prim.Native.Nat.{ℕ}
 use mathlib.Core.List.{List, [], _∷_}
 use mathlib.Core.Path.{_≡_}
-use mathlib.Core.Bool.{not}
 use Rattle.diskette.specs.Places.{slotAt, rootAt, rootEntries}
 use Rattle.diskette.specs.declared.Kind.{Kind}
+use Rattle.search.specs.Search.{isFound}
 use Rattle.fields.specs.Fields.{withName}
 use Rattle.directory.specs.Search.{slotNamed}
 use Rattle.opened.specs.Places.{isOpen}
 use Rattle.calls.specs.Outcome.{outcome, decided, Row}
 use Rattle.calls.specs.declared.Answer.{Answer}
 use Rattle.calls.specs.Numbers.{accessDenied}
-use Rattle.calls.specs.Refusals.{readOnly, isNothing}
+use Rattle.calls.specs.Refusals.{readOnly}
 
 abbrev pub lastRows : List ℕ → List ℕ → Kind → ℕ → List ℕ → List Row
 lastRows img t k slot name =
     (isOpen t slot, accessDenied)
     ∷ (readOnly img slot, accessDenied)
-    ∷ (not (isNothing (slotNamed img (rootAt k) (rootEntries k) name)), accessDenied)
+    ∷ (isFound (slotNamed img (rootAt k) (rootEntries k) name), accessDenied)
     ∷ []
 
 pub record RenamesSlot (img t : List ℕ) (k : Kind) (slot : ℕ) (name : List ℕ) (r : Answer) (after : List ℕ) : Type 0 where

@@ -17,7 +17,8 @@ use Rattle.search.specs.declared.Found.the-variants.{At, Nothing}
 use Rattle.fields.specs.Fields.{sizeOf}
 use Rattle.directory.specs.Search.{slotNamed}
 use Rattle.names.specs.declared.Spelled.{Spelled}
-use Rattle.calls.specs.Outcome.{Outcome, refusal, decided, refusedBy, answering}
+use Rattle.calls.specs.Outcome.{Outcome, refusal, decided}
+use Rattle.calls.specs.Aids.Answers.{refusedBy, answering}
 use Rattle.calls.specs.Refusals.{isUnknown, kindFound, theKind, notOfKind, fileFound}
 use Rattle.calls.specs.declared.Answer.{Answer}
 use Rattle.holding.specs.Holding.{fileBytes}

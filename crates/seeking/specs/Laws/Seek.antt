@@ -18,7 +18,8 @@ use Rattle.offset.specs.declared.Moved.{Moved}
 use Rattle.offset.specs.declared.Moved.the-variants.{To, Beyond}
 use Rattle.opened.specs.Records.{slotOf, pointerOf, withPointer}
 use Rattle.opened.specs.Aids.Places.{liveSlot}
-use Rattle.calls.specs.Outcome.{Row, Outcome, refusal, decided, refusedBy, answering}
+use Rattle.calls.specs.Outcome.{Row, Outcome, refusal, decided}
+use Rattle.calls.specs.Aids.Answers.{refusedBy, answering}
 use Rattle.calls.specs.Numbers.{invalidFunction}
 use Rattle.calls.specs.Aids.Ready.{OnVolume}
 use Rattle.seeking.specs.Seek.{seekBase, seekMoved, isBeyond, seekRows, seekOutcome, Seeks}

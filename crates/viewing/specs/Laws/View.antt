@@ -25,8 +25,8 @@ use Rattle.holding.specs.Holding.{fileBytes}
 use Rattle.sound.specs.Files.{IsFile}
 use Rattle.holding.specs.Laws.Clusters.{on-clusters}
 use Rattle.holding.specs.Laws.Chain.{file-holds}
-use Rattle.viewing.specs.View.{viewCount, viewAt, viewPart, viewRows, viewOutcome, Views, ViewNumbers}
-use Rattle.viewing.specs.Aids.View.{Sees, SeesFile}
+use Rattle.viewing.specs.View.{viewCount, viewPart, viewRows, viewOutcome, Views, ViewNumbers}
+use Rattle.viewing.specs.Aids.View.{viewAt, Sees, SeesFile}
 
 pub views-only : {img s : List ℕ} {offset : ℕ} {p q : List ℕ} → Views img s offset p → Views img s offset q → p ≡ q
 views-only x y = x .is ∙ sym (y .is)

@@ -1,5 +1,5 @@
 -- Write: how much is written, and what it refuses, by its rows. Only one outcome fits.
-use Prim.Native.Nat.{ℕ, _+_, _-_, _*_, _≤_, _<_}
+use Prim.Native.Nat.{ℕ, _+_, _-_, _*_, _≤_, _<_, min}
 use native.Mathlib.Omega.{arith}
 use mathlib.Core.List.{List, [], _∷_}
 use mathlib.Core.Logic.{_≢_}
@@ -14,7 +14,8 @@ use Rattle.search.specs.declared.Found.the-variants.{At}
 use Rattle.opened.specs.Records.{accessOf, pointerOf, withPointer, withWritten}
 use Rattle.opened.specs.Aids.Places.{liveSlot}
 use Rattle.sound.specs.Counts.{freeOf}
-use Rattle.calls.specs.Outcome.{Row, Outcome, refusal, decided, refusedBy, answering}
+use Rattle.calls.specs.Outcome.{Row, Outcome, refusal, decided}
+use Rattle.calls.specs.Aids.Answers.{refusedBy, answering}
 use Rattle.calls.specs.Numbers.{accessDenied}
 use Rattle.calls.specs.Aids.Ready.{OnVolume}
 use Rattle.calls.specs.Laws.Rows.{Stops, stops-at, stopped}
@@ -24,8 +25,8 @@ use Rattle.calls.specs.declared.Answer.{Answer}
 use Rattle.holding.specs.Holding.{fileChain}
 use Rattle.sound.specs.Files.{IsFile}
 use Rattle.putting.specs.Written.{writtenIn}
-use Rattle.writing.specs.Write.{writeRows, writeAt, writeOutcome, Writes, accepted, roomOf}
-use Rattle.writing.specs.Aids.Write.{WritesAt}
+use Rattle.writing.specs.Write.{writeRows, writeEffect, writeOutcome, Writes, roomOf}
+use Rattle.writing.specs.Aids.Write.{writeAt, WritesAt}
 use Rattle.putting.specs.Laws.Room.{room-clusters, room-fits}
 
 pub writes-only : {img t : List ℕ} {h : ℕ} {bs : List ℕ} {r r′ : Answer} {l l′ m m′ : List ℕ} → Writes img t h bs r l m → Writes img t h bs r′ l′ m′
@@ -50,26 +51,22 @@ module _ (img : List ℕ) (k : Kind) (v : OnVolume img k) (slot : ℕ) (i : IsFi
 -- ---- the count
 
 module _ (room pointer n : ℕ) where
-  pub none-left : room ≤ pointer → 0 ≡ accepted room pointer n
-  unfolding accepted
+  pub none-left : room ≤ pointer → 0 ≡ min n (room - pointer)
   none-left h = omega arith
 
   module _ (more : pointer < room) where
-    pub all-taken : n < room - pointer → n ≡ accepted room pointer n
-    unfolding accepted
+    pub all-taken : n < room - pointer → n ≡ min n (room - pointer)
     all-taken h = omega arith
 
-    pub some-taken : room - pointer ≤ n → room - pointer ≡ accepted room pointer n
-    unfolding accepted
+    pub some-taken : room - pointer ≤ n → room - pointer ≡ min n (room - pointer)
     some-taken h = omega arith
 
-pub count-within : (room pointer : ℕ) (bs : List ℕ) (n : ℕ) → n ≡ accepted room pointer (length bs) → n ≤ length bs
-unfolding accepted
+pub count-within : (room pointer : ℕ) (bs : List ℕ) (n : ℕ) → n ≡ min (length bs) (room - pointer) → n ≤ length bs
 count-within room pointer bs n e = omega arith
 
-module _ (img : List ℕ) (k : Kind) (slot room pointer many n : ℕ) (er : room ≡ roomOf k img slot) (e : n ≡ accepted room pointer many) (some : n ≢ 0) where
+module _ (img : List ℕ) (k : Kind) (slot room pointer many n : ℕ) (er : room ≡ roomOf k img slot) (e : n ≡ min many (room - pointer)) (some : n ≢ 0) where
   pub count-reaches : pointer + n ≤ (length (fileChain k img slot) + freeOf k img) * clusterBytes k
-  unfolding accepted roomOf
+  unfolding roomOf
   count-reaches = omega arith
 
   module _ (v : OnVolume img k) (i : IsFile k img slot) where
@@ -81,7 +78,7 @@ module _ (img : List ℕ) (k : Kind) (slot room pointer many n : ℕ) (er : room
 
 -- ---- the file in the slot
 
-module _ (k : Kind) (img t : List ℕ) (slot h : ℕ) (bs : List ℕ) (room pointer n : ℕ) (ep : pointer ≡ pointerOf t h) (er : room ≡ roomOf k img slot) (en : n ≡ accepted room pointer (length bs)) where
+module _ (k : Kind) (img t : List ℕ) (slot h : ℕ) (bs : List ℕ) (room pointer n : ℕ) (ep : pointer ≡ pointerOf t h) (er : room ≡ roomOf k img slot) (en : n ≡ min (length bs) (room - pointer)) where
   pub write-none : n ≡ 0 → (a : Answer) → a ≡ answering 0 → WritesAt k img t slot h bs a img t
   unfolding writeAt
   write-none z a x = record { is = rw (x, ← ep, ← er, ← en, eq-eqb n 0 z) }
@@ -99,7 +96,7 @@ module _ (img t : List ℕ) (h : ℕ) (bs : List ℕ) (a : Answer) where
 
   pub write-well : (k : Kind) → OnVolume img k → (f : Found) → f ≡ liveSlot t h img (rootAt k) (rootEntries k) → (slot : ℕ) → f ≡ At slot
       → (access : ℕ) → access ≡ accessOf t h → access ≢ 0 → (l m : List ℕ) → WritesAt k img t slot h bs a l m → Writes img t h bs a l m
-  unfolding writeOutcome decided refusal
+  unfolding writeOutcome writeEffect writeAt decided refusal
   write-well k v f found slot at access has may l m y = record {
     is = rw (known-passed img k v, sound-passed img k v, live-passed img k t h f found slot at v, ← has, ne-eqb access 0 may, on-kind img k v, ← live-slot img k t h f found slot at) (y .is);
   }
