@@ -11,6 +11,7 @@ pub mod Growth
 pub mod Marks
 pub mod Steps
 pub mod Content
+pub mod Write
 pub mod Verdict
 pub mod Findings
 pub mod Check

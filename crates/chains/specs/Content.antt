@@ -11,14 +11,10 @@ clusterBegin base cb c = base + (c - 2) * cb
 unfoldable pub byteAt : ℕ → ℕ → List ℕ → ℕ → ℕ
 byteAt base cb cs p = clusterBegin base cb (getD cs (p / cb) 0) + p % cb
 
--- the bytes of a cluster
-unfoldable pub bytesOfCluster : ℕ → ℕ → List ℕ → ℕ → List ℕ
-bytesOfCluster base cb img c = take cb (drop (clusterBegin base cb c) img)
-
--- the bytes of a chain
+-- the bytes of a chain, cluster by cluster
 unfoldable pub chainBytes : ℕ → ℕ → List ℕ → List ℕ → List ℕ
 chainBytes base cb img [] = []
-chainBytes base cb img (c ∷ cs) = bytesOfCluster base cb img c ++ chainBytes base cb img cs
+chainBytes base cb img (c ∷ cs) = take cb (drop (clusterBegin base cb c) img) ++ chainBytes base cb img cs
 
 -- the bytes of a file of size bytes
 unfoldable pub content : ℕ → ℕ → List ℕ → List ℕ → ℕ → List ℕ

@@ -1,4 +1,3 @@
--- The bytes of a file along its chain, in an image: where they lie, what is read, what is stored. Read Contents.
-pub mod Contents
+-- The bytes of a file along its chain, in an image: where they lie, what is read, what is stored.
 pub mod Aids
 pub mod Laws

@@ -8,8 +8,7 @@ ghost use Rattle.image.specs.Store.{stored, part};
 ghost use Rattle.chains.specs.Aids.Steps.{followed};
 ghost use Rattle.chains.specs.Content.{clusterBegin};
 ghost use Rattle.table.specs.Entries.{wordAt, tableOf};
-ghost use Rattle.contents.specs.Contents.{chainFrom};
-ghost use Rattle.contents.specs.Aids.Contents.{Area, fetched, bytesPut, zerosPut, placeOf};
+ghost use Rattle.contents.specs.Aids.Contents.{chainFrom, Area, fetched, bytesPut, zerosPut, placeOf};
 ghost use Rattle.contents.specs.Aids.Loops.{runOf};
 
 // The cluster that holds byte pos of the chain.

@@ -10,22 +10,14 @@ use Rattle.diskette.specs.Places.{slotFrom}
 use Rattle.fields.specs.Fields.{nameOf}
 use Rattle.directory.specs.Slots.{standingOf, isVacant, isPlain}
 
--- ---- names
-
 -- the n bytes of x and of y from byte i on are the same
 unfoldable pub sameFrom : List ℕ → List ℕ → ℕ → ℕ → Bool
 sameFrom x y i zero = true
 sameFrom x y i (suc n) = eqb (getD x i 0) (getD y i 0) && sameFrom x y (i + 1) n
 
--- two names, compared on all 11 bytes
-unfoldable pub sameName : List ℕ → List ℕ → Bool
-sameName x y = sameFrom x y 0 11
-
--- ---- slots
-
--- the entry at a is the plain file of that name
+-- the entry at a is the plain file of that name, compared on all 11 bytes
 abbrev pub isNamed : List ℕ → ℕ → List ℕ → Bool
-isNamed l a name = isPlain (standingOf l a) && sameName (nameOf l a) name
+isNamed l a name = isPlain (standingOf l a) && sameFrom (nameOf l a) name 0 11
 
 -- the lowest erased or never-used slot
 unfoldable pub lowestVacant : List ℕ → ℕ → ℕ → Found

@@ -5,7 +5,7 @@ ghost use Prim.Native.Nat.{_+_, _*_, _≤_, _<_};
 ghost use lib.ListN.{length};
 ghost use Rattle.fields.specs.Fields.{nameOf};
 ghost use Rattle.directory.specs.Slots.{hasBit, standingBy, standingOf, isVacant, isPlain};
-ghost use Rattle.directory.specs.Search.{sameName, isNamed, lowestVacant, slotNamed};
+ghost use Rattle.directory.specs.Search.{sameFrom, isNamed, lowestVacant, slotNamed};
 
 pub enum Standing {
     NeverUsed,
@@ -89,7 +89,7 @@ pub fn plain_at(img: &[u8], a: usize) -> bool
 // Whether the entry has that name, on all 11 bytes.
 fn same_name(img: &[u8], a: usize, name: [u8; 11]) -> bool
     requires { ⌜ a + 32 ≤ length (now img) ⌝ }
-    ensures { λ r. ⌜ r ≡ sameName (nameOf (now (img .entry)) a) name ⌝ }
+    ensures { λ r. ⌜ r ≡ sameFrom (nameOf (now (img .entry)) a) name 0 11 ⌝ }
 {
     let mut i: usize = 0;
     while i < 11 {

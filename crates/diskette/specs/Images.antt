@@ -1,6 +1,6 @@
 -- Of which kind an image is, and a system area alone.
 use Prim.Native.Nat.{ℕ, _*_, _≤_}
-use mathlib.Core.Bool.{cond}
+use mathlib.Core.Bool.{Bool, cond}
 use mathlib.Core.List.{List}
 use mathlib.Core.Path.{_≡_}
 use lib.Dec.{eqb, leb}
@@ -25,16 +25,13 @@ pub record AreaOf (area : List ℕ) (k : Kind) : Type 0 where
 
 -- ---- the same as functions: the kind, or none
 
-abbrev pub sized : ℕ → WhichKind → WhichKind
-sized n (Known k) = cond (eqb n (512 * k .sectors)) (Known k) Unknown
-sized n Unknown = Unknown
+-- the kind that was found, if the test is true of it
+abbrev pub onlyIf : (Kind → Bool) → WhichKind → WhichKind
+onlyIf test (Known k) = cond (test k) (Known k) Unknown
+onlyIf test Unknown = Unknown
 
 unfoldable pub kindOfImage : List ℕ → WhichKind
-kindOfImage img = sized (length img) (named (getD img 512 0))
-
-abbrev pub reached : ℕ → WhichKind → WhichKind
-reached n (Known k) = cond (leb (512 * firstData k) n) (Known k) Unknown
-reached n Unknown = Unknown
+kindOfImage img = onlyIf (λ k. eqb (length img) (512 * k .sectors)) (named (getD img 512 0))
 
 unfoldable pub kindOfArea : List ℕ → WhichKind
-kindOfArea area = reached (length area) (named (getD area 512 0))
+kindOfArea area = onlyIf (λ k. leb (512 * firstData k) (length area)) (named (getD area 512 0))

@@ -64,8 +64,5 @@ withSize l a v = stored l (a + 28) (digits v 4)
 unfoldable pub tailBytes : ℕ → ℕ → ℕ → ℕ → List ℕ
 tailBytes time date start size = digits time 2 ++ (digits date 2 ++ (digits start 2 ++ digits size 4))
 
-unfoldable pub entryBytes : List ℕ → ℕ → ℕ → ℕ → ℕ → ℕ → List ℕ
-entryBytes name attr time date start size = (name ++ (attr ∷ replicate 10 0)) ++ tailBytes time date start size
-
 abbrev pub withEntry : List ℕ → ℕ → List ℕ → ℕ → ℕ → ℕ → ℕ → ℕ → List ℕ
-withEntry l a name attr time date start size = stored l a (entryBytes name attr time date start size)
+withEntry l a name attr time date start size = stored l a ((name ++ (attr ∷ replicate 10 0)) ++ tailBytes time date start size)

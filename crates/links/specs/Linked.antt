@@ -1,17 +1,14 @@
--- New clusters behind the last one of a chain: "each new cluster is the lowest free" (write).
-use Prim.Native.Nat.{ℕ}
+-- New clusters behind the last one of a chain (write).
+use Prim.Native.Nat.{ℕ, _-_}
 use mathlib.Core.Bool.{cond}
 use mathlib.Core.List.{List, [], _∷_}
 use lib.Dec.{eqb}
-use lib.ListN.{take}
-use Rattle.chains.specs.Free.{freeClusters}
-use Rattle.chains.specs.Lists.{lastOf}
-use Rattle.table.specs.Entries.{setBoth, tableOf}
+use lib.ListN.{length, getD}
+use Rattle.table.specs.Entries.{setBoth}
 
 -- the last cluster of a chain, 0 where it has none
-abbrev pub endOf : List ℕ → ℕ
-endOf [] = 0
-endOf (c ∷ cs) = lastOf c cs
+unfoldable pub endOf : List ℕ → ℕ
+endOf cs = getD cs (length cs - 1) 0
 
 -- cluster d comes behind prev, or begins a chain where prev is 0: it ends the chain ("We write FFF"), and prev names it
 unfoldable pub linkedTo : ℕ → List ℕ → ℕ → ℕ → List ℕ
@@ -21,7 +18,3 @@ linkedTo second l prev d = let m = setBoth second l d 0xFFF in cond (eqb prev 0)
 unfoldable pub linked : ℕ → List ℕ → ℕ → List ℕ → List ℕ
 linked second l prev [] = l
 linked second l prev (d ∷ ds) = linked second (linkedTo second l prev d) d ds
-
--- the clusters that are taken where n are needed: the lowest free ones
-unfoldable pub newClusters : ℕ → List ℕ → ℕ → List ℕ
-newClusters last l n = take n (freeClusters last (tableOf last l))

@@ -22,7 +22,8 @@ pub record LivePlace (t : List ℕ) (h : ℕ) (l : List ℕ) (root count : ℕ) 
 
 unfoldable pub isLive : List ℕ → ℕ → List ℕ → ℕ → ℕ → Bool
 isLive t h l root count =
-    ltb h (placeCount t) && (usedOf t h && (leb (accessOf t h) 2 && (ltb (slotOf t h) count && isPlain (standingOf l (slotFrom root (slotOf t h))))))
+    let s = slotOf t h in
+    ltb h (placeCount t) && (usedOf t h && (leb (accessOf t h) 2 && (ltb s count && isPlain (standingOf l (slotFrom root s)))))
 
 -- ---- A file is open when a used place names its slot.
 

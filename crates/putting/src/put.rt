@@ -7,8 +7,7 @@ ghost use lib.ListN.{length, take};
 ghost use Rattle.chains.specs.Write.{writtenImage};
 ghost use Rattle.diskette.specs.Aids.Usable.{Usable};
 ghost use Rattle.diskette.specs.Places.{firstData, clusterBytes, lastCluster};
-ghost use Rattle.contents.specs.Contents.{chainFrom};
-ghost use Rattle.contents.specs.Aids.Contents.{bytesPut, zerosPut};
+ghost use Rattle.contents.specs.Aids.Contents.{chainFrom, bytesPut, zerosPut};
 ghost use Rattle.putting.specs.Aids.Put.{HasRoom, CanPut};
 ghost use Rattle.putting.specs.Written.{writtenIn};
 

@@ -1,10 +1,15 @@
--- Lists: how often a number stands in one, several lists as one.
+-- Lists: the last of one, how often a number stands in one, several lists as one.
 use Prim.Native.Nat.{ℕ, _+_, _≤_}
 use mathlib.Core.List.{List, [], _∷_, _++_}
 use mathlib.Core.Logic.{_≢_}
 use lib.Dec.{eqb}
 use Rattle.chains.specs.Sums.{bit}
 use Rattle.chains.specs.Lists.{_∈_}
+
+-- the last of c and cs
+unfoldable pub lastOf : ℕ → List ℕ → ℕ
+lastOf c [] = c
+lastOf c (d ∷ ds) = lastOf d ds
 
 -- 1 where the two are equal, else 0
 unfoldable pub hit : ℕ → ℕ → ℕ

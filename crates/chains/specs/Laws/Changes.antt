@@ -6,13 +6,12 @@ use mathlib.Core.Path.{_≡_, refl, _∙_}
 use mathlib.Core.Logic.{inl, inr}
 use mathlib.Core.Bool.{true}
 use mathlib.Core.List.{List, [], _++_}
-use lib.ListN.{length, take, length-append}
+use lib.ListN.{length, getD, take, length-append}
 use lib.Seq.{length-take-le}
 use Rattle.chains.specs.Aids.Put.{put}
-use Rattle.chains.specs.Lists.{headOf}
 use Rattle.chains.specs.Aids.Lists.{occ, Once}
-use Rattle.chains.specs.Sizes.{clustersFor, lacking}
-use Rattle.chains.specs.Aids.Sizes.{Geometry}
+use Rattle.chains.specs.Sizes.{clustersFor}
+use Rattle.chains.specs.Aids.Sizes.{Geometry, lacking}
 use Rattle.chains.specs.Aids.Holders.{Holder, Owns, FitTogether, fileHolder}
 use Rattle.chains.specs.Aids.Replace.{Replaced}
 use Rattle.chains.specs.Free.{freeClusters}
@@ -28,7 +27,7 @@ use Rattle.chains.specs.Laws.Growth.{extended-chain, extended-out, relea
 
 module _ (G : Geometry) (f : ℕ → ℕ) (h : ℕ → Holder) (χ : ℕ → List ℕ) (v : FitTogether (G .last) f h χ) (i : ℕ) where
   -- the chain grows by any clusters that may be taken
-  pub grows : (new : List ℕ) → Takable (G .last) f new → (holder : Holder) → holder .start ≡ headOf (χ i ++ new) → holder .allows (length (χ i) + length new) ≡ true
+  pub grows : (new : List ℕ) → Takable (G .last) f new → (holder : Holder) → holder .start ≡ getD (χ i ++ new) 0 0 → holder .allows (length (χ i) + length new) ≡ true
       → Replaced (G .last) f (extended f (χ i) new) holder (χ i) (χ i ++ new)
   grows new t holder st fit = record {
     owns = record {
@@ -77,14 +76,13 @@ module _ (G : Geometry) (f : ℕ → ℕ) (h : ℕ → Holder) (χ : ℕ → Lis
   new = take (lacking (G .cb) (χ i) n) (freeClusters (G .last) f)
 
   new-length : length (χ i) + length new ≡ max (length (χ i)) (clustersFor (G .cb) n)
-  unfolding lacking
   new-length =
       let k : lacking (G .cb) (χ i) n ≤ length (freeClusters (G .last) f) = omega (arith, clusters-least (G .cb) (G .wide) n (length (χ i) + length (freeClusters (G .last) f)) room) in
       omega (arith, length-take-le (lacking (G .cb) (χ i) n) (freeClusters (G .last) f) k)
 
-  pub file-grows : Replaced (G .last) f (longerTable (G .last) (G .cb) f (χ i) n) (fileHolder (G .cb) (headOf chain′) n) (χ i) chain′
+  pub file-grows : Replaced (G .last) f (longerTable (G .last) (G .cb) f (χ i) n) (fileHolder (G .cb) (getD chain′ 0 0) n) (χ i) chain′
   unfolding longerChain longerTable
-  file-grows = grows G f h χ v i new (lowest-takable G f (lacking (G .cb) (χ i) n)) (fileHolder (G .cb) (headOf (χ i ++ new)) n) refl
+  file-grows = grows G f h χ v i new (lowest-takable G f (lacking (G .cb) (χ i) n)) (fileHolder (G .cb) (getD (χ i ++ new) 0 0) n) refl
       (rw new-length (fits-grows (G .cb) (G .wide) sz (length (χ i)) n (file-allows (G .last) (G .cb) f (h i) (χ i) st sz is (v .owns i)) le))
 
   pub longer-length : length chain′ ≡ max (length (χ i)) (clustersFor (G .cb) n)

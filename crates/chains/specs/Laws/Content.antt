@@ -6,13 +6,13 @@ use native.Mathlib.Decide.{decLt}
 use mathlib.Core.Path.{_≡_, refl, sym, ap, _∙_}
 use mathlib.Core.Logic.{inl, inr}
 use mathlib.Core.List.{List, [], _∷_, _++_}
-use lib.ListN.{length, getD, drop, length-append, length-drop, List·getD-append}
+use lib.ListN.{length, getD, take, drop, length-append, length-drop, List·getD-append}
 use lib.Seq.{getD-take, getD-drop, getD-append-add, length-take-le}
 use Rattle.chains.specs.Lists.{_∈_}
 use Rattle.chains.specs.Aids.Lists.{Once}
 use Rattle.chains.specs.Aids.Sizes.{Geometry}
 use Rattle.chains.specs.Values.{Link}
-use Rattle.chains.specs.Content.{byteAt, chainBytes, clusterBegin, bytesOfCluster, content}
+use Rattle.chains.specs.Content.{byteAt, chainBytes, clusterBegin, content}
 use Rattle.chains.specs.Aids.Content.{Room}
 use Rattle.chains.specs.Laws.Lists.{index-mem, index-same}
 
@@ -51,12 +51,13 @@ module _ (base cb : ℕ) (wide : 0 < cb) where
 
   -- ---- the bytes of a cluster, of a chain, of a file, one by one
 
-  cluster-bytes-length : (img : List ℕ) (c : ℕ) → clusterBegin base cb c + cb ≤ length img → length (bytesOfCluster base cb img c) ≡ cb
-  unfolding bytesOfCluster
+  abbrev bytesIn : List ℕ → ℕ → List ℕ
+  bytesIn img c = take cb (drop (clusterBegin base cb c) img)
+
+  cluster-bytes-length : (img : List ℕ) (c : ℕ) → clusterBegin base cb c + cb ≤ length img → length (bytesIn img c) ≡ cb
   cluster-bytes-length img c h = length-take-le cb (drop (clusterBegin base cb c) img) (omega (arith, length-drop (clusterBegin base cb c) img))
 
-  cluster-bytes-at : (img : List ℕ) (c i : ℕ) → i < cb → getD (bytesOfCluster base cb img c) i 0 ≡ getD img (clusterBegin base cb c + i) 0
-  unfolding bytesOfCluster
+  cluster-bytes-at : (img : List ℕ) (c i : ℕ) → i < cb → getD (bytesIn img c) i 0 ≡ getD img (clusterBegin base cb c + i) 0
   cluster-bytes-at img c i l = getD-take cb (drop (clusterBegin base cb c) img) i 0 l ∙ getD-drop (clusterBegin base cb c) img i 0
 
   byte-first : (c : ℕ) (cs : List ℕ) (p : ℕ) → p < cb → byteAt base cb (c ∷ cs) p ≡ clusterBegin base cb c + p
@@ -73,20 +74,20 @@ module _ (base cb : ℕ) (wide : 0 < cb) where
   unfolding chainBytes
   chain-bytes-length img [] r = omega arith
   chain-bytes-length img (c ∷ cs) r =
-      omega (arith, length-append (bytesOfCluster base cb img c) (chainBytes base cb img cs), cluster-bytes-length img c (r c (inl refl) .1), chain-bytes-length img cs (λ a m. r a (inr m)))
+      omega (arith, length-append (bytesIn img c) (chainBytes base cb img cs), cluster-bytes-length img c (r c (inl refl) .1), chain-bytes-length img cs (λ a m. r a (inr m)))
 
   pub chain-bytes-at : (img cs : List ℕ) → Room base cb img cs → (p : ℕ) → p < length cs * cb → getD (chainBytes base cb img cs) p 0 ≡ getD img (byteAt base cb cs p) 0
   unfolding chainBytes
   chain-bytes-at img [] r p l = absurd (omega arith)
   chain-bytes-at img (c ∷ cs) r p l = elim (decLt p cb) [
     | yes h ↦
-        List·getD-append (bytesOfCluster base cb img c) (chainBytes base cb img cs) 0 p (omega (arith, cluster-bytes-length img c (r c (inl refl) .1)))
+        List·getD-append (bytesIn img c) (chainBytes base cb img cs) 0 p (omega (arith, cluster-bytes-length img c (r c (inl refl) .1)))
         ∙ cluster-bytes-at img c p h ∙ ap (λ (x : ℕ). getD img x 0) (sym (byte-first c cs p h))
     | no n ↦
-        let q : p ≡ length (bytesOfCluster base cb img c) + (p - cb) = omega (arith, cluster-bytes-length img c (r c (inl refl) .1)) in
+        let q : p ≡ length (bytesIn img c) + (p - cb) = omega (arith, cluster-bytes-length img c (r c (inl refl) .1)) in
         let z : p ≡ (p - cb) + cb = omega arith in
-        ap (λ (x : ℕ). getD (bytesOfCluster base cb img c ++ chainBytes base cb img cs) x 0) q
-        ∙ getD-append-add (bytesOfCluster base cb img c) (chainBytes base cb img cs) (p - cb) 0
+        ap (λ (x : ℕ). getD (bytesIn img c ++ chainBytes base cb img cs) x 0) q
+        ∙ getD-append-add (bytesIn img c) (chainBytes base cb img cs) (p - cb) 0
         ∙ chain-bytes-at img cs (λ a m. r a (inr m)) (p - cb) (omega arith)
         ∙ ap (λ (x : ℕ). getD img x 0) (sym (byte-next c cs (p - cb)) ∙ ap (byteAt base cb (c ∷ cs)) (sym z))
   ]

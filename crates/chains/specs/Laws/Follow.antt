@@ -3,8 +3,7 @@ use Prim.Native.Nat.{ℕ}
 use mathlib.Core.Path.{_≡_, refl, ap, _∙_}
 use mathlib.Core.List.{List, [], _∷_}
 use lib.ListN.{length}
-use Rattle.chains.specs.Lists.{lastOf}
-use Rattle.chains.specs.Aids.Lists.{joined}
+use Rattle.chains.specs.Aids.Lists.{lastOf, joined}
 use Rattle.chains.specs.Aids.Sizes.{Geometry}
 use Rattle.chains.specs.Aids.Chain.{After}
 use Rattle.chains.specs.Aids.Marks.{marks}

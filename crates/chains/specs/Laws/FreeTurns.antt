@@ -3,8 +3,8 @@ use Prim.Native.Nat.{ℕ, suc, _+_, _-_, _≤_, _<_}
 use native.Mathlib.Omega.{arith}
 use mathlib.Core.Path.{_≡_, sym, ap, _∙_}
 use mathlib.Core.Logic.{_≢_}
-use mathlib.Core.List.{[], _∷_}
-use Rattle.chains.specs.Lists.{headOf}
+use mathlib.Core.List.{List, [], _∷_}
+use lib.ListN.{getD}
 use Rattle.chains.specs.Free.{freeFrom}
 use Rattle.chains.specs.Laws.Free.{free-nil, free-no, free-yes}
 
@@ -20,11 +20,11 @@ left-hit f last c h e = let z : suc c ≡ c + 1 = omega arith in rw (left-suc la
 left-miss : (f : ℕ → ℕ) (last c : ℕ) → c ≤ last → f c ≢ 0 → freeFrom f (last + 1 - c) c ≡ freeFrom f (last + 1 - (c + 1)) (c + 1)
 left-miss f last c h e = let z : suc c ≡ c + 1 = omega arith in rw (left-suc last c h, sym z) (free-no f (last + 1 - (suc c)) c e)
 
-pub lowest-hit : (f : ℕ → ℕ) (last c v : ℕ) (whole : ℕ) → c ≤ last → v ≡ f c → v ≡ 0 → headOf (freeFrom f (last + 1 - c) c) ≡ whole → c ≡ whole
-lowest-hit f last c v whole h e z w = sym (ap headOf (left-hit f last c h (sym e ∙ z))) ∙ w
+pub lowest-hit : (f : ℕ → ℕ) (last c v : ℕ) (whole : ℕ) → c ≤ last → v ≡ f c → v ≡ 0 → getD (freeFrom f (last + 1 - c) c) 0 0 ≡ whole → c ≡ whole
+lowest-hit f last c v whole h e z w = sym (ap (λ (cs : List ℕ). getD cs 0 0) (left-hit f last c h (sym e ∙ z))) ∙ w
 
-pub lowest-miss : (f : ℕ → ℕ) (last c v : ℕ) (whole : ℕ) → c ≤ last → v ≡ f c → v ≢ 0 → headOf (freeFrom f (last + 1 - c) c) ≡ whole → headOf (freeFrom f (last + 1 - (c + 1)) (c + 1)) ≡ whole
-lowest-miss f last c v whole h e z w = sym (ap headOf (left-miss f last c h (λ y. z (e ∙ y)))) ∙ w
+pub lowest-miss : (f : ℕ → ℕ) (last c v : ℕ) (whole : ℕ) → c ≤ last → v ≡ f c → v ≢ 0 → getD (freeFrom f (last + 1 - c) c) 0 0 ≡ whole → getD (freeFrom f (last + 1 - (c + 1)) (c + 1)) 0 0 ≡ whole
+lowest-miss f last c v whole h e z w = sym (ap (λ (cs : List ℕ). getD cs 0 0) (left-miss f last c h (λ y. z (e ∙ y)))) ∙ w
 
-pub lowest-end : (f : ℕ → ℕ) (last c : ℕ) (whole : ℕ) → last < c → headOf (freeFrom f (last + 1 - c) c) ≡ whole → 0 ≡ whole
-lowest-end f last c whole h w = sym (ap headOf (left-none f last c h)) ∙ w
+pub lowest-end : (f : ℕ → ℕ) (last c : ℕ) (whole : ℕ) → last < c → getD (freeFrom f (last + 1 - c) c) 0 0 ≡ whole → 0 ≡ whole
+lowest-end f last c whole h w = sym (ap (λ (cs : List ℕ). getD cs 0 0) (left-none f last c h)) ∙ w

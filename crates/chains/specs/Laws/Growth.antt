@@ -4,9 +4,10 @@ use native.Mathlib.Omega.{arith}
 use mathlib.Core.Path.{_≡_, refl, _∙_}
 use mathlib.Core.Logic.{inl, inr}
 use mathlib.Core.List.{List, [], _∷_, _++_, append-nil}
+use lib.ListN.{getD}
 use Rattle.chains.specs.Aids.Put.{put}
-use Rattle.chains.specs.Lists.{_∈_, lastOf, headOf}
-use Rattle.chains.specs.Aids.Lists.{Once}
+use Rattle.chains.specs.Lists.{_∈_}
+use Rattle.chains.specs.Aids.Lists.{lastOf, Once}
 use Rattle.chains.specs.Aids.Sizes.{Geometry}
 use Rattle.chains.specs.Values.{Link}
 use Rattle.chains.specs.Aids.Chain.{After, Chain}
@@ -57,7 +58,7 @@ extended-out f (c ∷ cs) (n ∷ ns) a p q = laid-other f (lastOf c cs) (n ∷ n
 ])
 
 pub extended-chain : (G : Geometry) (f : ℕ → ℕ) (c : ℕ) (cs new : List ℕ) → Chain (G .last) f c cs → ((a : ℕ) → a ∈ new → Link (G .last) a) → Once (cs ++ new)
-    → Chain (G .last) (extended f cs new) (headOf (cs ++ new)) (cs ++ new)
+    → Chain (G .last) (extended f cs new) (getD (cs ++ new) 0 0) (cs ++ new)
 unfolding extended
 extended-chain G f c [] [] p r o = refl
 extended-chain G f c [] (n ∷ ns) p r o = (refl, r n (inl refl), laid-after G f n ns (λ a m. r a (inr m)) o)

@@ -8,8 +8,8 @@ use mathlib.Core.List.{List, [], _∷_, _++_}
 use lib.ListN.{length, getD, take}
 use borrow.Author.Tests.{eq-eqb, ne-eqb}
 use Rattle.chains.specs.Sums.{bit}
-use Rattle.chains.specs.Lists.{_∈_, lastOf}
-use Rattle.chains.specs.Aids.Lists.{hit, occ, Once, joined}
+use Rattle.chains.specs.Lists.{_∈_}
+use Rattle.chains.specs.Aids.Lists.{lastOf, hit, occ, Once, joined}
 
 pub hit-same : (a x : ℕ) → a ≡ x → hit a x ≡ 1
 unfolding hit
@@ -108,6 +108,11 @@ pub last-mem : (c : ℕ) (cs : List ℕ) → lastOf c cs ∈ (c ∷ cs)
 unfolding lastOf
 last-mem c [] = inl refl
 last-mem c (d ∷ ds) = inr (last-mem d ds)
+
+pub last-index : (c : ℕ) (cs : List ℕ) → getD (c ∷ cs) (length cs) 0 ≡ lastOf c cs
+unfolding lastOf
+last-index c [] = refl
+last-index c (d ∷ ds) = last-index d ds
 
 -- ---- lists one behind the other
 

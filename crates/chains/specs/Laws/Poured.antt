@@ -10,7 +10,8 @@ use lib.Seq.{getD-set-same, getD-set-other, ext-getD}
 use Rattle.chains.specs.Aids.Lists.{Once}
 use Rattle.chains.specs.Content.{byteAt, content}
 use Rattle.chains.specs.Aids.Content.{Room}
-use Rattle.chains.specs.Write.{poured, splice}
+use Rattle.chains.specs.Write.{poured}
+use Rattle.chains.specs.Aids.Write.{splice}
 use Rattle.chains.specs.Laws.Content.{byte-inside, byte-once, content-at, content-length}
 use Rattle.chains.specs.Laws.Splice.{splice-after, splice-before, splice-in, splice-length}
 

@@ -10,7 +10,8 @@ use lib.ListN.{length, getD, take, drop, length-drop}
 use lib.Seq.{getD-set-same, getD-set-other, getD-take, getD-drop, ext-getD, length-take-le}
 use Rattle.chains.specs.Content.{byteAt, content}
 use Rattle.chains.specs.Aids.Content.{Room}
-use Rattle.chains.specs.Write.{poured, splice}
+use Rattle.chains.specs.Write.{poured}
+use Rattle.chains.specs.Aids.Write.{splice}
 use Rattle.chains.specs.Laws.Content.{byte-inside, content-at, content-length}
 use Rattle.chains.specs.Laws.Splice.{splice-after, splice-before, splice-in, splice-length}
 use Rattle.chains.specs.Laws.Poured.{poured-length, poured-out}

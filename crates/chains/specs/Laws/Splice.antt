@@ -5,7 +5,7 @@ use mathlib.Core.Path.{_≡_, ap, ap₂, _∙_}
 use mathlib.Core.List.{List, _++_, append-nil}
 use lib.ListN.{length, getD, take, drop, length-append, length-drop, List·getD-append, drop-of-length-le}
 use lib.Seq.{getD-take, getD-drop, getD-append-add, length-take-le, take-all}
-use Rattle.chains.specs.Write.{splice}
+use Rattle.chains.specs.Aids.Write.{splice}
 
 pub splice-length : (xs : List ℕ) (pos : ℕ) (bs : List ℕ) → pos ≤ length xs → length (splice xs pos bs) ≡ pos + (length bs + (length xs - (pos + length bs)))
 unfolding splice

@@ -11,7 +11,7 @@ use Rattle.image.specs.Laws.Numbers.{length-digits, bytes-digits}
 use Rattle.image.specs.Laws.Store.{length-stored, bytes-stored}
 use Rattle.chains.specs.Content.{content}
 use Rattle.chains.specs.Aids.Content.{Touches}
-use Rattle.chains.specs.Lists.{_∈_, headOf}
+use Rattle.chains.specs.Lists.{_∈_}
 use Rattle.chains.specs.Values.{Link}
 use Rattle.chains.specs.Laws.Chain.{chain-mem}
 use Rattle.chains.specs.Laws.Content.{cluster-high}
@@ -31,8 +31,8 @@ use Rattle.calls.specs.Laws.Ready.{on-usable}
 use Rattle.holding.specs.Holding.{fileChain}
 use Rattle.holding.specs.Laws.Clusters.{on-clusters}
 use Rattle.holding.specs.Laws.Chain.{file-chain, file-holds, file-within}
-use Rattle.putting.specs.Longer.{chainAfter, withClusters, lengthened}
-use Rattle.putting.specs.Aids.Longer.{CanGrow}
+use Rattle.putting.specs.Longer.{chainAfter, lengthened}
+use Rattle.putting.specs.Aids.Longer.{withClusters, CanGrow}
 use Rattle.putting.specs.Laws.Longer.{linked-leaves, start-small}
 use Rattle.putting.specs.Laws.Room.{room-fits}
 use Rattle.changes.specs.Aids.Changed.{Framed}
@@ -52,7 +52,7 @@ module _ (k : Kind) (l : List ℕ) (s size : ℕ) (g : CanGrow k l s size) where
   a = slotAt k s
 
   abbrev start : ℕ
-  start = headOf (chainAfter k l s size)
+  start = getD (chainAfter k l s size) 0 0
 
   -- the image with the clusters linked; with the start stored; with the size stored
   abbrev one : List ℕ

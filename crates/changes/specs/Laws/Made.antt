@@ -19,7 +19,8 @@ use Rattle.diskette.specs.declared.Kind.{Kind}
 use Rattle.search.specs.Search.{LowestBelow, Answers}
 use Rattle.search.specs.declared.Found.the-variants.{At, Nothing}
 use Rattle.directory.specs.Entries.{HasFields}
-use Rattle.fields.specs.Fields.{nameOf, attrOf, startOf, sizeOf, tailBytes, entryBytes, withEntry}
+use Rattle.fields.specs.Fields.{nameOf, attrOf, startOf, sizeOf, tailBytes, withEntry}
+use Rattle.fields.specs.Aids.Fields.{entryBytes}
 use Rattle.directory.specs.Search.{lowestVacant, slotNamed}
 use Rattle.directory.specs.Slots.{hasBit, NeverUsedAt, VacantAt, PlainAt}
 use Rattle.directory.specs.Laws.Entries.{fresh}
@@ -81,7 +82,7 @@ module _ (k : Kind) (l : List ℕ) (v : OnVolume l k) (b : Bytes l) (given : Lis
         (bytes-entry name attr time date 0 0 (good-name .bytes) (good .byte)) x
 
     same-entry : withEntry n a name attr (time % 65536) (date % 65536) 0 0 ≡ m
-    unfolding entryBytes tailBytes
+    unfolding tailBytes
     same-entry = rw (word-low time, word-low date)
 
     fields : HasFields m a name attr (time % 65536) (date % 65536) 0 0

@@ -5,7 +5,7 @@ use mathlib.Core.List.{List}
 use mathlib.Core.Path.{_≡_, _∙_}
 use lib.ListN.{length, getD, replicate}
 use Rattle.image.specs.Bytes.{Bytes}
-use Rattle.chains.specs.Write.{filledImage, writtenImage}
+use Rattle.chains.specs.Write.{poured, writtenImage}
 use Rattle.contents.specs.Laws.Kept.{bytes-poured, bytes-zeros, poured-before, poured-table}
 use Rattle.diskette.specs.Aids.Usable.{Usable}
 use Rattle.diskette.specs.Places.{firstData, clusterBytes, lastCluster, rootEntries, slotAt}
@@ -25,7 +25,7 @@ module _ (k : Kind) (u : Usable k) (l cs : List ℕ) (size pointer : ℕ) (bs : 
 
   -- the image with the zeros, and with the bytes
   abbrev filled : List ℕ
-  filled = filledImage base (clusterBytes k) l cs size pointer
+  filled = poured base (clusterBytes k) l cs size zeros (pointer - size)
 
   abbrev m : List ℕ
   m = writtenImage base (clusterBytes k) l cs size pointer bs
@@ -34,21 +34,21 @@ module _ (k : Kind) (u : Usable k) (l cs : List ℕ) (size pointer : ℕ) (bs : 
   wide = omega (arith, u .per-low)
 
   pub put-before : (j : ℕ) → j < base → getD m j 0 ≡ getD l j 0
-  unfolding writtenImage filledImage
+  unfolding writtenImage
   put-before j h = poured-before base (clusterBytes k) wide filled cs pointer bs (length bs) j h ∙ poured-before base (clusterBytes k) wide l cs size zeros (pointer - size) j h
 
   pub put-table : (c : ℕ) → valueOf k m c ≡ valueOf k l c
-  unfolding writtenImage filledImage
+  unfolding writtenImage
   put-table c =
       poured-table base (clusterBytes k) wide filled cs pointer bs (length bs) (lastCluster k) (omega (arith, u .reaches)) c
       ∙ poured-table base (clusterBytes k) wide l cs size zeros (pointer - size) (lastCluster k) (omega (arith, u .reaches)) c
 
   pub put-bytes : Bytes l → Bytes bs → Bytes m
-  unfolding writtenImage filledImage
+  unfolding writtenImage
   put-bytes b given = bytes-poured base (clusterBytes k) filled cs pointer bs (length bs) (bytes-poured base (clusterBytes k) l cs size zeros (pointer - size) b (bytes-zeros (pointer - size))) given
 
   pub put-frame : (s : ℕ) → Framed k l m s
-  unfolding writtenImage filledImage
+  unfolding writtenImage
   put-frame s = frame-then k u s l filled m (data-frame k u s l cs size zeros (pointer - size)) (data-frame k u s filled cs pointer bs (length bs))
 
   pub put-entry : (s : ℕ) → s < rootEntries k → slotAt k s + 32 ≤ length l → SameFields m (slotAt k s) l (slotAt k s)

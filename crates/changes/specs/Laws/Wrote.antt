@@ -10,7 +10,6 @@ use Rattle.chains.specs.Aids.Content.{Touches}
 use Rattle.chains.specs.Free.{freeClusters}
 use Rattle.chains.specs.Aids.Growth.{longerChain, longerTable}
 use Rattle.chains.specs.Aids.Holders.{Holder, Owns, fileHolder}
-use Rattle.chains.specs.Lists.{headOf}
 use Rattle.chains.specs.Aids.Replace.{Replaced}
 use Rattle.chains.specs.Values.{Link}
 use Rattle.chains.specs.Write.{written, writtenImage}
@@ -26,7 +25,6 @@ use Rattle.diskette.specs.declared.Kind.{Kind}
 use Rattle.directory.specs.Aids.Entries.{SameFields}
 use Rattle.fields.specs.Fields.{nameOf, attrOf, startOf, sizeOf}
 use Rattle.directory.specs.Slots.{PlainAt}
-use Rattle.links.specs.Linked.{newClusters}
 use Rattle.chaincheck.specs.Aids.Entries.{holderAt}
 use Rattle.sound.specs.Files.{valueOf, ChainOf, IsFile}
 use Rattle.sound.specs.Aids.Holders.{rootHolders, rootChains}
@@ -106,7 +104,7 @@ module _ (k : Kind) (l : List ℕ) (s pointer : ℕ) (bs : List ℕ) (p : CanPut
   own-is = root-file k l v s i
 
   wrote-table : (c : ℕ) → valueOf k m c ≡ longerTable last cb (valueOf k l) own more c
-  unfolding writtenIn longerTable newClusters
+  unfolding writtenIn longerTable
   wrote-table c = put-table k u long ds size pointer bs c ∙ longer-table k l s more grow c ∙ ap (λ (cs : List ℕ). longerTable last cb (valueOf k l) cs more c) (sym own-is)
 
   wrote-frame : Framed k l m s
@@ -133,7 +131,7 @@ module _ (k : Kind) (l : List ℕ) (s pointer : ℕ) (bs : List ℕ) (p : CanPut
   wrote-attr : attrOf m a ≡ attrOf l a
   wrote-attr = entry .attr ∙ longer-attr k l s more grow
 
-  wrote-start : startOf m a ≡ headOf ds
+  wrote-start : startOf m a ≡ getD ds 0 0
   wrote-start = entry .start ∙ longer-start k l s more grow
 
   wrote-size : sizeOf m a ≡ more
@@ -142,7 +140,7 @@ module _ (k : Kind) (l : List ℕ) (s pointer : ℕ) (bs : List ℕ) (p : CanPut
   wrote-plain : PlainAt m a
   wrote-plain = same-plain k l m s v i wrote-first wrote-name wrote-attr
 
-  wrote-holder : holderAt cb m a ≡ fileHolder cb (headOf ds) more
+  wrote-holder : holderAt cb m a ≡ fileHolder cb (getD ds 0 0) more
   wrote-holder = plain-holder cb m a wrote-plain ∙ ap₂ (fileHolder cb) wrote-start wrote-size
 
   -- ---- by the theory of chains
@@ -151,7 +149,7 @@ module _ (k : Kind) (l : List ℕ) (s pointer : ℕ) (bs : List ℕ) (p : CanPut
   fit = rw (own-is, free-length (geometry k u) (valueOf k l)) (grow .room)
 
   chain-is : longerChain last cb (valueOf k l) own more ≡ ds
-  unfolding longerChain newClusters
+  unfolding longerChain
   chain-is = rw own-is
 
   whole : (c : ℕ) → Link last c → clusterBegin base cb c + cb ≤ length long
@@ -160,8 +158,8 @@ module _ (k : Kind) (l : List ℕ) (s pointer : ℕ) (bs : List ℕ) (p : CanPut
   wrote-chain : Replaced last (valueOf k l) (valueOf k m) (holderAt cb m a) own ds
   wrote-chain =
       subst (λ (h : Holder). Replaced last (valueOf k l) (valueOf k m) h own ds) (sym wrote-holder)
-      (subst (λ (g : ℕ → ℕ). Replaced last (valueOf k l) g (fileHolder cb (headOf ds) more) own ds) (λ j c. sym (wrote-table c) j)
-      (subst (λ (cs : List ℕ). Replaced last (valueOf k l) (longerTable last cb (valueOf k l) own more) (fileHolder cb (headOf cs) more) own cs) chain-is
+      (subst (λ (g : ℕ → ℕ). Replaced last (valueOf k l) g (fileHolder cb (getD ds 0 0) more) own ds) (λ j c. sym (wrote-table c) j)
+      (subst (λ (cs : List ℕ). Replaced last (valueOf k l) (longerTable last cb (valueOf k l) own more) (fileHolder cb (getD cs 0 0) more) own cs) chain-is
       (write-replaces (geometry k u) base (valueOf k l) (rootHolders k l) (rootChains k l) (on-theory k l v) long whole a (startOf l a) size (root-file-holder k l v s i) pointer bs fit)))
 
   put-touches : Touches last base cb long m ds

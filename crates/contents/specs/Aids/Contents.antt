@@ -1,12 +1,16 @@
--- What theorems ask of an image, and what is read from and put into a chain.
+-- The clusters of a chain in an image, what theorems ask of the image, and what is read from and put into a chain.
 use Prim.Native.Nat.{ℕ, _+_, _-_, _*_, _≤_, _<_}
 use mathlib.Core.List.{List}
 use lib.ListN.{length, replicate}
 use Rattle.image.specs.Store.{part}
+use Rattle.chains.specs.Chain.{clustersFrom}
 use Rattle.chains.specs.Content.{chainBytes, byteAt}
 use Rattle.chains.specs.Write.{poured}
-use Rattle.table.specs.Entries.{wordAt}
-use Rattle.contents.specs.Contents.{chainFrom}
+use Rattle.table.specs.Entries.{wordAt, tableOf}
+
+-- the clusters from start on by the table of the image l; there are last - 1 clusters in all
+abbrev pub chainFrom : ℕ → List ℕ → ℕ → List ℕ
+chainFrom last l start = clustersFrom last (tableOf last l) (last - 1) start
 
 -- an image of so many bytes has all its clusters, and the table stands before them
 pub record Area (base cb last bytes : ℕ) : Type 0 where

@@ -5,8 +5,7 @@ use mathlib.Core.Path.{_≡_}
 use lib.ListN.{getD}
 use Rattle.image.specs.Store.{stored}
 use Rattle.chains.specs.Write.{poured}
-use Rattle.contents.specs.Contents.{chainFrom}
-use Rattle.contents.specs.Aids.Contents.{fetched}
+use Rattle.contents.specs.Aids.Contents.{chainFrom, fetched}
 
 -- how many of left bytes from byte p of a chain on lie in one cluster
 unfoldable pub runOf : ℕ → ℕ → ℕ → ℕ

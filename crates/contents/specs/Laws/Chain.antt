@@ -16,8 +16,7 @@ use Rattle.chains.specs.Laws.Lists.{index-mem}
 use Rattle.chains.specs.Laws.Met.{met-links, met-few, met-followed, met-next, chain-met}
 use Rattle.chains.specs.Laws.Content.{cluster-high}
 use Rattle.table.specs.Entries.{tableOf}
-use Rattle.contents.specs.Contents.{chainFrom}
-use Rattle.contents.specs.Aids.Contents.{Area}
+use Rattle.contents.specs.Aids.Contents.{chainFrom, Area}
 
 -- what theorems on chains use of it
 abbrev pub geometry : {base cb last bytes : ℕ} → Area base cb last bytes → Geometry
@@ -26,11 +25,9 @@ geometry {base} {cb} {last} {bytes} a = record { last = last; cb = cb; small = a
 module _ (base cb last : ℕ) (l : List ℕ) (start : ℕ) (a : Area base cb last (length l)) where
   -- the chain, if there is one, is the one found
   pub chain-is : (cs : List ℕ) → Chain last (tableOf last l) start cs → chainFrom last l start ≡ cs
-  unfolding chainFrom
   chain-is cs p = chain-met (geometry a) (tableOf last l) start cs p
 
   pub chain-links : (c : ℕ) → c ∈ chainFrom last l start → Link last c
-  unfolding chainFrom
   chain-links c m = met-links last (tableOf last l) (last - 1) start c m
 
   pub chain-room : Room base cb l (chainFrom last l start)
@@ -38,7 +35,6 @@ module _ (base cb last : ℕ) (l : List ℕ) (start : ℕ) (a : Area base cb las
 
   -- so many bytes are never more than the image has
   pub chain-small : length (chainFrom last l start) * cb ≤ length l
-  unfolding chainFrom
   chain-small = let h = met-few last (tableOf last l) (last - 1) start in omega (arith, a .clusters, mul-le-mul-right cb h)
 
   -- the cluster that holds byte p of the chain
@@ -50,14 +46,11 @@ module _ (base cb last : ℕ) (l : List ℕ) (start : ℕ) (a : Area base cb las
     holder-link = chain-links _ (index-mem (chainFrom last l start) (p / cb) inside)
 
     pub holder-followed : followed (tableOf last l) (p / cb) start ≡ getD (chainFrom last l start) (p / cb) 0
-    unfolding chainFrom
     holder-followed = met-followed last (tableOf last l) (last - 1) start (p / cb) inside
 
   pub holder-next : (k : ℕ) → k + 1 < length (chainFrom last l start) → tableOf last l (getD (chainFrom last l start) k 0) ≡ getD (chainFrom last l start) (k + 1) 0
-  unfolding chainFrom
   holder-next k h = met-next last (tableOf last l) (last - 1) start k h
 
 -- an image with the same table has the same chains
 pub chain-kept : (last : ℕ) (l m : List ℕ) (start : ℕ) → ((c : ℕ) → tableOf last m c ≡ tableOf last l c) → chainFrom last m start ≡ chainFrom last l start
-unfolding chainFrom
 chain-kept last l m start e = ap (λ (f : ℕ → ℕ). clustersFrom last f (last - 1) start) (λ k c. e c k)

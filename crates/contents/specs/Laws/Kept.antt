@@ -8,13 +8,12 @@ use lib.ListN.{length, getD, replicate}
 use Rattle.image.specs.Bytes.{Bytes}
 use Rattle.image.specs.Laws.Store.{bytes-set}
 use Rattle.chains.specs.Content.{byteAt}
-use Rattle.chains.specs.Write.{poured, filledImage, writtenImage}
+use Rattle.chains.specs.Write.{poured, writtenImage}
 use Rattle.chains.specs.Laws.Content.{byte-low}
 use Rattle.chains.specs.Laws.Poured.{poured-length, poured-out}
 use Rattle.table.specs.Entries.{wordAt, tableOf}
 use Rattle.table.specs.Laws.View.{table-same}
-use Rattle.contents.specs.Contents.{chainFrom}
-use Rattle.contents.specs.Aids.Contents.{Area, bytesPut, zerosPut}
+use Rattle.contents.specs.Aids.Contents.{chainFrom, Area, bytesPut, zerosPut}
 use Rattle.contents.specs.Laws.Chain.{chain-kept}
 
 pub bytes-poured : (base cb : ℕ) (l cs : List ℕ) (pos : ℕ) (bs : List ℕ) (n : ℕ) → Bytes l → Bytes bs → Bytes (poured base cb l cs pos bs n)
@@ -43,5 +42,5 @@ module _ (base cb last : ℕ) (l : List ℕ) (start : ℕ) (a : Area base cb las
 
   -- zeros up to pos and then the bytes: what a write into a file of size bytes makes of the image
   pub written-put : (size : ℕ) → bytesPut base cb last (zerosPut base cb last l start size (pos - size)) start pos bs ≡ writtenImage base cb l (chainFrom last l start) size pos bs
-  unfolding writtenImage filledImage
+  unfolding writtenImage
   written-put size = ap (λ (cs : List ℕ). poured base cb (zerosPut base cb last l start size (pos - size)) cs pos bs (length bs)) (poured-chains base cb (a .wide) l (chainFrom last l start) size (replicate (pos - size) 0) (pos - size) last (a .table) start)

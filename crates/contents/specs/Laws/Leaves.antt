@@ -11,8 +11,7 @@ use Rattle.chains.specs.Values.{Link}
 use Rattle.chains.specs.Laws.Content.{cluster-high}
 use Rattle.chains.specs.Aids.Steps.{followed}
 use Rattle.table.specs.Entries.{tableOf}
-use Rattle.contents.specs.Contents.{chainFrom}
-use Rattle.contents.specs.Aids.Contents.{Area, placeOf}
+use Rattle.contents.specs.Aids.Contents.{chainFrom, Area, placeOf}
 use Rattle.contents.specs.Aids.Loops.{runOf}
 use Rattle.contents.specs.Laws.Chain.{geometry, holder-link, holder-followed}
 

@@ -6,8 +6,7 @@ use mathlib.Core.List.{List}
 use lib.ListN.{length}
 use Rattle.image.specs.Store.{part}
 use Rattle.chains.specs.Content.{content}
-use Rattle.contents.specs.Contents.{chainFrom}
-use Rattle.contents.specs.Aids.Contents.{Area, fetched}
+use Rattle.contents.specs.Aids.Contents.{chainFrom, Area, fetched}
 use Rattle.contents.specs.Laws.Chain.{chain-room}
 use Rattle.contents.specs.Laws.Stores.{content-part}
 

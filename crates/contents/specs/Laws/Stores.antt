@@ -11,7 +11,8 @@ use Rattle.image.specs.Store.{stored, part}
 use Rattle.image.specs.Laws.Store.{length-stored, stored-byte, stored-append, part-same, length-part}
 use Rattle.chains.specs.Content.{byteAt, chainBytes, content}
 use Rattle.chains.specs.Aids.Content.{Room}
-use Rattle.chains.specs.Write.{splice, poured}
+use Rattle.chains.specs.Write.{poured}
+use Rattle.chains.specs.Aids.Write.{splice}
 use Rattle.chains.specs.Laws.Lists.{index-mem}
 use Rattle.chains.specs.Laws.Content.{chain-bytes-length, chain-bytes-at, content-length, content-at}
 use Rattle.chains.specs.Laws.Splice.{splice-length, splice-before, splice-in, splice-after}

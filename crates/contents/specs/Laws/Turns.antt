@@ -13,8 +13,7 @@ use Rattle.chains.specs.Write.{poured}
 use Rattle.chains.specs.Laws.Poured.{poured-length}
 use Rattle.chains.specs.Aids.Steps.{followed}
 use Rattle.table.specs.Entries.{wordAt, tableOf}
-use Rattle.contents.specs.Contents.{chainFrom}
-use Rattle.contents.specs.Aids.Contents.{Area, fetched, placeOf}
+use Rattle.contents.specs.Aids.Contents.{chainFrom, Area, fetched, placeOf}
 use Rattle.contents.specs.Aids.Loops.{runOf, Stands, Pouring, Fetching}
 use Rattle.contents.specs.Laws.Chain.{chain-room, chain-small, holder-next}
 use Rattle.contents.specs.Laws.Leaves.{in-range, in-reach, in-place, met-holds}

@@ -1,22 +1,22 @@
 -- What is left to compare decides as the whole does.
 use native.Mathlib.Omega.{arith}
 use borrow.Author.Needs.{needs}
-use mathlib.Core.Path.{_≡_}
+use mathlib.Core.Path.{_≡_, refl}
 use Prim.Native.Nat.{_-_, _≤_, _<_}
 use Rattle.fields.specs.Fields.{nameOf}
-use Rattle.directory.specs.Search.{sameFrom, sameName}
-use Rattle.directory.specs.Laws.Names.{same-all, same-more, same-differs, same-end}
+use Rattle.directory.specs.Search.{sameFrom}
+use Rattle.directory.specs.Laws.Names.{same-more, same-differs, same-end}
 use Rattle.directory.proofs.same_name.Statement.{statement}
 use Rattle.directory.proofs.same_name.Tie as tie
 
 abbrev Inv-loop : tie.InvT-loop
-Inv-loop img a name i₀ i = (i ≤ 11) × (sameFrom (nameOf img a) name i (11 - i) ≡ sameName (nameOf img a) name)
+Inv-loop img a name i₀ i = (i ≤ 11) × (sameFrom (nameOf img a) name i (11 - i) ≡ sameFrom (nameOf img a) name 0 11)
 
 abbrev μ-loop : tie.MeasureT-loop
 μ-loop img a name i₀ i = 11 - i
 
 loop-holds : tie.Need-loop-holds Inv-loop μ-loop
-loop-holds c = search (needs, same-all)
+loop-holds c = (search needs, refl)
 
 add-if1 : tie.Need-add-if1 Inv-loop μ-loop
 add-if1 c = search needs

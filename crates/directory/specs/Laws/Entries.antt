@@ -12,8 +12,8 @@ use Rattle.image.specs.Aids.Ranges.{Outside, Apart}
 use Rattle.image.specs.Numbers.{number, digits}
 use Rattle.image.specs.Laws.Store.{length-stored, stored-inside, stored-outside, part-same, part-at, part-stored, part-apart}
 use Rattle.image.specs.Laws.Numbers.{length-digits, number-same, number-stored, number-apart}
-use Rattle.fields.specs.Fields.{attrOf, withFirst, withAttr, withName, withEntry, tailBytes, entryBytes}
-use Rattle.fields.specs.Aids.Fields.{headBytes}
+use Rattle.fields.specs.Fields.{attrOf, withFirst, withAttr, withName, withEntry, tailBytes}
+use Rattle.fields.specs.Aids.Fields.{headBytes, entryBytes}
 use Rattle.directory.specs.Slots.{standingBy, standingOf}
 use Rattle.directory.specs.Entries.{HasFields, SameBytes}
 use Rattle.directory.specs.Aids.Entries.{SameFields, Untouched}
@@ -154,7 +154,7 @@ module _ (name : List ℕ) (attr time date start size : ℕ) (long : length name
   bytes = entryBytes name attr time date start size
 
   split : bytes ≡ name ++ rest
-  unfolding bytes rest entryBytes headBytes
+  unfolding bytes rest headBytes
   split = append-assoc name (attr ∷ replicate 10 0) (tailBytes time date start size)
 
   own-name : part bytes 0 11 ≡ name
@@ -172,7 +172,7 @@ module _ (name : List ℕ) (attr time date start size : ℕ) (long : length name
       rw (split, g, drop-at (name ++ (attr ∷ [])) (replicate 10 0 ++ tailBytes time date start size) 12 e)
 
   own-digits : (o w : ℕ) → number bytes (22 + o) w ≡ number (tailBytes time date start size) o w
-  unfolding bytes entryBytes headBytes
+  unfolding bytes headBytes
   own-digits o w = behind (headBytes name attr) (tailBytes time date start size) 22 o w (length-head name attr long)
 
   module _ (l : List ℕ) (a : ℕ) (fits : a + 32 ≤ length l) where

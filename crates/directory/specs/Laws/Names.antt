@@ -13,7 +13,7 @@ use borrow.Author.Tests.{eqb-true, eq-eqb, ne-eqb}
 use Rattle.image.specs.Laws.Store.{length-part, part-at}
 use Rattle.fields.specs.Fields.{nameOf}
 use Rattle.directory.specs.Slots.{PlainAt, standingOf, isPlain}
-use Rattle.directory.specs.Search.{sameFrom, sameName, isNamed}
+use Rattle.directory.specs.Search.{sameFrom, isNamed}
 use Rattle.directory.specs.Laws.Slots.{plain-is}
 
 -- ---- the code's needs: what is left to compare decides
@@ -33,10 +33,6 @@ module _ (x y : List ℕ) (i n : ℕ) (t : Bool) (inv : sameFrom x y i (n - i) �
   agrees : i < n → getD x i 0 ≡ getD y i 0 → sameFrom x y (i + 1) (n - (i + 1)) ≡ t
   agrees h e = sym (turn h ∙ rw (eq-eqb (getD x i 0) (getD y i 0) e)) ∙ inv
 
-pub same-all : (x y : List ℕ) → sameFrom x y 0 (11 - 0) ≡ sameName x y
-unfolding sameName
-same-all x y = refl
-
 -- the name's bytes are read where they stand
 module _ (l : List ℕ) (a : ℕ) (name : List ℕ) (i : ℕ) (t : Bool) (inv : sameFrom (nameOf l a) name i (11 - i) ≡ t) (h : i < 11) where
   pub same-differs : getD l (a + i) 0 ≢ getD name i 0 → false ≡ t
@@ -46,7 +42,7 @@ module _ (l : List ℕ) (a : ℕ) (name : List ℕ) (i : ℕ) (t : Bool) (inv : 
   same-more e = agrees (nameOf l a) name i 11 t inv h (part-at l a 11 i h ∙ e)
 
 module _ (l : List ℕ) (a : ℕ) (name : List ℕ) (plain : Bool) (is : plain ≡ isPlain (standingOf l a)) where
-  pub named-plain : plain ≡ true → (r : Bool) → r ≡ sameName (nameOf l a) name → r ≡ isNamed l a name
+  pub named-plain : plain ≡ true → (r : Bool) → r ≡ sameFrom (nameOf l a) name 0 11 → r ≡ isNamed l a name
   named-plain t r p = p ∙ rw (← is, t)
 
   pub named-none : plain ≡ false → false ≡ isNamed l a name
@@ -74,8 +70,7 @@ itself x i zero = refl
 itself x i (suc n) = rw (eq-eqb (getD x i 0) (getD x i 0) refl) (itself x (i + 1) n)
 
 -- Names are equal where all their 11 bytes are.
-pub same-name-equal : (x y : List ℕ) → length x ≡ 11 → length y ≡ 11 → (sameName x y ≡ true) ↔ (x ≡ y)
-unfolding sameName
+pub same-name-equal : (x y : List ℕ) → length x ≡ 11 → length y ≡ 11 → (sameFrom x y 0 11 ≡ true) ↔ (x ≡ y)
 same-name-equal x y e f =
     (λ s. ext-getD 0 x y (e ∙ sym f) (λ i k. from-bytes x y 0 11 s i (omega arith) (omega arith)), λ q. rw q (itself y 0 11))
 
@@ -84,11 +79,11 @@ pub named-is : (l : List ℕ) (a : ℕ) → a + 32 ≤ length l → (name : List
     → (isNamed l a name ≡ true) ↔ (PlainAt l a × (nameOf l a ≡ name))
 named-is l a f name long = (to, from)
   where
-    same : (sameName (nameOf l a) name ≡ true) ↔ (nameOf l a ≡ name)
+    same : (sameFrom (nameOf l a) name 0 11 ≡ true) ↔ (nameOf l a ≡ name)
     same = same-name-equal (nameOf l a) name (length-part l a 11 (omega arith)) long
 
     to : isNamed l a name ≡ true → PlainAt l a × (nameOf l a ≡ name)
-    to e = let b = and-both (isPlain (standingOf l a)) (sameName (nameOf l a) name) e in (plain-is l a .0 (b .0), same .0 (b .1))
+    to e = let b = and-both (isPlain (standingOf l a)) (sameFrom (nameOf l a) name 0 11) e in (plain-is l a .0 (b .0), same .0 (b .1))
 
     from : PlainAt l a × (nameOf l a ≡ name) → isNamed l a name ≡ true
     from h = rw (plain-is l a .1 (h .0)) (same .1 (h .1))

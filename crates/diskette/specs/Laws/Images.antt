@@ -11,7 +11,7 @@ use borrow.Author.Tests.{eqb-true, leb-true, eq-eqb, ne-eqb, le-leb, lt-leb}
 use Rattle.diskette.specs.Places.{firstData, clusters}
 use Rattle.diskette.specs.Kinds.{named}
 use Rattle.diskette.specs.Aids.Usable.{Usable}
-use Rattle.diskette.specs.Images.{OfKind, AreaOf, sized, reached, kindOfImage, kindOfArea}
+use Rattle.diskette.specs.Images.{OfKind, AreaOf, onlyIf, kindOfImage, kindOfArea}
 use Rattle.diskette.specs.Laws.Kinds.{OfKnown, of-cond, NamedBy, named-is}
 use Rattle.diskette.specs.declared.Kind.{Kind}
 use Rattle.diskette.specs.declared.WhichKind.{WhichKind}
@@ -32,11 +32,11 @@ module _ (l : List ℕ) (short : length l ≤ 512) where
   area-short = rw no-byte
 
 module _ (l : List ℕ) (r : WhichKind) (p : r ≡ named (getD l 512 0)) where
-  image-by : kindOfImage l ≡ sized (length l) r
+  image-by : kindOfImage l ≡ onlyIf (λ k. eqb (length l) (512 * k .sectors)) r
   unfolding kindOfImage
   image-by = rw p
 
-  area-by : kindOfArea l ≡ reached (length l) r
+  area-by : kindOfArea l ≡ onlyIf (λ k. leb (512 * firstData k) (length l)) r
   unfolding kindOfArea
   area-by = rw p
 
@@ -61,22 +61,20 @@ module _ (l : List ℕ) (r : WhichKind) (p : r ≡ named (getD l 512 0)) where
 
 -- ---- what is known of the kind that was found
 
-sized-known : (l : List ℕ) (r : WhichKind) → OfKnown (NamedBy (getD l 512 0)) r → OfKnown (λ k. NamedBy (getD l 512 0) k × (length l ≡ 512 * k .sectors)) (sized (length l) r)
-sized-known l Unknown n = tt
-sized-known l (Known k) n = of-cond _ (eqb (length l) (512 * k .sectors)) (Known k) Unknown (λ e. (n, eqb-true (length l) (512 * k .sectors) e)) tt
-
-reached-known : (l : List ℕ) (r : WhichKind) → OfKnown (NamedBy (getD l 512 0)) r → OfKnown (λ k. NamedBy (getD l 512 0) k × (512 * firstData k ≤ length l)) (reached (length l) r)
-reached-known l Unknown n = tt
-reached-known l (Known k) n = of-cond _ (leb (512 * firstData k) (length l)) (Known k) Unknown (λ e. (n, leb-true (512 * firstData k) (length l) e)) tt
+only-known : (P : Kind → Type 0) (Q : Kind → Type 0) (test : Kind → Bool) (r : WhichKind) → ((k : Kind) → test k ≡ true → Q k) → OfKnown P r → OfKnown (λ k. P k × Q k) (onlyIf test r)
+only-known P Q test Unknown q n = tt
+only-known P Q test (Known k) q n = of-cond _ (test k) (Known k) Unknown (λ e. (n, q k e)) tt
 
 module _ (l : List ℕ) (k : Kind) where
   found-image : kindOfImage l ≡ Known k → NamedBy (getD l 512 0) k × (length l ≡ 512 * k .sectors)
   unfolding kindOfImage
-  found-image e = subst (OfKnown _) e (sized-known l (named (getD l 512 0)) (named-is (getD l 512 0)))
+  found-image e = subst (OfKnown _) e
+      (only-known _ (λ k. length l ≡ 512 * k .sectors) _ (named (getD l 512 0)) (λ k. eqb-true (length l) (512 * k .sectors)) (named-is (getD l 512 0)))
 
   found-area : kindOfArea l ≡ Known k → NamedBy (getD l 512 0) k × (512 * firstData k ≤ length l)
   unfolding kindOfArea
-  found-area e = subst (OfKnown _) e (reached-known l (named (getD l 512 0)) (named-is (getD l 512 0)))
+  found-area e = subst (OfKnown _) e
+      (only-known _ (λ k. 512 * firstData k ≤ length l) _ (named (getD l 512 0)) (λ k. leb-true (512 * firstData k) (length l)) (named-is (getD l 512 0)))
 
   -- an image of that kind is just what the call answers
   pub image-of-kind : (kindOfImage l ≡ Known k) ↔ OfKind l k

@@ -9,20 +9,20 @@ use Rattle.image.specs.Store.{stored, part}
 use Rattle.image.specs.Numbers.{digits}
 use Rattle.image.specs.Laws.Store.{bytes-one, bytes-append, bytes-zeros, stored-whole, and-then, length-part}
 use Rattle.image.specs.Laws.Numbers.{length-digits, bytes-digits}
-use Rattle.fields.specs.Fields.{nameOf, tailBytes, entryBytes}
-use Rattle.fields.specs.Aids.Fields.{headBytes}
+use Rattle.fields.specs.Fields.{nameOf, tailBytes}
+use Rattle.fields.specs.Aids.Fields.{headBytes, entryBytes}
 
 pub length-head : (name : List ℕ) (attr : ℕ) → length name ≡ 11 → length (headBytes name attr) ≡ 22
 unfolding headBytes
 length-head name attr e = length-append name (attr ∷ replicate 10 0) ∙ omega arith
 
 pub length-entry : (name : List ℕ) (attr time date start size : ℕ) → length name ≡ 11 → length (entryBytes name attr time date start size) ≡ 32
-unfolding entryBytes headBytes tailBytes digits
+unfolding headBytes tailBytes digits
 length-entry name attr time date start size e =
     length-append (headBytes name attr) (tailBytes time date start size) ∙ omega (arith, length-head name attr e)
 
 pub bytes-entry : (name : List ℕ) (attr time date start size : ℕ) → Bytes name → attr < 256 → Bytes (entryBytes name attr time date start size)
-unfolding entryBytes headBytes tailBytes
+unfolding headBytes tailBytes
 bytes-entry name attr time date start size b h =
     bytes-append (name ++ (attr ∷ replicate 10 0)) _ (bytes-append name _ b (bytes-append (attr ∷ []) (replicate 10 0) (bytes-one attr h) (bytes-zeros 10)))
     (bytes-append (digits time 2) _ (bytes-digits time 2) (bytes-append (digits date 2) _ (bytes-digits date 2) (bytes-append (digits start 2) _ (bytes-digits start 2) (bytes-digits size 4))))
@@ -59,6 +59,6 @@ tail-stored l l₁ l₂ l₃ l₄ a time date start size p q r s =
 pub entry-stored : (l m k : List ℕ) (a : ℕ) (name : List ℕ) (attr time date start size : ℕ) → length name ≡ 11
     → m ≡ stored l a (headBytes name attr) → k ≡ stored m (a + 22) (tailBytes time date start size)
     → k ≡ stored l a (entryBytes name attr time date start size)
-unfolding entryBytes headBytes
+unfolding headBytes
 entry-stored l m k a name attr time date start size e p q =
     and-then l m k a (a + 22) (headBytes name attr) (tailBytes time date start size) p q (omega (arith, length-head name attr e))

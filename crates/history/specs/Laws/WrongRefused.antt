@@ -8,7 +8,7 @@ use mathlib.Core.Path.{_≡_, refl, ap}
 use lib.ListN.{getD, replicate}
 use Rattle.image.specs.Laws.Store.{bytes-zeros, bytes-one}
 use Rattle.image.specs.Numbers.{number}
-use Rattle.chains.specs.Write.{written, splice}
+use Rattle.chains.specs.Write.{written}
 use Rattle.chains.specs.Laws.Put.{put-same}
 use Rattle.chains.specs.Laws.Tests.{clash}
 use Rattle.diskette.specs.Kinds.{kindFE}
@@ -71,7 +71,7 @@ takes-first-refused = broken (takes-first-spoils scene (1 ∷ replicate 31 0) re
 -- ---- write stores through a place that is not live
 
 other-tare : written zeros 0 (1 ∷ []) ≢ zeros
-unfolding written splice
+unfolding written
 other-tare e = let z : _≡_ {A = ℕ} 1 0 = ap (λ (bytes : List ℕ). getD bytes 0 0) e in omega arith
 
 abbrev Live : List ℕ → Type 0

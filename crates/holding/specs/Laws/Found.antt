@@ -11,7 +11,7 @@ use Rattle.search.specs.declared.Found.{Found}
 use Rattle.search.specs.declared.Found.the-variants.{At, Nothing}
 use Rattle.fields.specs.Fields.{nameOf}
 use Rattle.directory.specs.Slots.{standingOf, isPlain}
-use Rattle.directory.specs.Search.{sameName, slotNamed}
+use Rattle.directory.specs.Search.{sameFrom, slotNamed}
 use Rattle.directory.specs.Aids.Search.{namedSlot}
 use Rattle.directory.specs.Laws.Slots.{plain-is}
 use Rattle.opened.specs.Aids.Places.{liveSlot}
@@ -30,7 +30,7 @@ file-by img k name slot (At i) x e =
     subst (IsFile k img) z
     (record {
       below = omega arith;
-      plain = plain-is img (slotAt k i) .0 (both-first (isPlain (standingOf img (slotAt k i))) (sameName (nameOf img (slotAt k i)) name) (x .2));
+      plain = plain-is img (slotAt k i) .0 (both-first (isPlain (standingOf img (slotAt k i))) (sameFrom (nameOf img (slotAt k i)) name 0 11) (x .2));
     })
 file-by img k name slot Nothing x e = absurd (let z : _≡_ {A = ℕ} 0 1 = cc in omega arith)
 

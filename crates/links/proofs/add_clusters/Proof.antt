@@ -3,16 +3,14 @@ use borrow.Author.Needs.{needs}
 use Prim.Native.Nat.{_≤_}
 use mathlib.Core.Path.{_≡_}
 use mathlib.Core.Logic.{⊎-elim}
-use lib.ListN.{length}
-use Rattle.chains.specs.Lists.{headOf}
-use Rattle.links.specs.Linked.{newClusters}
-use Rattle.links.specs.Aids.Linked.{linkedFrom, firstFrom}
+use lib.ListN.{length, getD}
+use Rattle.links.specs.Aids.Linked.{newClusters, linkedFrom, firstFrom}
 use Rattle.links.specs.Laws.Turns.{reaches-long, linked-turn, first-all, first-set, first-kept, added-none, added-end}
 use Rattle.links.proofs.add_clusters.Statement.{statement}
 use Rattle.links.proofs.add_clusters.Tie as tie
 
 abbrev Inv-loop : tie.InvT-loop
-Inv-loop img₀ second last prev n first₀ end₀ from₀ left₀ img first end from left = (length img ≡ length img₀) × (end ≤ last) × (2 ≤ from) × (linkedFrom second last img end from left ≡ linkedFrom second last img₀ prev 2 n) × (firstFrom first last img from left ≡ headOf (newClusters last img₀ n))
+Inv-loop img₀ second last prev n first₀ end₀ from₀ left₀ img first end from left = (length img ≡ length img₀) × (end ≤ last) × (2 ≤ from) × (linkedFrom second last img end from left ≡ linkedFrom second last img₀ prev 2 n) × (firstFrom first last img from left ≡ getD (newClusters last img₀ n) 0 0)
 
 abbrev μ-loop : tie.MeasureT-loop
 μ-loop img₀ second last prev n first₀ end₀ from₀ left₀ img first end from left = left

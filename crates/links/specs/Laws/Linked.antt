@@ -7,21 +7,21 @@ use mathlib.Core.Logic.{_≢_, inl, inr}
 use mathlib.Core.Path.{_≡_, refl, sym, ap, subst, _∙_}
 use lib.ListN.{length}
 use Rattle.chains.specs.Aids.Put.{put}
-use Rattle.chains.specs.Lists.{_∈_, lastOf}
-use Rattle.chains.specs.Aids.Lists.{Once}
+use Rattle.chains.specs.Lists.{_∈_}
+use Rattle.chains.specs.Aids.Lists.{lastOf, Once}
 use Rattle.chains.specs.Values.{Link}
 use Rattle.chains.specs.Aids.Chain.{Chain}
 use Rattle.chains.specs.Aids.Free.{Takable}
 use Rattle.chains.specs.Aids.Growth.{extended, laid}
 use Rattle.chains.specs.Aids.Steps.{followed}
 use Rattle.chains.specs.Laws.Put.{put-same, put-other}
-use Rattle.chains.specs.Laws.Lists.{last-mem, once-head, once-tail}
+use Rattle.chains.specs.Laws.Lists.{last-mem, last-index, once-head, once-tail}
 use Rattle.chains.specs.Laws.Chain.{chain-mem}
 use Rattle.chains.specs.Laws.Follow.{last-followed}
 use Rattle.chains.specs.Laws.Growth.{laid-other}
 use Rattle.table.specs.Entries.{tableOf}
-use Rattle.links.specs.Linked.{endOf, linkedTo, linked, newClusters}
-use Rattle.links.specs.Aids.Linked.{Behind, linkedFrom}
+use Rattle.links.specs.Linked.{endOf, linkedTo, linked}
+use Rattle.links.specs.Aids.Linked.{newClusters, Behind, linkedFrom}
 use Rattle.links.specs.Aids.Leaves.{HasTable}
 use Rattle.links.specs.Laws.Table.{geometry, holds-linked, table-first, table-behind}
 use Rattle.links.specs.Laws.New.{added-linked, new-takable}
@@ -71,30 +71,38 @@ module _ (second last : ℕ) where
 
 -- ---- behind a chain
 
+end-none : endOf [] ≡ 0
+unfolding endOf
+end-none = refl
+
+end-last : (c : ℕ) (cs : List ℕ) → endOf (c ∷ cs) ≡ lastOf c cs
+unfolding endOf
+end-last c cs = let e : length (c ∷ cs) - 1 ≡ length cs = omega arith in rw e (last-index c cs)
+
 module _ (last : ℕ) (small : last ≤ 4079) (f : ℕ → ℕ) (start : ℕ) where
   -- its last cluster is in range and not free
   pub end-behind : (cs : List ℕ) → Chain last f start cs → Behind last f (endOf cs)
-  end-behind [] p = inl refl
+  end-behind [] p = inl end-none
   end-behind (c ∷ cs) p =
       let r = chain-mem (geometry last small) f start (c ∷ cs) p (lastOf c cs) (last-mem c cs) in
-      inr (r .0, λ z. elim (r .1) [ inl h ↦ omega arith | inr h ↦ omega arith ])
+      rw (end-last c cs) (inr (r .0, λ z. elim (r .1) [ inl h ↦ omega arith | inr h ↦ omega arith ]))
 
   -- it is what last_of answers
   pub end-followed : (cs : List ℕ) → Chain last f start cs → followed f (length cs - 1) start ≡ endOf cs
-  end-followed [] p = let e : followed f 0 start ≡ start = unfold followed in refl in e ∙ p
+  end-followed [] p = let e : followed f 0 start ≡ start = unfold followed in refl in e ∙ p ∙ sym end-none
   end-followed (c ∷ cs) p =
       let e : length (c ∷ cs) - 1 ≡ length cs = omega arith in
-      ap (λ (n : ℕ). followed f n start) e ∙ ap (followed f (length cs)) (p .0) ∙ last-followed (geometry last small) f c cs (p .2)
+      ap (λ (n : ℕ). followed f n start) e ∙ ap (followed f (length cs)) (p .0) ∙ last-followed (geometry last small) f c cs (p .2) ∙ sym (end-last c cs)
 
 module _ (second last : ℕ) (l : List ℕ) (holds : HasTable second last l) (start : ℕ) where
   linked-at : (cs new : List ℕ) → Chain last (tableOf last l) start cs → Takable last (tableOf last l) new → (a : ℕ) → tableOf last (linked second l (endOf cs) new) a ≡ extended (tableOf last l) cs new a
   unfolding extended linked
   linked-at cs [] p t a = refl
-  linked-at [] (d ∷ ds) p t a = begun-at second last ds l d holds (t .range) (t .each) a
-  linked-at (c ∷ cs) (d ∷ ds) p t a = elim (end-behind last (holds .small) (tableOf last l) start (c ∷ cs) p) [
+  linked-at [] (d ∷ ds) p t a = rw end-none (begun-at second last ds l d holds (t .range) (t .each) a)
+  linked-at (c ∷ cs) (d ∷ ds) p t a = rw (end-last c cs) (elim (rw (end-last c cs) at (end-behind last (holds .small) (tableOf last l) start (c ∷ cs) p)) [
     | inl z ↦ absurd (omega (arith, chain-mem (geometry last (holds .small)) (tableOf last l) start (c ∷ cs) p (lastOf c cs) (last-mem c cs) .0))
     | inr h ↦ laid-at second last ds l (lastOf c cs) d (tableOf last l) holds (h .0) (t .range) (λ i. h .1 (t .unused (lastOf c cs) i)) (t .each) a (λ _. refl)
-  ]
+  ])
 
   pub table-linked : (cs new : List ℕ) → Chain last (tableOf last l) start cs → Takable last (tableOf last l) new → tableOf last (linked second l (endOf cs) new) ≡ extended (tableOf last l) cs new
   table-linked cs new p t = λ k a. linked-at cs new p t a k
@@ -104,7 +112,7 @@ module _ (second last : ℕ) (l : List ℕ) (holds : HasTable second last l) (st
   unfolding extended
   linked-others cs [] p t a n k = linked-at cs [] p t a
   linked-others [] (d ∷ ds) p t a n k = linked-at [] (d ∷ ds) p t a ∙ laid-other (tableOf last l) d ds a k
-  linked-others (c ∷ cs) (d ∷ ds) p t a n k = linked-at (c ∷ cs) (d ∷ ds) p t a ∙ laid-other (tableOf last l) (lastOf c cs) (d ∷ ds) a (λ i. elim i [ inl e ↦ n e | inr j ↦ k j ])
+  linked-others (c ∷ cs) (d ∷ ds) p t a n k = linked-at (c ∷ cs) (d ∷ ds) p t a ∙ laid-other (tableOf last l) (lastOf c cs) (d ∷ ds) a (λ i. elim i [ inl e ↦ n (e ∙ sym (end-last c cs)) | inr j ↦ k j ])
 
   -- and so for the clusters that the loop takes
   pub chain-extended : (cs : List ℕ) (n : ℕ) → Chain last (tableOf last l) start cs → tableOf last (linkedFrom second last l (endOf cs) 2 n) ≡ extended (tableOf last l) cs (newClusters last l n)

@@ -5,18 +5,17 @@ use native.Mathlib.Decide.{ℕ-discrete}
 use mathlib.Core.List.{List, [], _∷_}
 use mathlib.Core.Logic.{_↔_, _≢_, inl, inr}
 use mathlib.Core.Path.{_≡_, refl, sym, ap, _∙_}
-use lib.ListN.{length, take}
+use lib.ListN.{length, getD, take}
 use lib.Seq.{length-take-le}
 use Rattle.chains.specs.Aids.Put.{put}
-use Rattle.chains.specs.Lists.{headOf}
 use Rattle.chains.specs.Values.{Link, freeCount}
 use Rattle.chains.specs.Free.{freeFrom, freeClusters}
 use Rattle.chains.specs.Aids.Free.{Takable}
 use Rattle.chains.specs.Laws.Put.{put-same, put-other, put-cases}
 use Rattle.chains.specs.Laws.Free.{free-nil, free-yes, free-no, free-same, free-length, lowest-takable}
 use Rattle.table.specs.Entries.{tableOf}
-use Rattle.links.specs.Linked.{linkedTo, linked, newClusters}
-use Rattle.links.specs.Aids.Linked.{Behind, nextFree, linkedFrom}
+use Rattle.links.specs.Linked.{linkedTo, linked}
+use Rattle.links.specs.Aids.Linked.{newClusters, Behind, nextFree, linkedFrom}
 use Rattle.links.specs.Aids.Leaves.{HasTable}
 use Rattle.links.specs.Laws.Table.{geometry, holds-linked, table-first, table-behind}
 use Rattle.links.specs.Laws.Turns.{linked-none, linked-turn}
@@ -84,14 +83,14 @@ module _ (second last : ℕ) where
       by : ((m : List ℕ) (d : ℕ) → HasTable second last m → Behind last (tableOf last m) d → 2 ≤ d + 1 → linkedFrom second last m d (d + 1) n ≡ linked second m d (take n (freeFrom (tableOf last m) (last + 1 - (d + 1)) (d + 1))))
           → (ds : List ℕ) → freeFrom (tableOf last l) (last + 1 - c) c ≡ ds → linkedFrom second last l prev c (suc n) ≡ linked second l prev (take (suc n) ds)
       by later [] e =
-          let z : 0 ≡ nextFree last l c = unfold nextFree in sym (ap headOf e) in
+          let z : 0 ≡ nextFree last l c = unfold nextFree in sym (ap (λ (cs : List ℕ). getD cs 0 0) e) in
           let y : linked second l prev [] ≡ l = unfold linked in refl in
           sym (y ∙ linked-none second last l prev c (suc n) _ refl (omega arith) 0 z refl)
       by later (d ∷ ds) e =
           let r = head-of (tableOf last l) (last + 1 - c) c d ds e in
           let g : Link last d = (omega (arith, r .from), omega (arith, r .from, r .to)) in
           let m = linkedTo second l prev d in
-          let z : d ≡ nextFree last l c = unfold nextFree in sym (ap headOf e) in
+          let z : d ≡ nextFree last l c = unfold nextFree in sym (ap (λ (cs : List ℕ). getD cs 0 0) e) in
           let i : c + (last + 1 - c) - (d + 1) ≡ last + 1 - (d + 1) = omega arith in
           let t : freeFrom (tableOf last m) (last + 1 - (d + 1)) (d + 1) ≡ ds
           = free-same (tableOf last l) (tableOf last m) (last + 1 - (d + 1)) (d + 1) (still-free second last l holds prev d b g) ∙ (rw i at (r .rest)) in
@@ -104,16 +103,14 @@ module _ (second last : ℕ) where
           ∙ sym y
 
   pub added-linked : (l : List ℕ) (prev n : ℕ) → HasTable second last l → Behind last (tableOf last l) prev → linkedFrom second last l prev 2 n ≡ linked second l prev (newClusters last l n)
-  unfolding newClusters freeClusters
+  unfolding freeClusters
   added-linked l prev n holds b =
       let z : last + 1 - 2 ≡ last - 1 = omega arith in
       rw z at (from-linked n l prev 2 holds b (omega arith))
 
 -- they may be taken, and there are as many as are needed where so many are free
 pub new-takable : (last : ℕ) (l : List ℕ) (n : ℕ) → last ≤ 4079 → Takable last (tableOf last l) (newClusters last l n)
-unfolding newClusters
 new-takable last l n s = lowest-takable (geometry last s) (tableOf last l) n
 
 pub new-length : (last : ℕ) (l : List ℕ) (n : ℕ) → last ≤ 4079 → n ≤ freeCount last (tableOf last l) → length (newClusters last l n) ≡ n
-unfolding newClusters
 new-length last l n s h = length-take-le n (freeClusters last (tableOf last l)) (omega (arith, free-length (geometry last s) (tableOf last l)))

@@ -7,10 +7,9 @@ use mathlib.Core.List.{List, [], _∷_}
 use mathlib.Core.Logic.{_≢_, inl, inr}
 use mathlib.Core.Path.{_≡_, refl, sym, ap, _∙_}
 use lib.Dec.{eqb}
-use lib.ListN.{length, take}
+use lib.ListN.{length, getD, take}
 use borrow.Author.Tests.{le-leb, lt-leb, eq-eqb, ne-eqb}
 use Rattle.chains.specs.Values.{linkb}
-use Rattle.chains.specs.Lists.{headOf}
 use Rattle.chains.specs.Free.{freeFrom, freeClusters}
 use Rattle.chains.specs.Aids.Steps.{followed}
 use Rattle.chains.specs.Laws.FreeTurns as free
@@ -19,8 +18,8 @@ use Rattle.table.specs.Entries.{entryOf, setBoth, tableOf}
 use Rattle.table.specs.Aids.Copies.{Reaches}
 use Rattle.table.specs.Laws.View.{table-inside, table-outside}
 use Rattle.links.specs.Aids.Freed.{freedFrom}
-use Rattle.links.specs.Linked.{linkedTo, newClusters}
-use Rattle.links.specs.Aids.Linked.{nextFree, linkedFrom, firstFrom, Added}
+use Rattle.links.specs.Linked.{linkedTo}
+use Rattle.links.specs.Aids.Linked.{newClusters, nextFree, linkedFrom, firstFrom, Added}
 
 down : (n : ℕ) → 0 < n → n ≡ suc (n - 1)
 down n h = omega arith
@@ -121,14 +120,14 @@ module _ (second last : ℕ) (l : List ℕ) (prev c n : ℕ) (whole : List ℕ) 
 -- ---- the first of them
 
 -- the first of some of a list is that of the list
-start-take : (n : ℕ) (ds : List ℕ) → 0 < n → headOf (take n ds) ≡ headOf ds
+start-take : (n : ℕ) (ds : List ℕ) → 0 < n → getD (take n ds) 0 0 ≡ getD ds 0 0
 start-take zero ds h = absurd (omega arith)
 start-take (suc n) [] h = refl
 start-take (suc n) (d ∷ ds) h = refl
 
 module _ (last : ℕ) (l : List ℕ) (n : ℕ) where
-  pub first-all : firstFrom 0 last l 2 n ≡ headOf (newClusters last l n)
-  unfolding firstFrom newClusters freeClusters
+  pub first-all : firstFrom 0 last l 2 n ≡ getD (newClusters last l n) 0 0
+  unfolding firstFrom freeClusters
   first-all = let z : last + 1 - 2 ≡ last - 1 = omega arith in rw z refl
 
 module _ (first last : ℕ) (l : List ℕ) (c n whole : ℕ) (inv : firstFrom first last l c n ≡ whole) where
@@ -169,7 +168,7 @@ module _ (first last : ℕ) (l : List ℕ) (c n whole : ℕ) (inv : firstFrom fi
 -- ---- both together
 
 module _ (second last : ℕ) (l₀ : List ℕ) (prev₀ n₀ : ℕ) (first : ℕ) (l : List ℕ) (prev c n : ℕ)
-    (image : linkedFrom second last l prev c n ≡ linkedFrom second last l₀ prev₀ 2 n₀) (answer : firstFrom first last l c n ≡ headOf (newClusters last l₀ n₀)) where
+    (image : linkedFrom second last l prev c n ≡ linkedFrom second last l₀ prev₀ 2 n₀) (answer : firstFrom first last l c n ≡ getD (newClusters last l₀ n₀) 0 0) where
   pub added-none : 0 < n → (d : ℕ) → d ≡ nextFree last l c → d ≡ 0 → Added second last l₀ prev₀ n₀ first l
   added-none h d r z = record { first = first-none first last l c n _ answer h d r z; image = linked-none second last l prev c n _ image h d r z }
 

@@ -2,20 +2,23 @@
 use Prim.Native.Nat.{ℕ, _+_, _*_, _≤_}
 use mathlib.Core.List.{List}
 use mathlib.Core.Path.{_≡_}
-use lib.ListN.{length}
+use lib.ListN.{length, getD}
 use Rattle.image.specs.Bytes.{Bytes}
-use Rattle.chains.specs.Lists.{headOf}
 use Rattle.diskette.specs.Places.{slotAt, lastCluster, copyTwo, firstData, clusterBytes}
 use Rattle.diskette.specs.declared.Kind.{Kind}
 use Rattle.fields.specs.Fields.{sizeOf}
 use Rattle.sound.specs.Counts.{freeOf}
 use Rattle.sound.specs.Files.{IsFile}
-use Rattle.links.specs.Linked.{newClusters, linked, endOf}
-use Rattle.contents.specs.Aids.Contents.{Area}
-use Rattle.contents.specs.Contents.{chainFrom}
+use Rattle.links.specs.Linked.{linked, endOf}
+use Rattle.links.specs.Aids.Linked.{newClusters}
+use Rattle.contents.specs.Aids.Contents.{chainFrom, Area}
 use Rattle.calls.specs.Aids.Ready.{OnVolume}
 use Rattle.holding.specs.Holding.{fileChain}
-use Rattle.putting.specs.Longer.{chainAfter, withClusters, lengthened}
+use Rattle.putting.specs.Longer.{newFor, chainAfter, lengthened}
+
+-- the image with the new clusters linked behind those of the file, in both copies of the table
+abbrev pub withClusters : Kind → List ℕ → ℕ → ℕ → List ℕ
+withClusters k img slot size = linked (copyTwo k) img (endOf (fileChain k img slot)) (newFor k img slot size)
 
 pub record CanGrow (k : Kind) (img : List ℕ) (slot size : ℕ) : Type 0 where
   pub on : OnVolume img k
@@ -26,12 +29,12 @@ pub record CanGrow (k : Kind) (img : List ℕ) (slot size : ℕ) : Type 0 where
 
 -- n clusters were added behind those of the file: the answer is the first of them
 pub record AddedBehind (k : Kind) (img : List ℕ) (slot n answer : ℕ) (after : List ℕ) : Type 0 where
-  pub first : answer ≡ headOf (newClusters (lastCluster k) img n)
+  pub first : answer ≡ getD (newClusters (lastCluster k) img n) 0 0
   pub image : after ≡ linked (copyTwo k) img (endOf (fileChain k img slot)) (newClusters (lastCluster k) img n)
 
 -- the file has the clusters for that size: the answer is where its chain starts
 pub record Grows (k : Kind) (img : List ℕ) (slot size answer : ℕ) (after : List ℕ) : Type 0 where
-  pub start : answer ≡ headOf (chainAfter k img slot size)
+  pub start : answer ≡ getD (chainAfter k img slot size) 0 0
   pub image : after ≡ withClusters k img slot size
 
 -- its entry says so: from the answer on its clusters are found, and they hold the size

@@ -7,8 +7,7 @@ use Rattle.diskette.specs.Places.{firstData, clusterBytes, lastCluster}
 use Rattle.diskette.specs.declared.Kind.{Kind}
 use Rattle.sound.specs.Counts.{freeOf}
 use Rattle.sound.specs.Files.{IsFile}
-use Rattle.contents.specs.Contents.{chainFrom}
-use Rattle.contents.specs.Aids.Contents.{Area}
+use Rattle.contents.specs.Aids.Contents.{chainFrom, Area}
 use Rattle.calls.specs.Aids.Ready.{OnVolume}
 use Rattle.holding.specs.Holding.{fileChain}
 

@@ -5,14 +5,14 @@ use native.Mathlib.Omega.{arith}
 use mathlib.Core.List.{List, [], _∷_}
 use mathlib.Core.Logic.{_⊎_, inl, inr}
 use mathlib.Core.Path.{_≡_, refl, sym, ap, _∙_, subst}
-use lib.ListN.{length, length-append}
+use lib.ListN.{length, getD, length-append}
 use Rattle.image.specs.Laws.Store.{length-stored}
 use Rattle.chains.specs.Aids.Chain.{Chain}
 use Rattle.chains.specs.Aids.Free.{Takable}
 use Rattle.chains.specs.Aids.Growth.{extended}
-use Rattle.chains.specs.Lists.{_∈_, headOf}
-use Rattle.chains.specs.Sizes.{clustersFor, lacking}
-use Rattle.chains.specs.Aids.Sizes.{Geometry}
+use Rattle.chains.specs.Lists.{_∈_}
+use Rattle.chains.specs.Sizes.{clustersFor}
+use Rattle.chains.specs.Aids.Sizes.{Geometry, lacking}
 use Rattle.chains.specs.Values.{Link}
 use Rattle.chains.specs.Laws.Chain.{chain-mem}
 use Rattle.chains.specs.Laws.Growth.{extended-chain}
@@ -27,8 +27,7 @@ use Rattle.links.specs.Aids.Leaves.{HasTable, SameButEntries}
 use Rattle.links.specs.Laws.Leaves.{leaves-linked}
 use Rattle.links.specs.Laws.Linked.{end-behind, table-linked}
 use Rattle.links.specs.Laws.New.{new-takable, new-length}
-use Rattle.contents.specs.Contents.{chainFrom}
-use Rattle.contents.specs.Aids.Contents.{Area}
+use Rattle.contents.specs.Aids.Contents.{chainFrom, Area}
 use Rattle.contents.specs.Laws.Chain.{chain-is}
 use Rattle.sound.specs.Counts.{freeOf}
 use Rattle.sound.specs.Files.{valueOf, IsFile}
@@ -38,8 +37,8 @@ use Rattle.calls.specs.Laws.Ready.{on-usable}
 use Rattle.holding.specs.Holding.{fileChain}
 use Rattle.holding.specs.Laws.Clusters.{on-clusters, copies-reach}
 use Rattle.holding.specs.Laws.Chain.{file-chain, chain-long}
-use Rattle.putting.specs.Longer.{newFor, chainAfter, withClusters, lengthened}
-use Rattle.putting.specs.Aids.Longer.{CanGrow}
+use Rattle.putting.specs.Longer.{newFor, chainAfter, lengthened}
+use Rattle.putting.specs.Aids.Longer.{withClusters, CanGrow}
 use Rattle.putting.specs.Laws.Room.{apart-once}
 
 module _ (k : Kind) (img : List ℕ) (slot size : ℕ) (g : CanGrow k img slot size) where
@@ -62,13 +61,12 @@ module _ (k : Kind) (img : List ℕ) (slot size : ℕ) (g : CanGrow k img slot s
   holds = record { small = on-usable img k v .below-aside; bytes = g .bytes; reaches = copies-reach img k v (copyTwo k) (lastCluster k) refl refl }
 
   takable : Takable (lastCluster k) (valueOf k img) (newFor k img slot size)
-  takable = new-takable (lastCluster k) img _ (on-usable img k v .below-aside)
+  takable = new-takable (lastCluster k) img (lacking (clusterBytes k) own size) (on-usable img k v .below-aside)
 
   pub own-less : length own ≤ clustersFor (clusterBytes k) size
   own-less = omega (arith, chain-long img k v slot i, clusters-grow (clusterBytes k) wide (sizeOf img (slotAt k slot)) size (g .grow))
 
   new-many : length (newFor k img slot size) ≡ clustersFor (clusterBytes k) size - length own
-  unfolding lacking
   new-many =
       let most : clustersFor (clusterBytes k) size ≤ length own + freeOf k img = clusters-least (clusterBytes k) wide size (length own + freeOf k img) (g .room) in
       new-length (lastCluster k) img (lacking (clusterBytes k) own size) (on-usable img k v .below-aside) (omega arith)
@@ -105,25 +103,25 @@ module _ (k : Kind) (img : List ℕ) (slot size : ℕ) (g : CanGrow k img slot s
   unfolding lengthened
   longer-table c =
       let far : wordAt 512 (lastCluster k) + 2 ≤ slotAt k slot = omega (arith, on-usable img k v .reaches) in
-      table-beside (lastCluster k) (withStart (withClusters k img slot size) (slotAt k slot) (headOf (chainAfter k img slot size))) (slotAt k slot + 28) _ (inr (omega arith)) c
+      table-beside (lastCluster k) (withStart (withClusters k img slot size) (slotAt k slot) (getD (chainAfter k img slot size) 0 0)) (slotAt k slot + 28) _ (inr (omega arith)) c
       ∙ table-beside (lastCluster k) (withClusters k img slot size) (slotAt k slot + 26) _ (inr (omega arith)) c
       ∙ ap (λ (f : ℕ → ℕ). f c) (table-linked (copyTwo k) (lastCluster k) img holds (startOf img (slotAt k slot)) own (newFor k img slot size) (file-chain img k v slot i) takable)
 
-  longer-chain : Chain (lastCluster k) (tableOf (lastCluster k) (lengthened k img slot size)) (headOf (chainAfter k img slot size)) (chainAfter k img slot size)
+  longer-chain : Chain (lastCluster k) (tableOf (lastCluster k) (lengthened k img slot size)) (getD (chainAfter k img slot size) 0 0) (chainAfter k img slot size)
   unfolding G
   longer-chain =
-      subst (λ (f : ℕ → ℕ). Chain (lastCluster k) f (headOf (chainAfter k img slot size)) (chainAfter k img slot size)) (λ j c. sym (longer-table c) j)
+      subst (λ (f : ℕ → ℕ). Chain (lastCluster k) f (getD (chainAfter k img slot size) 0 0) (chainAfter k img slot size)) (λ j c. sym (longer-table c) j)
       (extended-chain G (valueOf k img) (startOf img (slotAt k slot)) own (newFor k img slot size) (file-chain img k v slot i) (takable .range)
       (apart-once G (valueOf k img) _ own (newFor k img slot size) (file-chain img k v slot i) (takable .unused) (takable .each)))
 
-  pub longer-found : chainFrom (lastCluster k) (lengthened k img slot size) (headOf (chainAfter k img slot size)) ≡ chainAfter k img slot size
+  pub longer-found : chainFrom (lastCluster k) (lengthened k img slot size) (getD (chainAfter k img slot size) 0 0) ≡ chainAfter k img slot size
   longer-found = chain-is (512 * firstData k) (clusterBytes k) (lastCluster k) (lengthened k img slot size) _ longer-area (chainAfter k img slot size) longer-chain
 
-  first-small : (xs : List ℕ) → ((a : ℕ) → a ∈ xs → Link (lastCluster k) a) → headOf xs ≤ lastCluster k
+  first-small : (xs : List ℕ) → ((a : ℕ) → a ∈ xs → Link (lastCluster k) a) → getD xs 0 0 ≤ lastCluster k
   first-small [] h = omega arith
   first-small (x ∷ xs) h = h x (inl refl) .1
 
-  pub start-small : headOf (chainAfter k img slot size) < 65536
+  pub start-small : getD (chainAfter k img slot size) 0 0 < 65536
   unfolding G
   start-small =
       let h : (a : ℕ) → a ∈ chainAfter k img slot size → Link (lastCluster k) a = λ a m. chain-mem G _ _ (chainAfter k img slot size) longer-chain a m .0 in

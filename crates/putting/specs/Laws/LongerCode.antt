@@ -6,18 +6,17 @@ use mathlib.Core.List.{List, [], _∷_, _++_}
 use mathlib.Core.Logic.{_≢_, inl, inr}
 use mathlib.Core.Path.{_≡_, refl, sym, ap, _∙_}
 use lib.Dec.{eqb}
-use lib.ListN.{length}
+use lib.ListN.{length, getD}
 use borrow.Author.Tests.{eq-eqb, ne-eqb}
 use Rattle.image.specs.Bytes.{Bytes}
 use Rattle.chains.specs.Aids.Chain.{Chain}
-use Rattle.chains.specs.Lists.{headOf}
-use Rattle.chains.specs.Sizes.{clustersFor, lacking}
+use Rattle.chains.specs.Sizes.{clustersFor}
 use Rattle.chains.specs.Aids.Steps.{followed}
 use Rattle.diskette.specs.Places.{clusterBytes, copyTwo, lastCluster, slotAt}
 use Rattle.diskette.specs.declared.Kind.{Kind}
 use Rattle.fields.specs.Fields.{startOf, sizeOf, withStart, withSize}
 use Rattle.table.specs.Entries.{wordAt, tableOf}
-use Rattle.links.specs.Linked.{endOf, newClusters}
+use Rattle.links.specs.Linked.{endOf}
 use Rattle.links.specs.Aids.Linked.{linkedFrom, Added}
 use Rattle.links.specs.Aids.Leaves.{HasTable}
 use Rattle.links.specs.Laws.Linked.{end-behind, end-followed}
@@ -76,15 +75,14 @@ module _ (k : Kind) (img : List ℕ) (slot size : ℕ) (g : CanGrow k img slot s
   pub more-needed : (own n : ℕ) → own ≡ length (fileChain k img slot) → n ≡ clustersFor (clusterBytes k) size → own ≤ n
   more-needed own n eo en = omega (arith, own-less k img slot size g)
 
-  start-by : (xs new : List ℕ) (start first : ℕ) → Chain (lastCluster k) (valueOf k img) start xs → first ≡ headOf new → cond (eqb (length xs) 0) first start ≡ headOf (xs ++ new)
+  start-by : (xs new : List ℕ) (start first : ℕ) → Chain (lastCluster k) (valueOf k img) start xs → first ≡ getD new 0 0 → cond (eqb (length xs) 0) first start ≡ getD (xs ++ new) 0 0
   start-by [] new start first p e = e
   start-by (x ∷ xs) new start first p e = rw (ne-eqb (length (x ∷ xs)) 0 (omega arith)) (p .0)
 
   pub grown-is : (own n a start first then : ℕ) (m : List ℕ) → own ≡ length (fileChain k img slot) → n ≡ clustersFor (clusterBytes k) size → a ≡ slotAt k slot → start ≡ startOf img a
       → AddedBehind k img slot (n - own) first m → then ≡ cond (eqb own 0) first start → Grows k img slot size then m
-  unfolding lacking
   grown-is own n a start first then m eo en ea es x e =
-      let q : first ≡ headOf (newFor k img slot size) = rw (eo, en) at (x .first) in
+      let q : first ≡ getD (newFor k img slot size) 0 0 = rw (eo, en) at (x .first) in
       record {
         start = e ∙ rw (eo, es, ea) (start-by (fileChain k img slot) (newFor k img slot size) (startOf img (slotAt k slot)) first (file-chain img k (g .on) slot (g .file)) q);
         image = x .image ∙ rw (eo, en);

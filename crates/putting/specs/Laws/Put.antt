@@ -8,8 +8,7 @@ use Rattle.chains.specs.Write.{poured, writtenImage}
 use Rattle.diskette.specs.Places.{firstData, clusterBytes, lastCluster, slotAt}
 use Rattle.diskette.specs.declared.Kind.{Kind}
 use Rattle.fields.specs.Fields.{sizeOf}
-use Rattle.contents.specs.Contents.{chainFrom}
-use Rattle.contents.specs.Aids.Contents.{Area, bytesPut, zerosPut}
+use Rattle.contents.specs.Aids.Contents.{chainFrom, Area, bytesPut, zerosPut}
 use Rattle.contents.specs.Laws.Kept.{area-poured, poured-chains, written-put}
 use Rattle.putting.specs.Aids.Longer.{CanGrow, Lengthens}
 use Rattle.putting.specs.Aids.Put.{HasRoom, CanPut}

@@ -13,8 +13,7 @@ use Rattle.image.specs.Laws.Store.{length-part, stored-outside}
 use Rattle.chains.specs.Content.{content}
 use Rattle.chains.specs.Laws.Content.{content-length}
 use Rattle.contents.specs.Laws.Chain.{chain-room}
-use Rattle.contents.specs.Contents.{chainFrom}
-use Rattle.contents.specs.Aids.Contents.{fetched}
+use Rattle.contents.specs.Aids.Contents.{chainFrom, fetched}
 use Rattle.contents.specs.Laws.Read.{fetched-content}
 use Rattle.diskette.specs.Places.{firstData, clusterBytes, lastCluster, rootAt, rootEntries, slotAt}
 use Rattle.diskette.specs.declared.Kind.{Kind}

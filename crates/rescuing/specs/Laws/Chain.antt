@@ -21,8 +21,7 @@ use Rattle.chains.specs.Laws.Content.{content-length}
 use Rattle.chains.specs.Laws.Holders.{file-fits}
 use Rattle.chains.specs.Laws.Sizes.{clusters-some}
 use Rattle.chains.specs.Laws.Tests.{says-eq, says-map, says-true, says-false, false-says}
-use Rattle.contents.specs.Contents.{chainFrom}
-use Rattle.contents.specs.Aids.Contents.{fetched}
+use Rattle.contents.specs.Aids.Contents.{chainFrom, fetched}
 use Rattle.contents.specs.Laws.Chain.{chain-is, chain-room}
 use Rattle.contents.specs.Laws.Read.{fetched-content}
 use Rattle.diskette.specs.Images.{kindOfImage}
