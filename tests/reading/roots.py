@@ -1,4 +1,4 @@
-"""Where reading begins: the contracts of the public calls, the promises and worked numbers that are proved, and the
+"""Where reading begins: the contracts of the public calls, rooms of calls to come, the promises and worked numbers that are proved, and the
 theorems that say what a test means."""
 
 import re
@@ -17,6 +17,8 @@ CALLS = [
     *("marking/src/mode.rt", "viewing/src/view.rt", "rescuing/src/rescue.rt"),
     *("lent/src/lib.rt", "single/src/held.rt", "lending/src/lib.rt"),
 ]
+# The rooms of calls that are still to come: what their public functions promise is read as a call's contract is.
+ROOMS = ["patterns/src/lib.rt"]
 # The file with equations over worked numbers; and the folders of promises and worked numbers that the laws there prove.
 EQUATIONS = "crates/lines/specs/Worked.antt"
 PROMISES = ["crates/history/specs", "crates/reset/specs", "crates/worked/specs"]
@@ -48,6 +50,18 @@ def calls(definitions, header, listed, tally):
         tally.check(not call.asks(), f"{call.where()} asks for something: a public call takes anything")
         named = [thing for thing in definitions.uses(call) if isinstance(thing, Item)]
         tally.check(call.promises() and named, f"{call.where()} promises nothing by our definitions")
+    return found
+
+
+def rooms(definitions, tally):
+    """The public functions of rooms that no call uses yet. Standing beneath a call, they may ask for something."""
+    found = []
+    for file in ROOMS:
+        public = public_in(definitions, file)
+        tally.check(public, f"crates/{file} has no public function: tests/reading/roots.py names it as a room to read")
+        found += public
+    for function in found:
+        tally.check(function.promises(), f"{function.where()} promises nothing")
     return found
 
 

@@ -18,9 +18,9 @@ unfoldable pub afterFirst : ℕ → List ℕ → List ℕ
 afterFirst d [] = []
 afterFirst d (c ∷ cs) = cond (eqb c d) cs (afterFirst d cs)
 
--- the parts keep to the rules
-unfoldable pub fitting : List ℕ → List ℕ → Bool
-fitting base ext = leb 1 (length base) && (leb (length base) 8 && (leb (length ext) 3 && (every allowed base && every allowed ext)))
+-- the parts keep to the rules: their lengths, and each is good
+unfoldable pub fitting : (List ℕ → Bool) → List ℕ → List ℕ → Bool
+fitting good base ext = leb 1 (length base) && (leb (length base) 8 && (leb (length ext) 3 && (good base && good ext)))
 
 -- where a name breaks the rules (refusal 42) it does not fit, and its bytes are eleven spaces
 abbrev pub spelledIf : Bool → List ℕ → Spelled
@@ -29,4 +29,4 @@ spelledIf false n = record { fits = false; name = replicate 11 space }
 
 -- the answer for a name given by a caller
 unfoldable pub nameGiven : List ℕ → Spelled
-nameGiven s = let base = beforeFirst dot s in let ext = afterFirst dot s in spelledIf (fitting base ext) (eleven base ext)
+nameGiven s = let base = beforeFirst dot s in let ext = afterFirst dot s in spelledIf (fitting (every allowed) base ext) (eleven base ext)

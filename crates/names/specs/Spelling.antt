@@ -19,22 +19,26 @@ unfoldable pub every : (ℕ → Bool) → List ℕ → Bool
 every p [] = true
 every p (c ∷ cs) = p c && every p cs
 
--- 1 to 8 characters, and 0 to 3 more
-pub record Parts (base ext : List ℕ) : Type 0 where
+-- 1 to 8 characters, and 0 to 3 more; good says which parts may be written
+pub record Parts (good : List ℕ → Bool) (base ext : List ℕ) : Type 0 where
   pub some : 1 ≤ length base
   pub eight : length base ≤ 8
   pub three : length ext ≤ 3
-  pub baseAllowed : every allowed base ≡ true
-  pub extAllowed : every allowed ext ≡ true
+  pub baseGood : good base ≡ true
+  pub extGood : good ext ≡ true
 
 -- 1 to 8 characters, then optionally a dot and 0 to 3 more.
-pub record Spells (s base ext : List ℕ) : Type 0 where
-  pub parts : Parts base ext
+pub record Spells (good : List ℕ → Bool) (s base ext : List ℕ) : Type 0 where
+  pub parts : Parts good base ext
   pub written : ((s ≡ base) × (ext ≡ [])) ⊎ (s ≡ base ++ (dot ∷ ext))
+
+-- t, and then as many f as make it n
+abbrev pub filled : ℕ → ℕ → List ℕ → List ℕ
+filled n f t = t ++ replicate (n - length t) f
 
 -- padded by spaces
 abbrev pub padded : ℕ → List ℕ → List ℕ
-padded n t = t ++ replicate (n - length t) space
+padded n t = filled n space t
 
 -- name 0-7, extension 8-10, in capitals
 unfoldable pub eleven : List ℕ → List ℕ → List ℕ
@@ -44,7 +48,7 @@ eleven base ext = padded 8 (map capital base) ++ padded 3 (map capital ext)
 pub record Means (s n : List ℕ) : Type 0 where
   pub base : List ℕ
   pub ext : List ℕ
-  pub spells : Spells s base ext
+  pub spells : Spells (every allowed) s base ext
   pub bytes : n ≡ eleven base ext
 
 -- Eleven bytes that can be the name of a live file: capitals, digits and signs, padded by spaces.
@@ -59,12 +63,12 @@ pub record Proper (n : List ℕ) : Type 0 where
   pub erased : getD n 0 0 ≢ 0xE5
   pub dotted : getD n 0 0 ≢ dot
 
--- "TARE." equals "TARE": a last dot says nothing.
-unfoldable pub withoutLastDot : List ℕ → List ℕ
-withoutLastDot [] = []
-withoutLastDot (c ∷ []) = cond (eqb c dot) [] (c ∷ [])
-withoutLastDot (c ∷ (d ∷ cs)) = c ∷ withoutLastDot (d ∷ cs)
+-- the list without a last d
+unfoldable pub withoutLast : ℕ → List ℕ → List ℕ
+withoutLast d [] = []
+withoutLast d (c ∷ []) = cond (eqb c d) [] (c ∷ [])
+withoutLast d (c ∷ (e ∷ cs)) = c ∷ withoutLast d (e ∷ cs)
 
--- s without the case of its letters and without a last dot
+-- s without the case of its letters and without a last dot, which says nothing: "TARE." equals "TARE"
 unfoldable pub plainly : List ℕ → List ℕ
-plainly s = map capital (withoutLastDot s)
+plainly s = map capital (withoutLast dot s)

@@ -58,7 +58,7 @@ fn is_small(c: u8) -> bool
 }
 
 // Whether a caller may write c in a name.
-fn is_allowed(c: u8) -> bool
+pub fn is_allowed(c: u8) -> bool
     ensures { λ r. ⌜ r ≡ allowed c ⌝ }
 {
     if is_small(c) {
@@ -68,7 +68,7 @@ fn is_allowed(c: u8) -> bool
 }
 
 // Small letters become capitals, others stay.
-fn to_capital(c: u8) -> u8
+pub fn to_capital(c: u8) -> u8
     ensures { λ r. ⌜ r ≡ capital c ⌝ }
 {
     if is_small(c) { c - 32 } else { c }
@@ -89,7 +89,7 @@ fn all_allowed(s: &[u8]) -> bool
 }
 
 // Where the first dot of s stands: its length where there is none.
-fn dot_at(s: &[u8]) -> usize
+pub fn dot_at(s: &[u8]) -> usize
     ensures { λ r. ⌜ r ≡ length (beforeFirst dot (now (s .entry))) ⌝ }
 {
     let mut i: usize = 0;
@@ -104,7 +104,7 @@ fn dot_at(s: &[u8]) -> usize
 
 // Whether the parts before and after the dot keep to the rules.
 fn parts_fit(base: &[u8], ext: &[u8]) -> bool
-    ensures { λ r. ⌜ r ≡ fitting (now (base .entry)) (now (ext .entry)) ⌝ }
+    ensures { λ r. ⌜ r ≡ fitting (every allowed) (now (base .entry)) (now (ext .entry)) ⌝ }
 {
     if base.len() < 1 {
         return false;
@@ -141,7 +141,7 @@ fn name_byte(base: &[u8], ext: &[u8], i: usize) -> u8
 
 // The eleven bytes of the two parts.
 fn eleven_bytes(base: &[u8], ext: &[u8]) -> [u8; 11]
-    requires { ⌜ Parts (now base) (now ext) ⌝ }
+    requires { ⌜ Parts (every allowed) (now base) (now ext) ⌝ }
     ensures { λ r. ⌜ r ≡ eleven (now (base .entry)) (now (ext .entry)) ⌝ }
 {
     let mut name = [b' '; 11];
@@ -155,7 +155,7 @@ fn eleven_bytes(base: &[u8], ext: &[u8]) -> [u8; 11]
 
 // The name of two parts.
 fn in_parts(base: &[u8], ext: &[u8]) -> Spelled
-    ensures { λ r. ⌜ r ≡ spelledAs (now (base .entry)) (now (ext .entry)) ⌝ }
+    ensures { λ r. ⌜ r ≡ spelledAs (every allowed) eleven (now (base .entry)) (now (ext .entry)) ⌝ }
 {
     if !parts_fit(base, ext) {
         return Spelled {

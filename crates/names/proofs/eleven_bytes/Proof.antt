@@ -3,12 +3,13 @@ use borrow.Author.Needs.{needs}
 use Prim.Native.Nat.{_-_, _≤_}
 use mathlib.Core.Path.{_≡_}
 use lib.ListN.{length, length-set}
+use Rattle.names.specs.Aids.Bytes.{nameByte}
 use Rattle.names.specs.Laws.Code.{Done, done-none, done-turn, done-all}
 use Rattle.names.proofs.eleven_bytes.Statement.{statement}
 use Rattle.names.proofs.eleven_bytes.Tie as tie
 
 abbrev Inv-loop : tie.InvT-loop
-Inv-loop base ext name₀ i₀ name i = (i ≤ 11) × (length name ≡ 11) × Done base ext name i
+Inv-loop base ext name₀ i₀ name i = (i ≤ 11) × (length name ≡ 11) × Done (nameByte base ext) name i
 
 abbrev μ-loop : tie.MeasureT-loop
 μ-loop base ext name₀ i₀ name i = 11 - i

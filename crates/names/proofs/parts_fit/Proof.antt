@@ -1,7 +1,4 @@
 -- The tests come in the definition's order.
-use native.Mathlib.Omega.{arith}
-use Prim.Native.Nat.{_<_}
-use lib.ListN.{length}
 use Rattle.names.specs.Laws.Code.{fitting-none, fitting-long, fitting-longer, fitting-strange, fitting-rest}
 use borrow.Author.Needs.{needs}
 use Rattle.names.proofs.parts_fit.Statement.{statement}
@@ -11,7 +8,7 @@ returns : tie.Need-returns
 returns c = search fitting-none
 
 returns-2 : tie.Need-returns-2
-returns-2 c = let h : 8 < length (c .before .before .before .before .args .base .now) = omega arith in search fitting-long
+returns-2 c = search fitting-long
 
 returns-3 : tie.Need-returns-3
 returns-3 c = search fitting-longer

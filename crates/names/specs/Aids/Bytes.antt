@@ -7,9 +7,13 @@ use lib.ListN.{length, getD}
 use Rattle.names.specs.Alphabet.{capital}
 use Rattle.names.specs.Spelling.{space}
 
+-- byte i of a part in capitals, and then f
+abbrev pub filledByte : ℕ → List ℕ → ℕ → ℕ
+filledByte f t i = cond (ltb i (length t)) (capital (getD t i 0)) f
+
 -- byte i of a part in capitals, padded by spaces
 abbrev pub paddedByte : List ℕ → ℕ → ℕ
-paddedByte t i = cond (ltb i (length t)) (capital (getD t i 0)) space
+paddedByte t i = filledByte space t i
 
 -- byte i of the eleven
 abbrev pub nameByte : List ℕ → List ℕ → ℕ → ℕ

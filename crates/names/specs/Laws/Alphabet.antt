@@ -59,6 +59,11 @@ unfolding every
 every-map p q f h [] e = refl
 every-map p q f h (c ∷ cs) e = rw (h c (and-left (p c) (every p cs) e), every-map p q f h cs (and-right (p c) (every p cs) e))
 
+pub every-also : (p q : ℕ → Bool) → ((c : ℕ) → p c ≡ true → q c ≡ true) → (s : List ℕ) → every p s ≡ true → every q s ≡ true
+unfolding every
+every-also p q h [] e = refl
+every-also p q h (c ∷ cs) e = rw (h c (and-left (p c) (every p cs) e), every-also p q h cs (and-right (p c) (every p cs) e))
+
 pub every-at : (p : ℕ → Bool) (s : List ℕ) (i : ℕ) → every p s ≡ true → i < length s → p (getD s i 0) ≡ true
 unfolding every
 every-at p [] i e h = absurd (omega arith)

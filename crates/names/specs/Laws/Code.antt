@@ -3,11 +3,11 @@ use Prim.Native.Nat.{ℕ, suc, _+_, _-_, _≤_, _<_}
 use native.Mathlib.Omega.{arith}
 use native.Mathlib.Numerals.{add-one}
 use native.Mathlib.Decide.{ℕ-discrete}
-use mathlib.Core.Bool.{Bool, true, false, and-false, not}
+use mathlib.Core.Bool.{Bool, true, false, and-false, cond, not}
 use mathlib.Core.List.{List, [], _∷_}
 use mathlib.Core.Logic.{_≢_}
 use mathlib.Core.Path.{_≡_, sym, _∙_}
-use lib.Dec.{leb}
+use lib.Dec.{leb, ltb}
 use lib.ListN.{length, getD, set, take, drop, replicate, length-drop, drop-of-length-le}
 use lib.Seq.{drop-cons, getD-set-same, getD-set-other, ext-getD, take-all, length-take-le}
 use borrow.Author.Tests.{not-true, not-false, leb-true, eq-eqb, ne-eqb, le-leb, lt-leb, lt-ltb, le-ltb}
@@ -15,7 +15,7 @@ use Rattle.names.specs.Alphabet.{within, largeLetter, smallLetter, digit
 use Rattle.names.specs.Spelling.{dot, space, every, Parts, eleven}
 use Rattle.names.specs.Reading.{beforeFirst, afterFirst, fitting, nameGiven}
 use Rattle.names.specs.Aids.Reading.{spelledAs}
-use Rattle.names.specs.Aids.Bytes.{paddedByte, nameByte}
+use Rattle.names.specs.Aids.Bytes.{filledByte, nameByte}
 use Rattle.names.specs.Laws.Tests.{and-left, fitting-parts}
 use Rattle.names.specs.Laws.Parts.{take-before, drop-after, length-eleven, eleven-at}
 use Rattle.names.specs.declared.Spelled.{Spelled}
@@ -74,8 +74,10 @@ module _ (c : ℕ) (s : Bool) (small : s ≡ smallLetter c) where
   unfolding capital
   capital-other e = rw (sym small ∙ e)
 
-module _ (s : List ℕ) (i : ℕ) (a b : Bool) (is : a ≡ allowed (getD s i 0)) (inv : every allowed (drop i s) ≡ b) where
-  pub all-turn : i < length s → not a ≡ false → every allowed (drop (i + 1) s) ≡ b
+-- ---- every character of a list
+
+module _ (p : ℕ → Bool) (s : List ℕ) (i : ℕ) (a b : Bool) (inv : every p (drop i s) ≡ b) (is : a ≡ p (getD s i 0)) where
+  pub all-turn : i < length s → not a ≡ false → every p (drop (i + 1) s) ≡ b
   unfolding every
   all-turn h e = rw (sym is ∙ not-false a e) at (rw (drop-next s i h) at inv)
 
@@ -83,9 +85,9 @@ module _ (s : List ℕ) (i : ℕ) (a b : Bool) (is : a ≡ allowed (getD s i 0))
   unfolding every
   all-found h e = rw (sym is ∙ not-true a e) at (rw (drop-next s i h) at inv)
 
-pub all-done : (s : List ℕ) (i : ℕ) (b : Bool) → every allowed (drop i s) ≡ b → length s ≤ i → true ≡ b
+pub all-done : (p : ℕ → Bool) (s : List ℕ) (i : ℕ) (b : Bool) → every p (drop i s) ≡ b → length s ≤ i → true ≡ b
 unfolding every
-all-done s i b inv h = rw (drop-of-length-le s h) at inv
+all-done p s i b inv h = rw (drop-of-length-le s h) at inv
 
 -- ---- the first dot
 
@@ -104,86 +106,98 @@ module _ (d : ℕ) (s : List ℕ) (i m : ℕ) (inv : i + length (beforeFirst d (
 
 -- ---- the parts
 
-module _ (base ext : List ℕ) where
-  pub fitting-none : length base < 1 → false ≡ fitting base ext
+module _ (good : List ℕ → Bool) (base ext : List ℕ) where
+  pub fitting-none : length base < 1 → false ≡ fitting good base ext
   unfolding fitting
   fitting-none h = rw (lt-leb 1 (length base) h)
 
-  pub fitting-long : 8 < length base → false ≡ fitting base ext
+  pub fitting-long : 8 < length base → false ≡ fitting good base ext
   unfolding fitting
   fitting-long h = rw (lt-leb (length base) 8 h, and-false (leb 1 (length base)))
 
-  pub fitting-longer : 3 < length ext → false ≡ fitting base ext
+  pub fitting-longer : 3 < length ext → false ≡ fitting good base ext
   unfolding fitting
   fitting-longer h = rw (lt-leb (length ext) 3 h, and-false (leb (length base) 8), and-false (leb 1 (length base)))
 
-  module _ (a : Bool) (isBase : a ≡ every allowed base) where
-    pub fitting-strange : not a ≡ true → false ≡ fitting base ext
+  module _ (a : Bool) (isBase : a ≡ good base) where
+    pub fitting-strange : not a ≡ true → false ≡ fitting good base ext
     unfolding fitting
     fitting-strange h = rw (sym isBase ∙ not-true a h, and-false (leb (length ext) 3), and-false (leb (length base) 8), and-false (leb 1 (length base)))
 
-    pub fitting-rest : (b : Bool) → 1 ≤ length base → length base ≤ 8 → length ext ≤ 3 → not a ≡ false → b ≡ every allowed ext → b ≡ fitting base ext
+    pub fitting-rest : (b : Bool) → 1 ≤ length base → length base ≤ 8 → length ext ≤ 3 → not a ≡ false → b ≡ good ext → b ≡ fitting good base ext
     unfolding fitting
     fitting-rest b some eight three h isExt = isExt ∙ rw (le-leb 1 (length base) some, le-leb (length base) 8 eight, le-leb (length ext) 3 three, sym isBase ∙ not-false a h)
 
-pub padded-letter : (t : List ℕ) (i r : ℕ) → i < length t → r ≡ capital (getD t i 0) → r ≡ paddedByte t i
-padded-letter t i r h e = e ∙ rw (lt-ltb i (length t) h)
+pub filled-letter : (f : ℕ) (t : List ℕ) (i r : ℕ) → i < length t → r ≡ capital (getD t i 0) → r ≡ filledByte f t i
+filled-letter f t i r h e = e ∙ rw (lt-ltb i (length t) h)
 
-pub padded-space : (t : List ℕ) (i : ℕ) → length t ≤ i → space ≡ paddedByte t i
-padded-space t i h = rw (le-ltb i (length t) h)
+pub filled-past : (f : ℕ) (t : List ℕ) (i : ℕ) → length t ≤ i → f ≡ filledByte f t i
+filled-past f t i h = rw (le-ltb i (length t) h)
 
-pub byte-of-base : (base ext : List ℕ) (i r : ℕ) → i < 8 → r ≡ paddedByte base i → r ≡ nameByte base ext i
-byte-of-base base ext i r h e = e ∙ rw (lt-ltb i 8 h)
+-- byte i of the eleven: the first part's, or the second's
+pub byte-of-base : (i r x y : ℕ) → i < 8 → r ≡ x → r ≡ cond (ltb i 8) x y
+byte-of-base i r x y h e = e ∙ rw (lt-ltb i 8 h)
 
-pub byte-of-ext : (base ext : List ℕ) (i r : ℕ) → 8 ≤ i → r ≡ paddedByte ext (i - 8) → r ≡ nameByte base ext i
-byte-of-ext base ext i r h e = e ∙ rw (le-ltb i 8 h)
+pub byte-of-ext : (i r x y : ℕ) → 8 ≤ i → r ≡ y → r ≡ cond (ltb i 8) x y
+byte-of-ext i r x y h e = e ∙ rw (le-ltb i 8 h)
 
--- the bytes below i are those of the name
-abbrev pub Done : List ℕ → List ℕ → List ℕ → ℕ → Type 0
-Done base ext name i = (k : ℕ) → k < i → getD name k 0 ≡ nameByte base ext k
+-- the bytes of name below i are these
+abbrev pub Done : (ℕ → ℕ) → List ℕ → ℕ → Type 0
+Done byte name i = (k : ℕ) → k < i → getD name k 0 ≡ byte k
 
-pub done-none : (base ext name : List ℕ) → Done base ext name 0
-done-none base ext name k h = absurd (omega arith)
+pub done-none : (byte : ℕ → ℕ) (name : List ℕ) → Done byte name 0
+done-none byte name k h = absurd (omega arith)
 
-pub done-turn : (base ext name : List ℕ) (i r : ℕ) → length name ≡ 11 → i < 11 → r ≡ nameByte base ext i → Done base ext name i → Done base ext (set name i r) (i + 1)
-done-turn base ext name i r l h e d k b = elim (ℕ-discrete k i) [
+pub done-turn : (byte : ℕ → ℕ) (name : List ℕ) (i r : ℕ) → length name ≡ 11 → i < 11 → Done byte name i → r ≡ byte i → Done byte (set name i r) (i + 1)
+done-turn byte name i r l h d e k b = elim (ℕ-discrete k i) [
   | yes p ↦ rw p (getD-set-same name i r 0 (omega arith) ∙ e)
   | no p ↦ getD-set-other name i k r 0 p ∙ d k (omega arith)
 ]
 
-pub done-all : (base ext name : List ℕ) (i : ℕ) → Parts base ext → length name ≡ 11 → 11 ≤ i → Done base ext name i → name ≡ eleven base ext
+-- two lists of eleven bytes are one where these are the bytes of both
+pub done-same : (byte : ℕ → ℕ) (name n : List ℕ) → length name ≡ 11 → length n ≡ 11 → Done byte name 11 → Done byte n 11 → name ≡ n
+done-same byte name n l m d e = ext-getD 0 name n (l ∙ sym m) (λ j h. d j (omega arith) ∙ sym (e j (omega arith)))
+
+pub done-all : (base ext name : List ℕ) (i : ℕ) → Parts (every allowed) base ext → length name ≡ 11 → 11 ≤ i → Done (nameByte base ext) name i → name ≡ eleven base ext
 done-all base ext name i p l g d =
-    ext-getD 0 name (eleven base ext) (l ∙ sym (length-eleven base ext p))
-    (λ j m. d j (omega arith) ∙ sym (eleven-at base ext j p (omega arith)))
+    done-same (nameByte base ext) name (eleven base ext) l (length-eleven base ext p) (λ k h. d k (omega arith)) (eleven-at base ext p)
 
 -- ---- the answer
 
-module _ (base ext : List ℕ) (f : Bool) (fit : f ≡ fitting base ext) where
-  pub parts-refused : not f ≡ true → record { fits = false; name = replicate 11 space } ≡ spelledAs base ext
+module _ (good : List ℕ → Bool) (bytes : List ℕ → List ℕ → List ℕ) (base ext : List ℕ) (f : Bool) (fit : f ≡ fitting good base ext) where
+  pub parts-refused : not f ≡ true → record { fits = false; name = replicate 11 space } ≡ spelledAs good bytes base ext
   parts-refused h = rw (sym fit ∙ not-true f h)
 
-  pub parts-kept : not f ≡ false → Parts base ext
-  parts-kept h = fitting-parts base ext (sym fit ∙ not-false f h)
+  pub parts-kept : not f ≡ false → Parts good base ext
+  parts-kept h = fitting-parts good base ext (sym fit ∙ not-false f h)
 
-  pub parts-named : (n : List ℕ) → not f ≡ false → n ≡ eleven base ext → record { fits = true; name = n } ≡ spelledAs base ext
+  pub parts-named : (n : List ℕ) → not f ≡ false → n ≡ bytes base ext → record { fits = true; name = n } ≡ spelledAs good bytes base ext
   parts-named n h e = rw (sym fit ∙ not-false f h, e)
 
 module _ (s : List ℕ) (at : ℕ) where
   pub length-front : at < length s → at ≡ length (take at s)
   length-front h = sym (length-take-le at s (omega arith))
 
-  module _ (r : Spelled) (is : at ≡ length (beforeFirst dot s)) where
-    pub given-dot : r ≡ spelledAs (take at s) (take (length s - (at + 1)) (drop (at + 1) s)) → r ≡ nameGiven s
-    unfolding nameGiven
-    given-dot e =
+  -- what is cut at the first dot, or whole, is what any function of the two parts takes
+  module _ (f : List ℕ → List ℕ → Spelled) (r : Spelled) (is : at ≡ length (beforeFirst dot s)) where
+    pub cut-dot : r ≡ f (take at s) (take (length s - (at + 1)) (drop (at + 1) s)) → r ≡ f (beforeFirst dot s) (afterFirst dot s)
+    cut-dot e =
         let a : take at s ≡ beforeFirst dot s = rw is (take-before dot s) in
         let b : drop (at + 1) s ≡ afterFirst dot s = rw (is, add-one (length (beforeFirst dot s))) (drop-after dot s) in
         let t : take (length s - (at + 1)) (drop (at + 1) s) ≡ drop (at + 1) s = take-all (length s - (at + 1)) (drop (at + 1) s) (simp length-drop (omega arith)) in
         e ∙ rw (t, a, b)
 
-    pub given-plain : length s ≤ at → r ≡ spelledAs s [] → r ≡ nameGiven s
-    unfolding nameGiven
-    given-plain h e =
+    pub cut-none : length s ≤ at → r ≡ f s [] → r ≡ f (beforeFirst dot s) (afterFirst dot s)
+    cut-none h e =
         let a : beforeFirst dot s ≡ s = sym (take-before dot s) ∙ take-all (length (beforeFirst dot s)) s (omega arith) in
         let b : afterFirst dot s ≡ [] = sym (drop-after dot s) ∙ drop-of-length-le s {i = suc (length (beforeFirst dot s))} (omega arith) in
         e ∙ rw (a, b)
+
+  module _ (r : Spelled) (is : at ≡ length (beforeFirst dot s)) where
+    pub given-dot : r ≡ spelledAs (every allowed) eleven (take at s) (take (length s - (at + 1)) (drop (at + 1) s)) → r ≡ nameGiven s
+    unfolding nameGiven
+    given-dot = cut-dot (spelledAs (every allowed) eleven) r is
+
+    pub given-plain : length s ≤ at → r ≡ spelledAs (every allowed) eleven s [] → r ≡ nameGiven s
+    unfolding nameGiven
+    given-plain = cut-none (spelledAs (every allowed) eleven) r is

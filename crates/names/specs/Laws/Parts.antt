@@ -1,4 +1,4 @@
--- What stands before and after a character, and what is padded.
+-- What stands before and after a character, and what is filled.
 use Prim.Native.Nat.{ℕ, suc, _+_, _-_, _≤_, _<_}
 use native.Mathlib.Omega.{arith}
 use native.Mathlib.Decide.{decLt}
@@ -6,14 +6,14 @@ use mathlib.Core.Bool.{Bool, true, false, cond}
 use mathlib.Core.List.{List, [], _∷_, _++_, map}
 use mathlib.Core.Logic.{_⊎_, inl, inr}
 use mathlib.Core.Path.{_≡_, refl, _∙_, ap}
-use lib.Dec.{eqb}
+use lib.Dec.{eqb, ltb}
 use lib.ListN.{length, getD, take, drop, replicate, length-append, length-map, length-replicate, getD-replicate, List·getD-append, List·getD-map}
 use lib.Seq.{getD-append-add}
 use borrow.Author.Tests.{eqb-true, ne-eqb, lt-ltb, le-ltb}
-use Rattle.names.specs.Alphabet.{capital}
-use Rattle.names.specs.Spelling.{every, Parts, space, padded, eleven}
+use Rattle.names.specs.Alphabet.{allowed, capital}
+use Rattle.names.specs.Spelling.{every, Parts, space, filled, eleven, withoutLast}
 use Rattle.names.specs.Reading.{beforeFirst, afterFirst}
-use Rattle.names.specs.Aids.Bytes.{paddedByte, nameByte}
+use Rattle.names.specs.Aids.Bytes.{filledByte, nameByte}
 use Rattle.names.specs.Laws.Tests.{and-left, and-right}
 use Rattle.names.specs.Laws.Alphabet.{told}
 
@@ -65,43 +65,57 @@ module _ (p : ℕ → Bool) (d : ℕ) (never : p d ≡ false) where
       let n : eqb c d ≡ false = ne-eqb c d (told p c d (and-left (p c) (every p cs) e) never) in
       rw n (after-skip cs r (and-right (p c) (every p cs) e))
 
--- ---- padded
+  pub without-none : (t : List ℕ) → every p t ≡ true → withoutLast d t ≡ t
+  unfolding withoutLast every
+  without-none [] e = refl
+  without-none (c ∷ []) e = rw (ne-eqb c d (told p c d (and-left (p c) true e) never))
+  without-none (c ∷ (f ∷ cs)) e = ap (λ (l : List ℕ). c ∷ l) (without-none (f ∷ cs) (and-right (p c) (every p (f ∷ cs)) e))
 
-pub length-padded : (n : ℕ) (t : List ℕ) → length t ≤ n → length (padded n t) ≡ n
-length-padded n t h = simp (length-append, length-replicate) (omega arith)
+-- ---- filled
 
-pub length-eleven : (base ext : List ℕ) → Parts base ext → length (eleven base ext) ≡ 11
-unfolding eleven
-length-eleven base ext p =
-    let b : length (padded 8 (map capital base)) ≡ 8 = length-padded 8 (map capital base) (rw (length-map base capital) (p .eight)) in
-    let e : length (padded 3 (map capital ext)) ≡ 3 = length-padded 3 (map capital ext) (rw (length-map ext capital) (p .three)) in
-    length-append (padded 8 (map capital base)) (padded 3 (map capital ext)) ∙ (omega arith)
+pub length-filled : (n f : ℕ) (t : List ℕ) → length t ≤ n → length (filled n f t) ≡ n
+length-filled n f t h = simp (length-append, length-replicate) (omega arith)
 
-pub padded-at : (n : ℕ) (t : List ℕ) (i : ℕ) → i < n → getD (padded n (map capital t)) i 0 ≡ paddedByte t i
+-- what stands at i of two lists, the first of which has n
+append-at : (x y : List ℕ) (n i : ℕ) → length x ≡ n → getD (x ++ y) i 0 ≡ cond (ltb i n) (getD x i 0) (getD y (i - n) 0)
+append-at x y n i l = elim (decLt i n) [
+  | yes p ↦ rw (lt-ltb i n p) (List·getD-append x y 0 i (omega arith))
+  | no p ↦ let e : length x + (i - n) ≡ i = omega arith in rw (le-ltb i n (omega arith)) (rw e at (getD-append-add x y (i - n) 0))
+]
+
+filled-at : (n f : ℕ) (t : List ℕ) (i : ℕ) → i < n → getD (filled n f (map capital t)) i 0 ≡ filledByte f t i
 unfolding capital
-padded-at n t i h = elim (decLt i (length t)) [
-  | yes p ↦
-      let q : i < length (map capital t) = rw (length-map t capital) p in
-      rw (lt-ltb i (length t) p) (List·getD-append (map capital t) (replicate (n - length (map capital t)) space) 0 i q ∙ List·getD-map capital t i 0)
-  | no p ↦
-      let l : length (map capital t) ≡ length t = length-map t capital in
-      let e : length (map capital t) + (i - length t) ≡ i = omega arith in
-      let m : i - length t < n - length (map capital t) = omega arith in
-      let z : getD (map capital t ++ replicate (n - length (map capital t)) space) (length (map capital t) + (i - length t)) 0 ≡ space = getD-append-add (map capital t) (replicate (n - length (map capital t)) space) (i - length t) 0 ∙ getD-replicate (n - length (map capital t)) (i - length t) space 0 m in
-      rw (le-ltb i (length t) (omega arith)) (rw e at z)
-]
+filled-at n f t i h =
+    let l : length (map capital t) ≡ length t = length-map t capital in
+    append-at (map capital t) (replicate (n - length (map capital t)) f) (length t) i l ∙ elim (decLt i (length t)) [
+      | yes p ↦ rw (lt-ltb i (length t) p) (List·getD-map capital t i 0)
+      | no p ↦ rw (le-ltb i (length t) (omega arith)) (getD-replicate (n - length (map capital t)) (i - length t) f 0 (omega arith))
+    ]
 
-pub eleven-at : (base ext : List ℕ) (i : ℕ) → Parts base ext → i < 11 → getD (eleven base ext) i 0 ≡ nameByte base ext i
-unfolding eleven
-eleven-at base ext i q m = elim (decLt i 8) [
-  | yes p ↦
-      let f : i < length (padded 8 (map capital base)) = rw b p in
-      rw (lt-ltb i 8 p) (List·getD-append (padded 8 (map capital base)) (padded 3 (map capital ext)) 0 i f ∙ padded-at 8 base i p)
-  | no p ↦
-      let e : length (padded 8 (map capital base)) + (i - 8) ≡ i = omega (arith, b) in
-      let z : getD (eleven base ext) (length (padded 8 (map capital base)) + (i - 8)) 0 ≡ paddedByte ext (i - 8) = getD-append-add (padded 8 (map capital base)) (padded 3 (map capital ext)) (i - 8) 0 ∙ padded-at 3 ext (i - 8) (omega arith) in
-      rw (le-ltb i 8 (omega arith)) (rw e at z)
-]
-  where
-    b : length (padded 8 (map capital base)) ≡ 8
-    b = length-padded 8 (map capital base) (rw (length-map base capital) (q .eight))
+-- two parts in capitals, the one filled by f, the other by g
+module _ (f g : ℕ) (base ext : List ℕ) (eight : length base ≤ 8) where
+  front : length (filled 8 f (map capital base)) ≡ 8
+  front = length-filled 8 f (map capital base) (rw (length-map base capital) eight)
+
+  pub length-both : length ext ≤ 3 → length (filled 8 f (map capital base) ++ filled 3 g (map capital ext)) ≡ 11
+  length-both three =
+      let e : length (filled 3 g (map capital ext)) ≡ 3 = length-filled 3 g (map capital ext) (rw (length-map ext capital) three) in
+      length-append (filled 8 f (map capital base)) (filled 3 g (map capital ext)) ∙ (omega (arith, front))
+
+  pub both-at : (i : ℕ) → i < 11
+      → getD (filled 8 f (map capital base) ++ filled 3 g (map capital ext)) i 0 ≡ cond (ltb i 8) (filledByte f base i) (filledByte g ext (i - 8))
+  both-at i m = append-at (filled 8 f (map capital base)) (filled 3 g (map capital ext)) 8 i front ∙ elim (decLt i 8) [
+    | yes p ↦ rw (lt-ltb i 8 p) (filled-at 8 f base i p)
+    | no p ↦ rw (le-ltb i 8 (omega arith)) (filled-at 3 g ext (i - 8) (omega arith))
+  ]
+
+-- ---- the eleven bytes of a name: both parts are filled by spaces
+
+module _ (base ext : List ℕ) (p : Parts (every allowed) base ext) where
+  pub length-eleven : length (eleven base ext) ≡ 11
+  unfolding eleven
+  length-eleven = length-both space space base ext (p .eight) (p .three)
+
+  pub eleven-at : (i : ℕ) → i < 11 → getD (eleven base ext) i 0 ≡ nameByte base ext i
+  unfolding eleven
+  eleven-at = both-at space space base ext (p .eight)

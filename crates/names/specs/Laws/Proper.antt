@@ -25,15 +25,15 @@ padded-either t i e = elim (decLt i (length t)) [
   | no h ↦ inr (rw (le-ltb i (length t) (omega arith)))
 ]
 
-module _ (base ext : List ℕ) (p : Parts base ext) where
+module _ (base ext : List ℕ) (p : Parts (every allowed) base ext) where
   byte-letter : (i : ℕ) → (plain (nameByte base ext i) ≡ true) ⊎ (nameByte base ext i ≡ space)
   byte-letter i = elim (decLt i 8) [
-    | yes h ↦ rw (lt-ltb i 8 h) (padded-either base i (p .baseAllowed))
-    | no h ↦ rw (le-ltb i 8 (omega arith)) (padded-either ext (i - 8) (p .extAllowed))
+    | yes h ↦ rw (lt-ltb i 8 h) (padded-either base i (p .baseGood))
+    | no h ↦ rw (le-ltb i 8 (omega arith)) (padded-either ext (i - 8) (p .extGood))
   ]
 
   letter : (i : ℕ) → i < 11 → (plain (getD (eleven base ext) i 0) ≡ true) ⊎ (getD (eleven base ext) i 0 ≡ space)
-  letter i h = rw (eleven-at base ext i p h) (byte-letter i)
+  letter i h = rw (eleven-at base ext p i h) (byte-letter i)
 
   small : (i : ℕ) → getD (eleven base ext) i 0 < 256
   small i = elim (decLt i 11) [
@@ -44,7 +44,7 @@ module _ (base ext : List ℕ) (p : Parts base ext) where
   ]
 
   opening : plain (getD (eleven base ext) 0 0) ≡ true
-  opening = rw (eleven-at base ext 0 p (omega arith)) (padded-plain base 0 (p .baseAllowed) (p .some))
+  opening = rw (eleven-at base ext p 0 (omega arith)) (padded-plain base 0 (p .baseGood) (p .some))
 
   pub proper-eleven : Proper (eleven base ext)
   unfolding plain

@@ -7,28 +7,20 @@ use mathlib.Core.Logic.{inl, inr, _↔_}
 use mathlib.Core.Path.{_≡_, refl, sym, _∙_, ap}
 use lib.ListN.{length, take, drop, replicate, length-map}
 use lib.Seq.{take-at, drop-at}
-use borrow.Author.Tests.{ne-eqb}
 use Rattle.names.specs.Alphabet.{plain, allowed, capital}
-use Rattle.names.specs.Spelling.{dot, space, every, Parts, Spells, padded, eleven, withoutLastDot, plainly}
+use Rattle.names.specs.Spelling.{dot, space, every, Parts, Spells, padded, eleven, withoutLast, plainly}
 use Rattle.names.specs.Reading.{beforeFirst, afterFirst, fitting, spelledIf, nameGiven}
-use Rattle.names.specs.Laws.Tests.{and-left, and-right}
-use Rattle.names.specs.Laws.Alphabet.{told, capital-plain, every-map}
-use Rattle.names.specs.Laws.Parts.{before-skip, after-skip, length-padded}
+use Rattle.names.specs.Laws.Alphabet.{capital-plain, every-map}
+use Rattle.names.specs.Laws.Parts.{before-skip, after-skip, without-none, length-filled}
 use Rattle.names.specs.Laws.Meaning.{no-dot, fits-spells, fits-name}
 
 -- ---- a last dot
 
-last-dot-append : (b : List ℕ) (c : ℕ) (cs : List ℕ) → withoutLastDot (b ++ (c ∷ cs)) ≡ b ++ withoutLastDot (c ∷ cs)
-unfolding withoutLastDot
+last-dot-append : (b : List ℕ) (c : ℕ) (cs : List ℕ) → withoutLast dot (b ++ (c ∷ cs)) ≡ b ++ withoutLast dot (c ∷ cs)
+unfolding withoutLast
 last-dot-append [] c cs = refl
 last-dot-append (x ∷ []) c cs = refl
 last-dot-append (x ∷ (y ∷ ys)) c cs = ap (λ (l : List ℕ). x ∷ l) (last-dot-append (y ∷ ys) c cs)
-
-last-dot-none : (t : List ℕ) → every allowed t ≡ true → withoutLastDot t ≡ t
-unfolding withoutLastDot every
-last-dot-none [] e = refl
-last-dot-none (c ∷ []) e = rw (ne-eqb c dot (told allowed c dot (and-left (allowed c) true e) no-dot))
-last-dot-none (c ∷ (d ∷ cs)) e = ap (λ (l : List ℕ). c ∷ l) (last-dot-none (d ∷ cs) (and-right (allowed c) (every allowed (d ∷ cs)) e))
 
 -- ---- the two parts with a dot between them where it is needed
 
@@ -36,15 +28,15 @@ joined : List ℕ → List ℕ → List ℕ
 joined b [] = b
 joined b (c ∷ cs) = b ++ (dot ∷ (c ∷ cs))
 
-spells-joined : (s base ext : List ℕ) → Spells s base ext → withoutLastDot s ≡ joined base ext
-unfolding joined withoutLastDot
+spells-joined : (s base ext : List ℕ) → Spells (every allowed) s base ext → withoutLast dot s ≡ joined base ext
+unfolding joined withoutLast
 spells-joined s base [] w = elim (w .written) [
-  | inl h ↦ ap withoutLastDot (h .0) ∙ last-dot-none base (w .parts .baseAllowed)
-  | inr e ↦ ap withoutLastDot e ∙ last-dot-append base dot [] ∙ append-nil base
+  | inl h ↦ ap (withoutLast dot) (h .0) ∙ without-none allowed dot no-dot base (w .parts .baseGood)
+  | inr e ↦ ap (withoutLast dot) e ∙ last-dot-append base dot [] ∙ append-nil base
 ]
 spells-joined s base (c ∷ cs) w = elim (w .written) [
   | inl h ↦ absurd (let z : length (c ∷ cs) ≡ 0 = ap length (h .1) in omega arith)
-  | inr e ↦ ap withoutLastDot e ∙ last-dot-append base dot (c ∷ cs) ∙ ap (λ (l : List ℕ). base ++ (dot ∷ l)) (last-dot-none (c ∷ cs) (w .parts .extAllowed))
+  | inr e ↦ ap (withoutLast dot) e ∙ last-dot-append base dot (c ∷ cs) ∙ ap (λ (l : List ℕ). base ++ (dot ∷ l)) (without-none allowed dot no-dot (c ∷ cs) (w .parts .extGood))
 ]
 
 map-joined : (base ext : List ℕ) → map capital (joined base ext) ≡ joined (map capital base) (map capital ext)
@@ -81,15 +73,15 @@ unjoined b (c ∷ cs) p = (
   after-skip plain dot no-plain-dot b (dot ∷ (c ∷ cs)) p,
 )
 
-module _ (base ext : List ℕ) (p : Parts base ext) where
+module _ (base ext : List ℕ) (p : Parts (every allowed) base ext) where
   plain-base : every plain (map capital base) ≡ true
-  plain-base = every-map allowed plain capital capital-plain base (p .baseAllowed)
+  plain-base = every-map allowed plain capital capital-plain base (p .baseGood)
 
   plain-ext : every plain (map capital ext) ≡ true
-  plain-ext = every-map allowed plain capital capital-plain ext (p .extAllowed)
+  plain-ext = every-map allowed plain capital capital-plain ext (p .extGood)
 
   eight : length (padded 8 (map capital base)) ≡ 8
-  eight = length-padded 8 (map capital base) (rw (length-map base capital) (p .eight))
+  eight = length-filled 8 space (map capital base) (rw (length-map base capital) (p .eight))
 
   base-of-eleven : beforeFirst space (take 8 (eleven base ext)) ≡ map capital base
   unfolding eleven
@@ -99,7 +91,7 @@ module _ (base ext : List ℕ) (p : Parts base ext) where
   unfolding eleven
   ext-of-eleven = ap (beforeFirst space) (drop-at (padded 8 (map capital base)) (padded 3 (map capital ext)) 8 eight) ∙ unpadded 3 (map capital ext) plain-ext
 
-module _ (b e c f : List ℕ) (p : Parts b e) (q : Parts c f) where
+module _ (b e c f : List ℕ) (p : Parts (every allowed) b e) (q : Parts (every allowed) c f) where
   same-joined : eleven b e ≡ eleven c f → joined (map capital b) (map capital e) ≡ joined (map capital c) (map capital f)
   same-joined h =
       let x : map capital b ≡ map capital c = sym (base-of-eleven b e p) ∙ ap (λ (n : List ℕ). beforeFirst space (take 8 n)) h ∙ base-of-eleven c f q in
@@ -117,11 +109,11 @@ module _ (b e c f : List ℕ) (p : Parts b e) (q : Parts c f) where
 
 -- ---- the theorem
 
-plainly-joined : (s base ext : List ℕ) → Spells s base ext → plainly s ≡ joined (map capital base) (map capital ext)
+plainly-joined : (s base ext : List ℕ) → Spells (every allowed) s base ext → plainly s ≡ joined (map capital base) (map capital ext)
 unfolding plainly
 plainly-joined s base ext w = ap (map capital) (spells-joined s base ext w) ∙ map-joined base ext
 
-spells-same : (s b e t c f : List ℕ) → Spells s b e → Spells t c f → (eleven b e ≡ eleven c f) ↔ (plainly s ≡ plainly t)
+spells-same : (s b e t c f : List ℕ) → Spells (every allowed) s b e → Spells (every allowed) t c f → (eleven b e ≡ eleven c f) ↔ (plainly s ≡ plainly t)
 spells-same s b e t c f w v =
     let x = plainly-joined s b e w in
     let y = plainly-joined t c f v in (

@@ -7,8 +7,7 @@ use mathlib.Core.Path.{_≡_, refl}
 use lib.Dec.{leb}
 use lib.ListN.{length}
 use borrow.Author.Tests.{leb-true, le-leb}
-use Rattle.names.specs.Alphabet.{allowed}
-use Rattle.names.specs.Spelling.{every, Parts}
+use Rattle.names.specs.Spelling.{Parts}
 use Rattle.names.specs.Reading.{fitting}
 
 pub and-left : (a b : Bool) → (a && b) ≡ true → a ≡ true
@@ -24,8 +23,8 @@ pub or-cases : (a b : Bool) → (a || b) ≡ true → (a ≡ true) ⊎ (b ≡ tr
 or-cases true b e = inl refl
 or-cases false b e = inr e
 
-module _ (base ext : List ℕ) where
-  pub fitting-parts : fitting base ext ≡ true → Parts base ext
+module _ (good : List ℕ → Bool) (base ext : List ℕ) where
+  pub fitting-parts : fitting good base ext ≡ true → Parts good base ext
   unfolding fitting
   fitting-parts e =
       let e₁ = and-right (leb 1 (length base)) _ e in
@@ -35,11 +34,11 @@ module _ (base ext : List ℕ) where
         some = leb-true 1 (length base) (and-left _ _ e);
         eight = leb-true (length base) 8 (and-left _ _ e₁);
         three = leb-true (length ext) 3 (and-left _ _ e₂);
-        baseAllowed = and-left (every allowed base) _ e₃;
-        extAllowed = and-right (every allowed base) _ e₃;
+        baseGood = and-left (good base) _ e₃;
+        extGood = and-right (good base) _ e₃;
       }
 
-  pub parts-fitting : Parts base ext → fitting base ext ≡ true
+  pub parts-fitting : Parts good base ext → fitting good base ext ≡ true
   unfolding fitting
   parts-fitting p =
-      rw (le-leb 1 (length base) (p .some), le-leb (length base) 8 (p .eight), le-leb (length ext) 3 (p .three), p .baseAllowed, p .extAllowed)
+      rw (le-leb 1 (length base) (p .some), le-leb (length base) 8 (p .eight), le-leb (length ext) 3 (p .three), p .baseGood, p .extGood)
