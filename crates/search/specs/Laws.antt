@@ -2,4 +2,3 @@
 pub mod Turns
 pub mod Meaning
 pub mod Below
-pub mod Theory
