@@ -1,4 +1,4 @@
 -- The laws of the definitions beside this folder.
 pub mod Turns
 pub mod Meaning
-pub mod Below
+pub mod Answers

@@ -160,7 +160,8 @@ module _ (last cb : ℕ) (l : List ℕ) (root count : ℕ) (m₀ : List ℕ) (s 
     pub files-bad : g ≡ Bad → FilesVisited last cb l root count m₀ (BadChain s) m′
     unfolding chainsFound
     files-bad t =
-        let x = lowest-hit (badChainSlot last cb l root) s count (lowest (badChainSlot last cb l root) 0 count) (u .none-bad) h (isBad g) (sym (bad-said last cb l root s low wide g (v .is))) (ap isBad t) in
+        let x = lowest-hit (badChainSlot last cb l root) s count (lowest (badChainSlot last cb l root) 0 count) (u .none-bad) h (isBad g)
+        (sym (bad-said last cb l root s low wide g (v .is))) (ap isBad t) in
         record { is = rw (sym x); marks-are = tt }
 
     pub held-fits : (n : ℕ) → count ≤ 65536 → g ≡ Clusters n → Fits w64 (held + n)
@@ -173,7 +174,8 @@ module _ (last cb : ℕ) (l : List ℕ) (root count : ℕ) (m₀ : List ℕ) (s 
       long = ap length (x .marks-are) ∙ marks-length m (chainAt last cb l (slotFrom root s)) ∙ u .long;
       few = omega (arith, u .few);
       bounded = omega (arith, z, u .bounded, few-said last cb l root s low wide g (v .is));
-      none-bad = lowest-miss (badChainSlot last cb l root) s count (lowest (badChainSlot last cb l root) 0 count) (u .none-bad) h (isBad g) (sym (bad-said last cb l root s low wide g (v .is))) b;
+      none-bad = lowest-miss (badChainSlot last cb l root) s count (lowest (badChainSlot last cb l root) 0 count) (u .none-bad) h (isBad g)
+          (sym (bad-said last cb l root s low wide g (v .is))) b;
       files-are = w;
       held-is =
           let e : s + 1 ≡ suc s = omega arith in

@@ -3,9 +3,9 @@ use Prim.Native.Nat.{ℕ}
 use mathlib.Core.Bool.{Bool, false, true}
 use mathlib.Core.Option.{Option, none, some}
 use mathlib.Core.Path.{_≡_}
+use Rattle.search.specs.Search.{Lowest, None}
 use Rattle.search.specs.declared.Found.{Found}
 use Rattle.search.specs.declared.Found.the-variants.{At, Nothing}
-use Rattle.chains.specs.Verdict.{Lowest, None}
 
 -- any two differ one way. (Theorems take it; the definitions take the test alone.)
 pub record Orders {P : Type 0} (before : P → P → Bool) : Type 0 where

@@ -126,4 +126,5 @@ module _ (G : Geometry) (f : ℕ → ℕ) (h : ℕ → Holder) (is : List ℕ) (
         (λ c b. let r = in-range (b .0) c (b .3) (in-chain G f h (b .0) c (b .5)) in (r .0, omega arith)) (says-in-two e)
 
     pub found-lost : Finds ltb (Lost (G .last) f h is) (optional (lowest (lost (G .last) f (chainMarks size (G .last) f h is)) 2 (G .last - 1)))
-    found-lost = lowest-finds (Lost (G .last) f h is) (lost (G .last) f (chainMarks size (G .last) f h is)) 2 (G .last - 1) (λ c b. (b .0 .0, omega arith)) says-lost
+    found-lost = lowest-finds (Lost (G .last) f h is) (lost (G .last) f (chainMarks size (G .last) f h is)) 2 (G .last - 1)
+        (λ c b. (b .0 .0, omega arith)) says-lost

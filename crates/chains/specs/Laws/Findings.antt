@@ -10,7 +10,7 @@ use Rattle.chains.specs.Lists.{_∈_}
 use Rattle.chains.specs.Aids.Lists.{Once, joined}
 use Rattle.chains.specs.Aids.Sizes.{Geometry}
 use Rattle.chains.specs.Aids.Holders.{Holder, Owns, FitTogether, nobody}
-use Rattle.chains.specs.Verdict.{None}
+use Rattle.search.specs.Search.{None}
 use Rattle.chains.specs.Aids.Verdict.{Finds}
 use Rattle.chains.specs.Aids.Findings.{BadChain, BadValue, FromChains, FromLost, FromTwo, InChain, InTwo, Lost, Voice, holdersOf}
 use Rattle.chains.specs.Aids.Check.{chainMarks, chainOf, checkChains, checkLost, checkTwo, inTwo, lost}

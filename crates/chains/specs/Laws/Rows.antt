@@ -76,7 +76,8 @@ rows-sum way g k (suc n) =
     omega (arith, sum-first n (λ s. g (way (s + k))), q, z, rows-sum way g (suc k) n)
 
 -- finding 5 by a loop over the slots from below
-pub found-bad-chain : (G : Geometry) (f : ℕ → ℕ) (h : ℕ → Holder) (way : ℕ → ℕ) (n : ℕ) → Finds ltb (BadChain (G .last) f h (rows way 0 n)) (optional (lowest (λ s. not (ownsb (G .last) f (h (way s)))) 0 n))
+pub found-bad-chain : (G : Geometry) (f : ℕ → ℕ) (h : ℕ → Holder) (way : ℕ → ℕ) (n : ℕ)
+    → Finds ltb (BadChain (G .last) f h (rows way 0 n)) (optional (lowest (λ s. not (ownsb (G .last) f (h (way s)))) 0 n))
 found-bad-chain G f h way n = lowest-finds (BadChain (G .last) f h (rows way 0 n)) (λ s. not (ownsb (G .last) f (h (way s)))) 0 n
     (λ p x. let r = rows-in way 0 n p (x .0) (x .1) in (omega arith, r .1))
     (λ p l k. says-map (λ x. (way p, in-rows way 0 n p l k, λ cs o. x (cs, o)))

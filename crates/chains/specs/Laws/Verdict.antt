@@ -3,18 +3,18 @@ use Prim.Native.Nat.{ℕ, _+_, _≤_, _<_}
 use native.Mathlib.Omega.{arith}
 use mathlib.Core.Path.{_≡_, refl, sym, ap, _∙_}
 use mathlib.Core.Logic.{inl, inr}
-use mathlib.Core.Bool.{Bool, false}
+use mathlib.Core.Bool.{Bool}
 use mathlib.Core.Option.{Option}
 use lib.Dec.{ltb}
 use borrow.Author.Tests.{ltb-true, ltb-false, lt-ltb, le-ltb}
-use Rattle.search.specs.Search.{lowest}
-use Rattle.search.specs.Laws.Meaning.{LowestIs, lowest-is}
+use Rattle.search.specs.Search.{lowest, Lowest, None, Answers}
+use Rattle.search.specs.Laws.Answers.{lowest-answers}
 use Rattle.search.specs.declared.Found.{Found}
 use Rattle.search.specs.declared.Found.the-variants.{At, Nothing}
 use Rattle.chains.specs.Aids.Tests.{Says}
-use Rattle.chains.specs.Verdict.{Lowest, None, OrElse}
+use Rattle.chains.specs.Verdict.{OrElse}
 use Rattle.chains.specs.Aids.Verdict.{Orders, orElse, optional, Finds, found, nowhere}
-use Rattle.chains.specs.Laws.Tests.{by-test, says-false, says-true}
+use Rattle.chains.specs.Laws.Tests.{by-test, says-true, true-says}
 
 pub lowest-same : {P : Type 0} (before : P → P → Bool) → Orders before → (B : P → Type 0) (p q : P) → Lowest before B p → Lowest before B q → p ≡ q
 lowest-same before O B p q a b = by-test (before p q)
@@ -45,14 +45,12 @@ numbers = record {
   tri = λ p q a b. omega (arith, ltb-false p q a, ltb-false q p b);
 }
 
--- B may hold in the range alone, and there the test decides it
-pub lowest-finds : (B : ℕ → Type 0) (t : ℕ → Bool) (c n : ℕ) → ((p : ℕ) → B p → (c ≤ p) × (p < c + n)) → ((p : ℕ) → c ≤ p → p < c + n → Says (t p) (B p)) → Finds ltb B (optional (lowest t c n))
+finds-answer : (B : ℕ → Type 0) (o : Found) → Answers B o → Finds ltb B (optional o)
 unfolding optional
-lowest-finds B t c n b d = by (lowest t c n) (lowest-is t c n)
-  where
-    out : (q : ℕ) → B q → t q ≡ false → ⊥
-    out q w e = says-false (d q (b q w .0) (b q w .1)) e w
+finds-answer B (At p) x = found p refl x
+finds-answer B Nothing x = nowhere refl x
 
-    by : (o : Found) → LowestIs t c n o → Finds ltb B (optional o)
-    by (At p) x = found p refl (says-true (d p (x .0) (x .1)) (x .2), λ q l w. out q w (x .3 q (b q w .0) (ltb-true q p l)))
-    by Nothing x = nowhere refl (λ q w. out q w (x q (b q w .0) (b q w .1)))
+-- B may hold in the range alone, and there the test decides it
+pub lowest-finds : (B : ℕ → Type 0) (t : ℕ → Bool) (c n : ℕ) → ((p : ℕ) → B p → (c ≤ p) × (p < c + n))
+    → ((p : ℕ) → c ≤ p → p < c + n → Says (t p) (B p)) → Finds ltb B (optional (lowest t c n))
+lowest-finds B t c n b d = finds-answer B (lowest t c n) (lowest-answers t B c n b (λ q l k. (says-true (d q l k), true-says (d q l k))))

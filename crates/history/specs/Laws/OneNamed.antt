@@ -1,13 +1,12 @@
 -- There is no second: a call names one slot at most.
 use Prim.Native.Nat.{ℕ}
-use native.Mathlib.Omega.{arith}
-use native.Mathlib.Decide.{ℕ-discrete, decLt}
+use native.Mathlib.Decide.{ℕ-discrete}
 use mathlib.Core.Bool.{false}
 use mathlib.Core.List.{List}
 use mathlib.Core.Logic.{inl, inr}
 use mathlib.Core.Path.{_≡_, sym, _∙_}
 use Rattle.diskette.specs.declared.Kind.{Kind}
-use Rattle.search.specs.Search.{LowestBelow}
+use Rattle.search.specs.Laws.Answers.{lowest-one}
 use Rattle.calls.specs.Aids.Ready.{OnVolume}
 use Rattle.calls.specs.Refusals.{badName, noFile, fileSlot}
 use Rattle.changes.specs.Laws.Slots.{name-once}
@@ -23,12 +22,6 @@ module _ (k : Kind) (w : World) (v : OnVolume (w .image) k) (s t : ℕ) where
         absurd (name-once k (w .image) v t (y .is-file) s (x .is-file .below) d (x .is-file .plain) (sym (meant-is (x .meant)) ∙ meant-is (y .meant)))
   ]
 
-  lowest-one : {P : ℕ → Type 0} {n : ℕ} → LowestBelow P n s → LowestBelow P n t → s ≡ t
-  lowest-one x y = elim (decLt s t) [
-    | yes h ↦ absurd (y .none-lower s h (x .passes))
-    | no h ↦ elim (decLt t s) [ yes i ↦ absurd (x .none-lower t i (y .passes)) | no i ↦ omega arith ]
-  ]
-
   named-one : (a : Target) → NamedBy a k w s → NamedBy a k w t → s ≡ t
   named-one nothing x y = absurd x
   named-one (byName name) x y = name-one x y
@@ -36,7 +29,7 @@ module _ (k : Kind) (w : World) (v : OnVolume (w .image) k) (s t : ℕ) where
   named-one (toMake name) (inl x) (inl y) = name-one x y
   named-one (toMake name) (inl x) (inr y) = absurd (y .new s x)
   named-one (toMake name) (inr x) (inl y) = absurd (x .new t y)
-  named-one (toMake name) (inr x) (inr y) = lowest-one (x .lowest) (y .lowest)
+  named-one (toMake name) (inr x) (inr y) = lowest-one _ s t (x .lowest) (y .lowest)
 
   pub names-one : (c : Call) → Names c k w s → Names c k w t → s ≡ t
   names-one c = named-one (target c)

@@ -54,8 +54,8 @@ module _ (k : Kind) (w : World) (bytes : Bytes (w .table)) where
   took-only : (c : Call) (access s : ℕ) → Took k w c access s (outcomeOf c w)
       → OnlyAt (outcomeOf c w .value) (outcomeOf c w .table) (w .table) × Bytes (outcomeOf c w .table)
   took-only c access s x = rw (x .table) (
-    record-only (w .table) (outcomeOf c w .value) (x .lowest .below) access s 0 false,
-    record-bytes (w .table) (outcomeOf c w .value) (x .lowest .below) access s 0 false bytes (omega (arith, x .access-fits)),
+    record-only (w .table) (outcomeOf c w .value) (x .lowest .0 .0) access s 0 false,
+    record-bytes (w .table) (outcomeOf c w .value) (x .lowest .0 .0) access s 0 false bytes (omega (arith, x .access-fits)),
   )
 
 -- ---- a pointer moved

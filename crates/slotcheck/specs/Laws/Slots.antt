@@ -107,7 +107,7 @@ module _ (l : List ℕ) (root s : ℕ) (never label r : Bool) (is : r ≡ badSlo
 
 -- ---- a search
 
--- the search below s found a plain file of that name
-pub says-found : (P : ℕ → Type 0) (count : ℕ) (f : Found) → Answers P count f → Says (isFound f) ((t : ℕ) × (t < count) × P t)
-says-found P count (At t) a = aye refl (t, a .below, a .passes)
-says-found P count Nothing a = nay refl (λ x. a (x .0) (x .1) (x .2))
+-- it found something exactly where there is something
+pub says-found : (B : ℕ → Type 0) (f : Found) → Answers B f → Says (isFound f) ((t : ℕ) × B t)
+says-found B (At t) a = aye refl (t, a .0)
+says-found B Nothing a = nay refl (λ x. a (x .0) (x .1))

@@ -33,7 +33,9 @@ voice k l = record {
 
 -- findings 6 and 7 by the marks m, as the code goes
 unfoldable pub marksJudged : ℕ → (ℕ → ℕ) → List ℕ → Verdict → Verdict
-marksJudged last f m fine = orElse (Finding 6) (optional (lowest (inTwo m) 2 (last - 1))) (orElse (Finding 7) (optional (lowest (lost last f m) 2 (last - 1))) fine)
+marksJudged last f m fine =
+    orElse (Finding 6) (optional (lowest (inTwo m) 2 (last - 1)))
+    (orElse (Finding 7) (optional (lowest (lost last f m) 2 (last - 1))) fine)
 
 -- findings 5 to 7, as the code goes
 unfoldable pub chainsJudged : Kind → List ℕ → ℕ → ℕ → Verdict
@@ -47,7 +49,8 @@ judged k l =
     orElse (Finding 2) (optional (lowest (differsAt (copyTwo k) l) 0 (512 * k .fat)))
     (orElse (Finding 3) (optional (lowest (badValue (lastCluster k) (valueOf k l)) 2 (lastCluster k - 1)))
     (orElse (Finding 4) (optional (lowest (badSlotAt l (rootAt k)) 0 (rootEntries k)))
-    (checkChains (lastCluster k) (valueOf k l) (marksOfFiles k l) (voice k l) (optional (lowest (badChainSlot (lastCluster k) (clusterBytes k) l (rootAt k)) 0 (rootEntries k))))))
+    (checkChains (lastCluster k) (valueOf k l) (marksOfFiles k l) (voice k l)
+    (optional (lowest (badChainSlot (lastCluster k) (clusterBytes k) l (rootAt k)) 0 (rootEntries k))))))
 
 abbrev pub judgedBy : WhichKind → List ℕ → Verdict
 judgedBy (Known k) l = judged k l

@@ -108,8 +108,8 @@ module _ (k : Kind) (l : List ℕ) (s : ℕ) where
     says-name-twice =
         let name = nameOf l (slotAt k s) in
         says-and (says-plain l (rootAt k) s)
-        (says-map (λ x. (x .0, x .1, x .2 .0, x .2 .1)) (λ x. (x .0, x .1, (x .2, x .3)))
-        (says-found (λ t. PlainAt l (slotAt k t) × (nameOf l (slotAt k t) ≡ name)) s (slotNamed l (rootAt k) s name)
+        (says-map (λ x. (x .0, x .1 .0, x .1 .1 .0, x .1 .1 .1)) (λ x. (x .0, (x .1, (x .2, x .3))))
+        (says-found (λ t. (t < s) × (PlainAt l (slotAt k t) × (nameOf l (slotAt k t) ≡ name))) (slotNamed l (rootAt k) s name)
         (slot-named-answers l (rootAt k) s (omega arith) name (length-part l (slotAt k s) 11 (omega arith)))))
 
     -- the test of a slot decides finding 4
@@ -118,7 +118,8 @@ module _ (k : Kind) (l : List ℕ) (s : ℕ) where
     says-bad-slot = says-or says-after (says-or says-strange (says-or says-second-label says-name-twice))
 
 -- The search answers the lowest bad slot.
-pub found-bad-slot : (k : Kind) (l : List ℕ) → 512 * firstData k ≤ length l → Finds ltb (BadSlot k l) (optional (lowest (badSlotAt l (rootAt k)) 0 (rootEntries k)))
+pub found-bad-slot : (k : Kind) (l : List ℕ) → 512 * firstData k ≤ length l
+    → Finds ltb (BadSlot k l) (optional (lowest (badSlotAt l (rootAt k)) 0 (rootEntries k)))
 found-bad-slot k l long =
     lowest-finds (BadSlot k l) (badSlotAt l (rootAt k)) 0 (rootEntries k)
     (λ s b. let h : s < rootEntries k = b .0 in (omega arith, omega arith))

@@ -116,7 +116,8 @@ misses : (t : ℕ → Bool) (end c : ℕ) (whole : Found) → lowest t c (end - 
 misses t end c whole inv zero h clear = let z : c + 0 ≡ c = omega arith in rw z inv
 misses t end c whole inv (suc n) h clear =
     let z : c + suc n ≡ c + n + 1 = omega arith in
-    rw z (lowest-miss t (c + n) end whole (misses t end c whole inv n (omega arith) (λ i k. clear i (omega arith))) (omega arith) (t (c + n)) refl (clear n (omega arith)))
+    rw z (lowest-miss t (c + n) end whole (misses t end c whole inv n (omega arith) (λ i k. clear i (omega arith)))
+    (omega arith) (t (c + n)) refl (clear n (omega arith)))
 
 module _ (l : List ℕ) (second size j : ℕ) (whole : Found) (inv : lowest (differsAt second l) j (size - j) ≡ whole) where
   module _ (n : ℕ) (a : Alike second l size j n) where
@@ -253,13 +254,15 @@ module _ (last : ℕ) (l : List ℕ) (free aside c v : ℕ) (m : Meaning) (fit :
 
   pub met-bad : m ≡ NoneOfThese → BadValue c ≡ censusOf last l
   unfolding censusOf
-  met-bad g = ap (λ o. censusBy o (freeCount last f) (asideCount last f)) (lowest-hit (badValue last f) c (last + 1) (lowest (badValue last f) 2 (last - 1)) (inv .bad-is) h (isBad m) (sym bad) (rw g))
+  met-bad g = ap (λ o. censusBy o (freeCount last f) (asideCount last f))
+      (lowest-hit (badValue last f) c (last + 1) (lowest (badValue last f) 2 (last - 1)) (inv .bad-is) h (isBad m) (sym bad) (rw g))
 
 pub met-all : (last : ℕ) (l : List ℕ) (n m c : ℕ) → Met last l (last + 1) n m c → last + 1 ≤ c → Values n m ≡ censusOf last l
 unfolding censusOf
 met-all last l n m c inv h =
     let f : ℕ → ℕ = tableOf last l in
-    let none-bad : Nothing ≡ lowest (badValue last f) 2 (last - 1) = lowest-done (badValue last f) c (last + 1) (lowest (badValue last f) 2 (last - 1)) (inv .bad-is) h in
+    let none-bad : Nothing ≡ lowest (badValue last f) 2 (last - 1)
+    = lowest-done (badValue last f) c (last + 1) (lowest (badValue last f) 2 (last - 1)) (inv .bad-is) h in
     let frees : n ≡ freeCount last f = tally-end (freeAt f) (last + 1) c n (freeCount last f) h (inv .free-is) in
     let asides : m ≡ asideCount last f = tally-end (asideAt f) (last + 1) c m (asideCount last f) h (inv .aside-is) in
     rw (sym none-bad, frees, asides)

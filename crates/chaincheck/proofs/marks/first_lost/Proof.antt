@@ -11,7 +11,8 @@ use Rattle.chaincheck.proofs.marks.first_lost.Statement.{statement}
 use Rattle.chaincheck.proofs.marks.first_lost.Tie as tie
 
 abbrev Inv-loop : tie.InvT-loop
-Inv-loop img marks last after c₀ c = (2 ≤ c) × (lowest (lost last (tableOf last img) marks) c (after - c) ≡ lowest (lost last (tableOf last img) marks) 2 (last - 1))
+Inv-loop img marks last after c₀ c =
+    (2 ≤ c) × (lowest (lost last (tableOf last img) marks) c (after - c) ≡ lowest (lost last (tableOf last img) marks) 2 (last - 1))
 
 abbrev μ-loop : tie.MeasureT-loop
 μ-loop img marks last after c₀ c = after - c
