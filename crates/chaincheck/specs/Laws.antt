@@ -1,5 +1,4 @@
 -- The laws of the definitions beside this folder.
-pub mod Searches
 pub mod MarkTurns
 pub mod SlotTurns
 pub mod FileTurns

@@ -5,15 +5,14 @@ ghost use mathlib.Core.Path.{_≡_};
 ghost use Prim.Native.Nat.{_+_, _-_, _≤_, _<_};
 ghost use lib.ListN.{length};
 ghost use Rattle.chains.specs.Aids.Check.{inTwo, lost};
-ghost use Rattle.chains.specs.Aids.Verdict.{first};
-ghost use Rattle.search.specs.Laws.Theory.{optional};
+ghost use Rattle.search.specs.Search.{lowest};
 ghost use Rattle.table.specs.Entries.{wordAt, tableOf};
 
 // The lowest cluster that was met twice.
 pub fn first_in_two(marks: &[u8], last: usize) -> Found
     requires { ⌜ last ≤ 4079 ⌝ }
     requires { ⌜ last < length (now marks) ⌝ }
-    ensures { λ r. ⌜ optional r ≡ first (inTwo (now (marks .entry))) (last - 1) 2 ⌝ }
+    ensures { λ r. ⌜ r ≡ lowest (inTwo (now (marks .entry))) 2 (last - 1) ⌝ }
 {
     let after = last + 1;
     let mut twice: usize = 2;
@@ -51,7 +50,7 @@ pub fn first_lost(img: &[u8], marks: &[u8], last: usize) -> Found
     requires { ⌜ last ≤ 4079 ⌝ }
     requires { ⌜ wordAt 512 last + 2 ≤ length (now img) ⌝ }
     requires { ⌜ last < length (now marks) ⌝ }
-    ensures { λ r. ⌜ optional r ≡ first (lost last (tableOf last (now (img .entry))) (now (marks .entry))) (last - 1) 2 ⌝ }
+    ensures { λ r. ⌜ r ≡ lowest (lost last (tableOf last (now (img .entry))) (now (marks .entry))) 2 (last - 1) ⌝ }
 {
     let after = last + 1;
     let mut c: usize = 2;

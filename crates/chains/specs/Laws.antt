@@ -15,7 +15,7 @@ pub mod Replace
 pub mod ReplaceCounts
 pub mod Free
 pub mod FreeTurns
-pub mod CountTurns
+pub mod ClusterLoops
 pub mod Growth
 pub mod Changes
 pub mod Marks
@@ -28,7 +28,6 @@ pub mod Poured
 pub mod Runs
 pub mod Write
 pub mod Verdict
-pub mod SearchTurns
 pub mod Check
 pub mod Findings
 pub mod Rows

@@ -1,5 +1,5 @@
 -- Handles, of any library: what open and create hand out, that a handle keeps its file, and what a call makes of the open table.
-use Prim.Native.Nat.{ℕ, _+_}
+use Prim.Native.Nat.{ℕ, _+_, _<_}
 use mathlib.Core.Bool.{Bool, true, false, _||_}
 use mathlib.Core.List.{List}
 use mathlib.Core.Logic.{_≢_}
@@ -7,7 +7,7 @@ use mathlib.Core.Path.{_≡_}
 use lib.Dec.{ltb}
 use Rattle.image.specs.Bytes.{Bytes}
 use Rattle.diskette.specs.declared.Kind.{Kind}
-use Rattle.search.specs.Search.{LowestBelow}
+use Rattle.search.specs.Search.{Lowest}
 use Rattle.stamps.specs.declared.Stamp.{Stamp}
 use Rattle.opened.specs.Changes.{PlaceHolds, OnlyAt}
 use Rattle.opened.specs.Records.{placeCount, usedOf, slotOf, accessOf, pointerOf, writtenOf}
@@ -17,7 +17,7 @@ use Rattle.history.specs.World.{World, Call, Library, stepBy, look, open
 
 -- handle h, handed out between the worlds w and u: "the lowest unused place, pointer 0", and it reaches slot s
 pub record HandedOut (k : Kind) (w u : World) (h access s : ℕ) : Type 0 where
-  pub lowest : LowestBelow (λ p. usedOf (w .table) p ≡ false) (placeCount (w .table)) h
+  pub lowest : Lowest ltb (λ p. (p < placeCount (w .table)) × (usedOf (w .table) p ≡ false)) h
   pub holds : PlaceHolds (u .table) h true access s 0 false
   pub reaches : Reaches k u h s
 

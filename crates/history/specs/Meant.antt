@@ -1,11 +1,12 @@
 -- The file that a call names, in its caller's words: by the volume and the open table before the call. Nothing is named by default.
-use Prim.Native.Nat.{ℕ}
+use Prim.Native.Nat.{ℕ, _<_}
 use mathlib.Core.List.{List}
 use mathlib.Core.Logic.{_⊎_}
 use mathlib.Core.Path.{_≡_}
+use lib.Dec.{ltb}
 use Rattle.diskette.specs.Places.{rootAt, rootEntries, slotAt}
 use Rattle.diskette.specs.declared.Kind.{Kind}
-use Rattle.search.specs.Search.{LowestBelow}
+use Rattle.search.specs.Search.{Lowest}
 use Rattle.fields.specs.Fields.{nameOf}
 use Rattle.directory.specs.Slots.{VacantAt}
 use Rattle.names.specs.Spelling.{Means}
@@ -28,7 +29,7 @@ pub record Reaches (k : Kind) (w : World) (h s : ℕ) : Type 0 where
 pub record IsForNew (k : Kind) (l name : List ℕ) (s : ℕ) : Type 0 where
   pub good : (n : List ℕ) × Means name n
   pub new : (t : ℕ) → ¬ HasName k l name t
-  pub lowest : LowestBelow (λ i. VacantAt l (slotAt k i)) (rootEntries k) s
+  pub lowest : Lowest ltb (λ i. (i < rootEntries k) × VacantAt l (slotAt k i)) s
 
 -- slot s is the one that a call names
 abbrev pub Names : Call → Kind → World → ℕ → Type 0

@@ -1,5 +1,4 @@
 -- The laws of the definitions beside this folder.
 pub mod Turns
 pub mod Meaning
-pub mod Below
-pub mod Theory
+pub mod Answers

@@ -5,11 +5,9 @@ ghost use mathlib.Core.Bool.{_&&_, _||_};
 ghost use mathlib.Core.Path.{_≡_};
 ghost use Prim.Native.Nat.{_+_, _*_, _≤_};
 ghost use lib.ListN.{length};
-ghost use Rattle.chains.specs.Aids.Verdict.{first};
 ghost use Rattle.fields.specs.Fields.{nameOf};
-ghost use Rattle.search.specs.Laws.Theory.{optional};
 ghost use Rattle.slotcheck.specs.Aids.Slots.{isLabel, isLiveEntry, neverUsedSlot, labelSlot, strange, strangeSlot, badSlotAt};
-ghost use Rattle.search.specs.Search.{isFound};
+ghost use Rattle.search.specs.Search.{lowest, isFound};
 ghost use Rattle.slotcheck.specs.Aids.Checksums.{withByte, checksum, NamesMet, NameTold, SlotTold};
 
 fn either(a: bool, b: bool) -> bool
@@ -159,7 +157,7 @@ fn is_bad(img: &[u8], met: &mut [u8], root: usize, s: usize, never: bool, label:
 fn first_bad_by(img: &[u8], met: &mut [u8], root: usize, count: usize) -> Found
     requires { ⌜ root + 32 * count ≤ length (now img) ⌝ }
     requires { ⌜ NamesMet (now img) root 0 (now met) ⌝ }
-    ensures { λ r. ⌜ optional r ≡ first (badSlotAt (now (img .entry)) root) count 0 ⌝ }
+    ensures { λ r. ⌜ r ≡ lowest (badSlotAt (now (img .entry)) root) 0 count ⌝ }
 {
     let mut never = false;
     let mut label = false;
@@ -178,7 +176,7 @@ fn first_bad_by(img: &[u8], met: &mut [u8], root: usize, count: usize) -> Found
 // The lowest bad slot.
 pub fn first_bad(img: &[u8], root: usize, count: usize) -> Found
     requires { ⌜ root + 32 * count ≤ length (now img) ⌝ }
-    ensures { λ r. ⌜ optional r ≡ first (badSlotAt (now (img .entry)) root) count 0 ⌝ }
+    ensures { λ r. ⌜ r ≡ lowest (badSlotAt (now (img .entry)) root) 0 count ⌝ }
 {
     let mut met = [0u8; 256];
     first_bad_by(img, &mut met, root, count)

@@ -4,7 +4,7 @@ use mathlib.Core.List.{List}
 use mathlib.Core.Path.{_≡_}
 use Rattle.chains.specs.Lists.{_∈_}
 use Rattle.chains.specs.Values.{Link, Used}
-use Rattle.chains.specs.Verdict.{None}
+use Rattle.search.specs.Search.{None}
 use Rattle.diskette.specs.Places.{lastCluster}
 use Rattle.diskette.specs.declared.Kind.{Kind}
 use Rattle.sound.specs.Files.{valueOf, IsFile, ChainOf}

@@ -4,8 +4,7 @@ use values::Meaning;
 ghost use mathlib.Core.Path.{_≡_};
 ghost use Prim.Native.Nat.{_+_, _≤_, _<_};
 ghost use lib.ListN.{length};
-ghost use Rattle.chains.specs.Aids.Verdict.{first};
-ghost use Rattle.search.specs.Laws.Theory.{optional};
+ghost use Rattle.search.specs.Search.{lowest};
 ghost use Rattle.table.specs.Entries.{wordAt};
 ghost use Rattle.tablecheck.specs.Aids.Copies.{differsAt, FourAlike, Alike};
 ghost use Rattle.tablecheck.specs.Aids.Values.{censusOf};
@@ -66,7 +65,7 @@ fn alike(img: &[u8], second: usize, size: usize, j: usize) -> usize
 pub fn first_difference(img: &[u8], second: usize, size: usize) -> Found
     requires { ⌜ 512 + size ≤ second ⌝ }
     requires { ⌜ second + size ≤ length (now img) ⌝ }
-    ensures { λ r. ⌜ optional r ≡ first (differsAt second (now (img .entry))) size 0 ⌝ }
+    ensures { λ r. ⌜ r ≡ lowest (differsAt second (now (img .entry))) 0 size ⌝ }
 {
     let mut j: usize = 0;
     while j < size {

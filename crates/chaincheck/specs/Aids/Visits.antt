@@ -2,7 +2,6 @@
 use Prim.Native.Nat.{ℕ, _+_, _*_, _-_, _≤_}
 use mathlib.Core.Bool.{Bool, true, false}
 use mathlib.Core.List.{List}
-use mathlib.Core.Option.{Option, none, some}
 use mathlib.Core.Path.{_≡_}
 use lib.ListN.{length}
 use Rattle.chains.specs.Aids.Findings.{holdersOf}
@@ -10,9 +9,11 @@ use Rattle.chains.specs.Aids.Lists.{joined}
 use Rattle.chains.specs.Aids.Marks.{marks}
 use Rattle.chains.specs.Aids.Rows.{rows}
 use Rattle.chains.specs.Sums.{sum, tally}
-use Rattle.chains.specs.Aids.Verdict.{first}
 use Rattle.chains.specs.Aids.Check.{chainOf, ownsb}
 use Rattle.chains.specs.Sizes.{clustersFor}
+use Rattle.search.specs.Search.{lowest}
+use Rattle.search.specs.declared.Found.{Found}
+use Rattle.search.specs.declared.Found.the-variants.{At, Nothing}
 use Rattle.diskette.specs.Places.{slotFrom}
 use Rattle.table.specs.Entries.{tableOf}
 use Rattle.fields.specs.Fields.{sizeOf}
@@ -57,13 +58,13 @@ pub record SlotVisited (last cb : ℕ) (l : List ℕ) (a : ℕ) (m : List ℕ) (
 
 -- ---- all files of a directory: the lowest with a bad chain, or how many files there are and what they hold
 
-abbrev pub chainsBy : Option ℕ → ℕ → ℕ → Chains
-chainsBy none files held = Held files held
-chainsBy (some s) files held = BadChain s
+abbrev pub chainsBy : Found → ℕ → ℕ → Chains
+chainsBy Nothing files held = Held files held
+chainsBy (At s) files held = BadChain s
 
 unfoldable pub chainsFound : ℕ → ℕ → List ℕ → ℕ → ℕ → Chains
 chainsFound last cb l root count =
-    chainsBy (first (badChainSlot last cb l root) count 0) (tally (plainSlot l root) count 0) (sum count (heldSlot cb l root))
+    chainsBy (lowest (badChainSlot last cb l root) 0 count) (tally (plainSlot l root) count 0) (sum count (heldSlot cb l root))
 
 abbrev pub marksIf : Chains → List ℕ → List ℕ → Type 0
 marksIf (Held files held) after all = after ≡ all
@@ -75,7 +76,7 @@ pub record Underway (last cb : ℕ) (l : List ℕ) (root count : ℕ) (m₀ : Li
   pub long : length m ≡ length m₀
   pub few : files ≤ s
   pub bounded : held ≤ 4096 * s
-  pub none-bad : first (badChainSlot last cb l root) (count - s) s ≡ first (badChainSlot last cb l root) count 0
+  pub none-bad : lowest (badChainSlot last cb l root) s (count - s) ≡ lowest (badChainSlot last cb l root) 0 count
   pub files-are : files + tally (plainSlot l root) (count - s) s ≡ tally (plainSlot l root) count 0
   pub held-is : held ≡ sum s (heldSlot cb l root)
   pub marks-are : marks m (joined (chainAt last cb l) (holdersOf (rows (slotFrom root) s (count - s)))) ≡ marks m₀ (chainsOf last cb l root count)

@@ -13,16 +13,16 @@ use Rattle.chains.specs.Aids.Marks.{marks}
 use Rattle.chains.specs.Sizes.{clustersFor}
 use Rattle.chains.specs.Aids.Sizes.{Geometry}
 use Rattle.chains.specs.Sums.{sum, tally}
-use Rattle.chains.specs.Aids.Verdict.{first}
 use Rattle.chains.specs.Laws.Check.{says-owned}
 use Rattle.chains.specs.Laws.Chain.{chain-length}
 use Rattle.chains.specs.Laws.Holders.{file-allows, nobody-owns}
 use Rattle.chains.specs.Laws.Marks.{marks-length}
 use Rattle.chains.specs.Laws.RowTurns.{marks-turn, marks-end}
-use Rattle.chains.specs.Laws.SearchTurns.{first-hit, first-miss, first-end, slots-start}
 use Rattle.chains.specs.Laws.Sizes.{fits-exact}
 use Rattle.chains.specs.Laws.TallyTurns.{tally-hit, tally-miss, tally-end}
 use Rattle.chains.specs.Laws.Tests.{says-true, true-says}
+use Rattle.search.specs.Search.{lowest}
+use Rattle.search.specs.Laws.Turns.{lowest-all, lowest-hit, lowest-miss, lowest-done}
 use Rattle.table.specs.Entries.{tableOf}
 use Rattle.fields.specs.Fields.{startOf, sizeOf}
 use Rattle.diskette.specs.Places.{slotFrom}
@@ -135,7 +135,7 @@ files-begin last cb l root count m t T =
       long = refl;
       few = omega arith;
       bounded = omega arith;
-      none-bad = slots-start (badChainSlot last cb l root) count;
+      none-bad = lowest-all (badChainSlot last cb l root) count;
       files-are = rw z (omega arith);
       held-is = refl;
       marks-are = rw z;
@@ -147,7 +147,7 @@ module _ (last cb : ℕ) (l : List ℕ) (root count : ℕ) (m₀ : List ℕ) (s 
   unfolding chainsFound chainsOf chainAt
   files-done h =
       let e : s ≡ count = omega (arith, u .within) in
-      let x = first-end (badChainSlot last cb l root) count s (first (badChainSlot last cb l root) count 0) h (u .none-bad) in
+      let x = lowest-done (badChainSlot last cb l root) s count (lowest (badChainSlot last cb l root) 0 count) (u .none-bad) h in
       let y = tally-end (plainSlot l root) count s files (tally (plainSlot l root) count 0) h (u .files-are) in
       let z : held ≡ sum count (heldSlot cb l root) = u .held-is ∙ ap (λ (k : ℕ). sum k (heldSlot cb l root)) e in
       record {
@@ -160,8 +160,8 @@ module _ (last cb : ℕ) (l : List ℕ) (root count : ℕ) (m₀ : List ℕ) (s 
     pub files-bad : g ≡ Bad → FilesVisited last cb l root count m₀ (BadChain s) m′
     unfolding chainsFound
     files-bad t =
-        let b : badChainSlot last cb l root s ≡ true = bad-said last cb l root s low wide g (v .is) ∙ ap isBad t in
-        let x = first-hit (badChainSlot last cb l root) count s (first (badChainSlot last cb l root) count 0) h b (u .none-bad) in
+        let x = lowest-hit (badChainSlot last cb l root) s count (lowest (badChainSlot last cb l root) 0 count) (u .none-bad) h (isBad g)
+        (sym (bad-said last cb l root s low wide g (v .is))) (ap isBad t) in
         record { is = rw (sym x); marks-are = tt }
 
     pub held-fits : (n : ℕ) → count ≤ 65536 → g ≡ Clusters n → Fits w64 (held + n)
@@ -174,7 +174,8 @@ module _ (last cb : ℕ) (l : List ℕ) (root count : ℕ) (m₀ : List ℕ) (s 
       long = ap length (x .marks-are) ∙ marks-length m (chainAt last cb l (slotFrom root s)) ∙ u .long;
       few = omega (arith, u .few);
       bounded = omega (arith, z, u .bounded, few-said last cb l root s low wide g (v .is));
-      none-bad = first-miss (badChainSlot last cb l root) count s (first (badChainSlot last cb l root) count 0) h (bad-said last cb l root s low wide g (v .is) ∙ b) (u .none-bad);
+      none-bad = lowest-miss (badChainSlot last cb l root) s count (lowest (badChainSlot last cb l root) 0 count) (u .none-bad) h (isBad g)
+          (sym (bad-said last cb l root s low wide g (v .is))) b;
       files-are = w;
       held-is =
           let e : s + 1 ≡ suc s = omega arith in

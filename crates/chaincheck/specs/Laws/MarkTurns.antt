@@ -3,32 +3,31 @@ use Prim.Native.Nat.{ℕ, _+_, _-_, _≤_, _<_}
 use mathlib.Core.Bool.{Bool, true, false, _&&_, _||_}
 use mathlib.Core.List.{List}
 use mathlib.Core.Logic.{_≢_}
-use mathlib.Core.Option.{Option}
 use mathlib.Core.Path.{_≡_, refl, sym, ap}
 use lib.ListN.{getD}
 use borrow.Author.Tests.{eq-eqb, ne-eqb}
 use Rattle.chains.specs.Aids.Check.{inTwo, lost}
 use Rattle.chains.specs.Values.{linkb, endb}
-use Rattle.chains.specs.Aids.Verdict.{first}
-use Rattle.search.specs.Laws.Theory.{optional}
+use Rattle.search.specs.Search.{lowest}
+use Rattle.search.specs.Laws.Turns.{lowest-hit, lowest-miss}
+use Rattle.search.specs.declared.Found.{Found}
 use Rattle.search.specs.declared.Found.the-variants.{At}
 use Rattle.values.specs.Values.{meaningOf}
 use Rattle.values.specs.declared.Meaning.{Meaning}
 use Rattle.values.specs.declared.Meaning.the-variants.{Free, Next, Aside, End, NoneOfThese}
 use Rattle.table.specs.Entries.{tableOf}
 use Rattle.walks.specs.Laws.Meanings.{isEnd, isNext, end-said, link-said}
-use Rattle.chaincheck.specs.Laws.Searches.{search-hit, search-miss}
 
 -- ---- finding 6
 
-module _ (m : List ℕ) (end c : ℕ) (whole : Option ℕ) (inv : first (inTwo m) (end - c) c ≡ whole) (h : c < end) where
-  pub two-hit : getD m c 0 ≡ 2 → optional (At c) ≡ whole
+module _ (m : List ℕ) (end c : ℕ) (whole : Found) (inv : lowest (inTwo m) c (end - c) ≡ whole) (h : c < end) where
+  pub two-hit : getD m c 0 ≡ 2 → At c ≡ whole
   unfolding inTwo
-  two-hit e = search-hit (inTwo m) end c whole inv true h (sym (eq-eqb (getD m c 0) 2 e)) refl
+  two-hit e = lowest-hit (inTwo m) c end whole inv h true (sym (eq-eqb (getD m c 0) 2 e)) refl
 
-  pub two-miss : getD m c 0 ≢ 2 → first (inTwo m) (end - (c + 1)) (c + 1) ≡ whole
+  pub two-miss : getD m c 0 ≢ 2 → lowest (inTwo m) (c + 1) (end - (c + 1)) ≡ whole
   unfolding inTwo
-  two-miss d = search-miss (inTwo m) end c whole inv false h (sym (ne-eqb (getD m c 0) 2 d)) refl
+  two-miss d = lowest-miss (inTwo m) c end whole inv h false (sym (ne-eqb (getD m c 0) 2 d)) refl
 
 -- ---- finding 7, at one cluster: v is its value, g what that means
 

@@ -5,12 +5,13 @@ use mathlib.Core.Option.{Option, none, some}
 use mathlib.Core.List.{List, []}
 use lib.Dec.{eqb}
 use lib.ListN.{length, getD}
+use Rattle.search.specs.Search.{lowest}
 use Rattle.chains.specs.Aids.Lists.{joined}
 use Rattle.chains.specs.Values.{asideb, freeb, linkb, endb}
 use Rattle.chains.specs.Aids.Walk.{walk}
 use Rattle.chains.specs.Aids.Holders.{Holder}
 use Rattle.chains.specs.Aids.Marks.{marksOf}
-use Rattle.chains.specs.Aids.Verdict.{orElse, first}
+use Rattle.chains.specs.Aids.Verdict.{orElse, optional}
 use Rattle.chains.specs.Aids.Findings.{Voice}
 
 -- the clusters of the holder, if its chain has an end
@@ -39,11 +40,11 @@ lost last f m c = (linkb last (f c) || endb (f c)) && eqb (getD m c 0) 0
 
 -- the answer from finding 7 on
 unfoldable pub checkLost : {P A : Type 0} → ℕ → (ℕ → ℕ) → List ℕ → Voice P A → A
-checkLost last f m W = orElse (W .lost) (first (lost last f m) (last - 1) 2) (W .fine)
+checkLost last f m W = orElse (W .lost) (optional (lowest (lost last f m) 2 (last - 1))) (W .fine)
 
 -- the answer from finding 6 on
 unfoldable pub checkTwo : {P A : Type 0} → ℕ → (ℕ → ℕ) → List ℕ → Voice P A → A
-checkTwo last f m W = orElse (W .inTwo) (first (inTwo m) (last - 1) 2) (checkLost last f m W)
+checkTwo last f m W = orElse (W .inTwo) (optional (lowest (inTwo m) 2 (last - 1))) (checkLost last f m W)
 
 -- the answer from finding 5 on, o being what the search for it found
 unfoldable pub checkChains : {P A : Type 0} → ℕ → (ℕ → ℕ) → List ℕ → Voice P A → Option P → A

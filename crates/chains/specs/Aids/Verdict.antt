@@ -1,9 +1,11 @@
 -- The first finding at its lowest place, as it is computed; and what theorems ask of an order of places.
-use Prim.Native.Nat.{ℕ, zero, suc}
-use mathlib.Core.Bool.{Bool, false, true, cond}
+use Prim.Native.Nat.{ℕ}
+use mathlib.Core.Bool.{Bool, false, true}
 use mathlib.Core.Option.{Option, none, some}
 use mathlib.Core.Path.{_≡_}
-use Rattle.chains.specs.Verdict.{Lowest, None}
+use Rattle.search.specs.Search.{Lowest, None}
+use Rattle.search.specs.declared.Found.{Found}
+use Rattle.search.specs.declared.Found.the-variants.{At, Nothing}
 
 -- any two differ one way. (Theorems take it; the definitions take the test alone.)
 pub record Orders {P : Type 0} (before : P → P → Bool) : Type 0 where
@@ -16,12 +18,12 @@ unfoldable pub orElse : {P A : Type 0} → (P → A) → Option P → A → A
 orElse say none a = a
 orElse say (some p) a = say p
 
--- the search o found what there is
-pub data Found {P : Type 0} (before : P → P → Bool) (B : P → Type 0) (o : Option P) : Type 0 where
-  found : (p : P) → o ≡ some p → Lowest before B p → Found before B o
-  nowhere : o ≡ none → None B → Found before B o
+-- what a search of numbers answered, as the place of a finding
+unfoldable pub optional : Found → Option ℕ
+optional (At p) = some p
+optional Nothing = none
 
--- a search over the n numbers from c on, from below, that stops at the first
-unfoldable pub first : (ℕ → Bool) → ℕ → ℕ → Option ℕ
-first t zero c = none
-first t (suc n) c = let r = first t n (suc c) in cond (t c) (some c) r
+-- the search o found what there is
+pub data Finds {P : Type 0} (before : P → P → Bool) (B : P → Type 0) (o : Option P) : Type 0 where
+  found : (p : P) → o ≡ some p → Lowest before B p → Finds before B o
+  nowhere : o ≡ none → None B → Finds before B o

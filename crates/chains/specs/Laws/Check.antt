@@ -8,6 +8,7 @@ use mathlib.Core.Option.{Option, none, some}
 use mathlib.Core.List.{List, [], _∷_}
 use lib.Dec.{ltb}
 use lib.ListN.{length, getD}
+use Rattle.search.specs.Search.{lowest}
 use Rattle.chains.specs.Aids.Tests.{Says, aye, nay}
 use Rattle.chains.specs.Lists.{_∈_}
 use Rattle.chains.specs.Aids.Lists.{Once, joined, InTwoOf}
@@ -16,7 +17,7 @@ use Rattle.chains.specs.Values.{Link}
 use Rattle.chains.specs.Aids.Walk.{walk}
 use Rattle.chains.specs.Aids.Holders.{Holder, Owns}
 use Rattle.chains.specs.Aids.Marks.{marksOf}
-use Rattle.chains.specs.Aids.Verdict.{Found, first}
+use Rattle.chains.specs.Aids.Verdict.{optional, Finds}
 use Rattle.chains.specs.Aids.Findings.{BadValue, InChain, InTwo, Lost, holdersOf}
 use Rattle.chains.specs.Aids.Check.{badValue, chainMarks, chainOf, inTwo, lost, ownsb}
 use Rattle.chains.specs.Laws.Tests.{clash, says-and, says-eq, says-map, says-not, says-or}
@@ -25,7 +26,7 @@ use Rattle.chains.specs.Laws.Values.{says-end, says-link, says-valid}
 use Rattle.chains.specs.Laws.Chain.{chain-mem, chain-once}
 use Rattle.chains.specs.Laws.Walk.{chain-walk, walk-chain}
 use Rattle.chains.specs.Laws.Marks.{two-in-two, zero-none}
-use Rattle.chains.specs.Laws.Verdict.{first-found}
+use Rattle.chains.specs.Laws.Verdict.{lowest-finds}
 
 -- ---- one holder: its clusters, if it has a good chain
 
@@ -73,9 +74,9 @@ holders-in (e ∷ es) i (inr m) = let r = holders-in es i m in (r .0, inr (r .1)
 
 -- ---- finding 3
 
-pub found-bad-value : (G : Geometry) (f : ℕ → ℕ) → Found ltb (BadValue (G .last) f) (first (badValue (G .last) f) (G .last - 1) 2)
+pub found-bad-value : (G : Geometry) (f : ℕ → ℕ) → Finds ltb (BadValue (G .last) f) (optional (lowest (badValue (G .last) f) 2 (G .last - 1)))
 unfolding badValue
-found-bad-value G f = first-found (BadValue (G .last) f) (badValue (G .last) f) (G .last - 1) 2 (λ p b. (b .0 .0, omega arith))
+found-bad-value G f = lowest-finds (BadValue (G .last) f) (badValue (G .last) f) 2 (G .last - 1) (λ p b. (b .0 .0, omega arith))
     (λ c k l. says-map (λ n. ((k, omega arith), n)) (λ b. b .1) (says-not (says-valid (G .last) (f c))))
 
 -- ---- where all chains are good, the marks decide findings 6 and 7
@@ -120,9 +121,10 @@ module _ (G : Geometry) (f : ℕ → ℕ) (h : ℕ → Holder) (is : List ℕ) (
         says-map (λ r. ((k, omega arith), r .0, of-none c (r .1))) (λ b. (b .1, none-of c (b .2)))
         (says-and (says-or (says-link (G .last) (f c)) (says-end (f c))) (says-map (no .0) (no .1) (says-eq (getD (marksOf size (joined χ is)) c 0) 0)))
 
-    pub found-in-two : Once is → Found ltb (InTwo (G .last) f h is) (first (inTwo (chainMarks size (G .last) f h is)) (G .last - 1) 2)
-    found-in-two e = first-found (InTwo (G .last) f h is) (inTwo (chainMarks size (G .last) f h is)) (G .last - 1) 2
+    pub found-in-two : Once is → Finds ltb (InTwo (G .last) f h is) (optional (lowest (inTwo (chainMarks size (G .last) f h is)) 2 (G .last - 1)))
+    found-in-two e = lowest-finds (InTwo (G .last) f h is) (inTwo (chainMarks size (G .last) f h is)) 2 (G .last - 1)
         (λ c b. let r = in-range (b .0) c (b .3) (in-chain G f h (b .0) c (b .5)) in (r .0, omega arith)) (says-in-two e)
 
-    pub found-lost : Found ltb (Lost (G .last) f h is) (first (lost (G .last) f (chainMarks size (G .last) f h is)) (G .last - 1) 2)
-    found-lost = first-found (Lost (G .last) f h is) (lost (G .last) f (chainMarks size (G .last) f h is)) (G .last - 1) 2 (λ c b. (b .0 .0, omega arith)) says-lost
+    pub found-lost : Finds ltb (Lost (G .last) f h is) (optional (lowest (lost (G .last) f (chainMarks size (G .last) f h is)) 2 (G .last - 1)))
+    found-lost = lowest-finds (Lost (G .last) f h is) (lost (G .last) f (chainMarks size (G .last) f h is)) 2 (G .last - 1)
+        (λ c b. (b .0 .0, omega arith)) says-lost

@@ -10,8 +10,8 @@ use Rattle.chains.specs.Lists.{_∈_}
 use Rattle.chains.specs.Aids.Lists.{Once, joined}
 use Rattle.chains.specs.Aids.Sizes.{Geometry}
 use Rattle.chains.specs.Aids.Holders.{Holder, Owns, FitTogether, nobody}
-use Rattle.chains.specs.Verdict.{None}
-use Rattle.chains.specs.Aids.Verdict.{Found}
+use Rattle.search.specs.Search.{None}
+use Rattle.chains.specs.Aids.Verdict.{Finds}
 use Rattle.chains.specs.Aids.Findings.{BadChain, BadValue, FromChains, FromLost, FromTwo, InChain, InTwo, Lost, Voice, holdersOf}
 use Rattle.chains.specs.Aids.Check.{chainMarks, chainOf, checkChains, checkLost, checkTwo, inTwo, lost}
 use Rattle.chains.specs.Laws.Tests.{says-dec}
@@ -42,7 +42,7 @@ module _ {P A : Type 0} (before : P → P → Bool) (G : Geometry) (f : ℕ → 
       or-else ltb (Lost (G .last) f h is) (W .lost) (λ a. a ≡ W .fine) _ (W .fine) (found-lost G f h is (good-all n) size big) (λ n″. refl))
 
   -- m need be the marks only where all chains are good
-  pub check-chains : (size : ℕ) → G .last < size → Once is → (o : Option P) (m : List ℕ) → Found before (BadChain (G .last) f h es) o → (None (BadChain (G .last) f h es) → m ≡ chainMarks size (G .last) f h is)
+  pub check-chains : (size : ℕ) → G .last < size → Once is → (o : Option P) (m : List ℕ) → Finds before (BadChain (G .last) f h es) o → (None (BadChain (G .last) f h es) → m ≡ chainMarks size (G .last) f h is)
       → FromChains before (G .last) f h es W (checkChains (G .last) f m W o)
   unfolding checkChains
   check-chains size big e o m d same = or-else before (BadChain (G .last) f h es) (W .badChain) (FromTwo (G .last) f h es W) o (checkTwo (G .last) f m W) d (λ n. rw (same n) (check-two size big e n))

@@ -6,20 +6,21 @@ use mathlib.Core.Path.{_≡_, refl, sym, ap, _∙_, subst}
 use mathlib.Core.Logic.{inl, inr}
 use mathlib.Core.Bool.{not}
 use lib.Dec.{ltb}
+use Rattle.search.specs.Search.{lowest}
 use Rattle.chains.specs.Lists.{_∈_}
 use Rattle.chains.specs.Aids.Lists.{occ, Once}
 use Rattle.chains.specs.Sums.{sum}
 use Rattle.chains.specs.Aids.Sums.{sumOver}
 use Rattle.chains.specs.Aids.Sizes.{Geometry}
 use Rattle.chains.specs.Aids.Holders.{Holder, Owns}
-use Rattle.chains.specs.Aids.Verdict.{Found, first}
+use Rattle.chains.specs.Aids.Verdict.{optional, Finds}
 use Rattle.chains.specs.Aids.Findings.{BadChain, holdersOf}
 use Rattle.chains.specs.Aids.Check.{ownsb}
 use Rattle.chains.specs.Aids.Rows.{rows}
 use Rattle.chains.specs.Laws.Tests.{says-map, says-not}
 use Rattle.chains.specs.Laws.Lists.{hit-cases, occ-not}
 use Rattle.chains.specs.Laws.Sums.{sum-cong, sum-first}
-use Rattle.chains.specs.Laws.Verdict.{first-found}
+use Rattle.chains.specs.Laws.Verdict.{lowest-finds}
 use Rattle.chains.specs.Laws.Check.{holders-in, in-holders, says-owned}
 
 pub rows-in : (way : ℕ → ℕ) (k n p i : ℕ) → (p, i) ∈ rows way k n → (k ≤ p) × (p < k + n) × (i ≡ way p)
@@ -75,8 +76,9 @@ rows-sum way g k (suc n) =
     omega (arith, sum-first n (λ s. g (way (s + k))), q, z, rows-sum way g (suc k) n)
 
 -- finding 5 by a loop over the slots from below
-pub found-bad-chain : (G : Geometry) (f : ℕ → ℕ) (h : ℕ → Holder) (way : ℕ → ℕ) (n : ℕ) → Found ltb (BadChain (G .last) f h (rows way 0 n)) (first (λ s. not (ownsb (G .last) f (h (way s)))) n 0)
-found-bad-chain G f h way n = first-found (BadChain (G .last) f h (rows way 0 n)) (λ s. not (ownsb (G .last) f (h (way s)))) n 0
+pub found-bad-chain : (G : Geometry) (f : ℕ → ℕ) (h : ℕ → Holder) (way : ℕ → ℕ) (n : ℕ)
+    → Finds ltb (BadChain (G .last) f h (rows way 0 n)) (optional (lowest (λ s. not (ownsb (G .last) f (h (way s)))) 0 n))
+found-bad-chain G f h way n = lowest-finds (BadChain (G .last) f h (rows way 0 n)) (λ s. not (ownsb (G .last) f (h (way s)))) 0 n
     (λ p x. let r = rows-in way 0 n p (x .0) (x .1) in (omega arith, r .1))
     (λ p l k. says-map (λ x. (way p, in-rows way 0 n p l k, λ cs o. x (cs, o)))
     (λ x y. x .2 (y .0) (subst (λ (i : ℕ). Owns (G .last) f (h i) (y .0)) (sym (rows-in way 0 n p (x .0) (x .1) .2)) (y .1)))

@@ -10,7 +10,7 @@ use Rattle.chains.specs.Content.{clusterBegin, content}
 use Rattle.chains.specs.Aids.Holders.{FitTogether, Owns}
 use Rattle.chains.specs.Aids.Put.{put}
 use Rattle.chains.specs.Values.{Link}
-use Rattle.chains.specs.Verdict.{None}
+use Rattle.search.specs.Search.{None}
 use Rattle.chains.specs.Laws.Content.{cluster-high}
 use Rattle.chains.specs.Laws.Holders.{file-fits}
 use Rattle.chains.specs.Laws.Put.{put-other, put-same}

@@ -6,7 +6,9 @@ use mathlib.Core.Bool.{true, false}
 use mathlib.Core.List.{List, []}
 use mathlib.Core.Logic.{_≢_, _⊎_, inl, inr}
 use mathlib.Core.Path.{_≡_, refl, sym, ap, _∙_, subst}
+use lib.Dec.{ltb}
 use lib.ListN.{length, getD}
+use borrow.Author.Tests.{lt-ltb}
 use Rattle.image.specs.Bytes.{Bytes}
 use Rattle.image.specs.Numbers.{digits}
 use Rattle.image.specs.Laws.Store.{part-at}
@@ -16,7 +18,7 @@ use Rattle.chains.specs.Laws.Sizes.{fits-empty}
 use Rattle.chains.specs.Laws.Tests.{clash}
 use Rattle.diskette.specs.Places.{clusterBytes, lastCluster, rootAt, rootEntries, slotAt}
 use Rattle.diskette.specs.declared.Kind.{Kind}
-use Rattle.search.specs.Search.{LowestBelow, Answers}
+use Rattle.search.specs.Search.{Lowest, None, Answers}
 use Rattle.search.specs.declared.Found.the-variants.{At, Nothing}
 use Rattle.directory.specs.Entries.{HasFields}
 use Rattle.fields.specs.Fields.{nameOf, attrOf, startOf, sizeOf, tailBytes, withEntry}
@@ -128,18 +130,18 @@ module _ (k : Kind) (l : List ℕ) (v : OnVolume l k) (b : Bytes l) (given : Lis
   -- ---- a file of that name is emptied
 
   module _ (found : slotNamed l (rootAt k) (rootEntries k) name ≡ At s) where
-    named : LowestBelow (λ (t : ℕ). PlainAt l (slotAt k t) × (nameOf l (slotAt k t) ≡ name)) (rootEntries k) s
-    named = subst (Answers (λ (t : ℕ). PlainAt l (slotAt k t) × (nameOf l (slotAt k t) ≡ name)) (rootEntries k)) found
+    named : Lowest ltb (λ t. (t < rootEntries k) × (PlainAt l (slotAt k t) × (nameOf l (slotAt k t) ≡ name))) s
+    named = subst (Answers (λ t. (t < rootEntries k) × (PlainAt l (slotAt k t) × (nameOf l (slotAt k t) ≡ name)))) found
         (slot-named-answers l (rootAt k) (rootEntries k) (root-within l k v (rootAt k) (rootEntries k) refl refl) name (good-name .long))
 
     old : IsFile k l s
-    old = record { below = named .below; plain = named .passes .0 }
+    old = record { below = named .0 .0; plain = named .0 .1 .0 }
 
     freed : Emptied k l (chainFreed k l s) s
     freed = file-emptied k l v b s old
 
     pub empty-changed : SlotChanged k l (withEntry (chainFreed k l s) (slotAt k s) name attr time date 0 0) s []
-    empty-changed = made-changed (old .below) (chainFreed k l s) freed (used-lower k l v s old) (λ t h n p e. name-once k l v s old t h n p (e ∙ sym (named .passes .1)))
+    empty-changed = made-changed (old .below) (chainFreed k l s) freed (used-lower k l v s old) (λ t h n p e. name-once k l v s old t h n p (e ∙ sym (named .0 .1 .1)))
 
     pub empty-holds : Holds k (withEntry (chainFreed k l s) (slotAt k s) name attr time date 0 0) s (file name attr [])
     empty-holds = made-holds (old .below) (chainFreed k l s) freed
@@ -150,21 +152,22 @@ module _ (k : Kind) (l : List ℕ) (v : OnVolume l k) (b : Bytes l) (given : Lis
   -- ---- a new file takes the lowest open slot
 
   module _ (none : slotNamed l (rootAt k) (rootEntries k) name ≡ Nothing) (lowest : lowestVacant l (rootAt k) (rootEntries k) ≡ At s) where
-    nowhere : (t : ℕ) → t < rootEntries k → ¬ (PlainAt l (slotAt k t) × (nameOf l (slotAt k t) ≡ name))
-    nowhere = subst (Answers (λ (t : ℕ). PlainAt l (slotAt k t) × (nameOf l (slotAt k t) ≡ name)) (rootEntries k)) none
+    nowhere : None (λ t. (t < rootEntries k) × (PlainAt l (slotAt k t) × (nameOf l (slotAt k t) ≡ name)))
+    nowhere = subst (Answers (λ t. (t < rootEntries k) × (PlainAt l (slotAt k t) × (nameOf l (slotAt k t) ≡ name)))) none
         (slot-named-answers l (rootAt k) (rootEntries k) (root-within l k v (rootAt k) (rootEntries k) refl refl) name (good-name .long))
 
-    vacant : LowestBelow (λ (t : ℕ). VacantAt l (slotAt k t)) (rootEntries k) s
-    vacant = subst (Answers (λ (t : ℕ). VacantAt l (slotAt k t)) (rootEntries k)) lowest (vacant-slot-answers l (rootAt k) (rootEntries k))
+    vacant : Lowest ltb (λ t. (t < rootEntries k) × VacantAt l (slotAt k t)) s
+    vacant = subst (Answers (λ t. (t < rootEntries k) × VacantAt l (slotAt k t))) lowest (vacant-slot-answers l (rootAt k) (rootEntries k))
 
     unowned : Emptied k l l s
-    unowned = none-emptied k l v b s (vacant .below) (λ p. elim (vacant .passes) [ inl e ↦ p .0 .1 e | inr e ↦ p .0 .0 e ])
+    unowned = none-emptied k l v b s (vacant .0 .0) (λ p. elim (vacant .0 .1) [ inl e ↦ p .0 .1 e | inr e ↦ p .0 .0 e ])
 
     pub new-changed : SlotChanged k l (withEntry l (slotAt k s) name attr time date 0 0) s []
-    new-changed = made-changed (vacant .below) l unowned (λ t h z. vacant .none-lower t h (inr z)) (λ t h n p e. nowhere t h (p, e))
+    new-changed = made-changed (vacant .0 .0) l unowned (λ t h z. vacant .1 t (lt-ltb t s h) (omega (arith, vacant .0 .0), inr z))
+        (λ t h n p e. nowhere t (h, (p, e)))
 
     pub new-holds : Holds k (withEntry l (slotAt k s) name attr time date 0 0) s (file name attr [])
-    new-holds = made-holds (vacant .below) l unowned
+    new-holds = made-holds (vacant .0 .0) l unowned
 
     pub new-bytes : Bytes (withEntry l (slotAt k s) name attr time date 0 0)
-    new-bytes = emptied (vacant .below) l unowned .bytes
+    new-bytes = emptied (vacant .0 .0) l unowned .bytes

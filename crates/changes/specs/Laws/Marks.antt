@@ -293,10 +293,10 @@ module _ (k : Kind) (l : List ℕ) (v : OnVolume l k) (s : ℕ) (i : IsFile k l 
 
     pub rename-changed : slotNamed l (rootAt k) (rootEntries k) name ≡ Nothing → SlotChanged k l renamed s (rootChains k l a)
     rename-changed free =
-        let none : Answers (λ (t : ℕ). PlainAt l (slotAt k t) × (nameOf l (slotAt k t) ≡ name)) (rootEntries k) Nothing
-        = subst (Answers (λ (t : ℕ). PlainAt l (slotAt k t) × (nameOf l (slotAt k t) ≡ name)) (rootEntries k)) free
+        let none : Answers (λ t. (t < rootEntries k) × (PlainAt l (slotAt k t) × (nameOf l (slotAt k t) ≡ name))) Nothing
+        = subst (Answers (λ t. (t < rootEntries k) × (PlainAt l (slotAt k t) × (nameOf l (slotAt k t) ≡ name)))) free
         (slot-named-answers l (rootAt k) (rootEntries k) (root-within l k v (rootAt k) (rootEntries k) refl refl) name (good .long)) in
-        entry-changed renamed rename-entry rename-stays rename-usual (λ t h n p e. none t h (p, e ∙ rename-name))
+        entry-changed renamed rename-entry rename-stays rename-usual (λ t h n p e. none t (h, (p, e ∙ rename-name)))
 
     pub rename-holds : (f : File) → Holds k l s f → Holds k renamed s (file name (f .attr) (f .bytes))
     rename-holds f h = entry-holds renamed rename-entry rename-stays f h name (f .attr) rename-name (rename-attr ∙ h .attr)

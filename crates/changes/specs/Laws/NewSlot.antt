@@ -5,9 +5,10 @@ use mathlib.Core.Logic.{_≢_, inl, inr}
 use mathlib.Core.Option.{Option, none, some}
 use mathlib.Core.Path.{_≡_, refl, sym, _∙_, subst}
 use lib.ListN.{length}
+use borrow.Author.Tests.{ltb-true}
 use Rattle.diskette.specs.Places.{rootAt, rootEntries, slotAt}
 use Rattle.diskette.specs.declared.Kind.{Kind}
-use Rattle.search.specs.Laws.Below.{only-answer}
+use Rattle.search.specs.Laws.Answers.{only-answer}
 use Rattle.search.specs.declared.Found.the-variants.{At, Nothing}
 use Rattle.fields.specs.Fields.{nameOf}
 use Rattle.directory.specs.Search.{lowestVacant, slotNamed}
@@ -25,9 +26,9 @@ module _ (k : Kind) (l : List ℕ) (v : OnVolume l k) (fs : Files) (shows : Show
   pub none-of-name : (s : List ℕ) → length (nameGiven s .name) ≡ 11 → ((t : ℕ) (f : File) → fs t ≡ some f → f .name ≢ nameGiven s .name) → fileFound l s ≡ Nothing
   unfolding fileFound
   none-of-name s long other = rw (on-kind l k v)
-      (only-answer _ (rootEntries k) (slotNamed l (rootAt k) (rootEntries k) (nameGiven s .name)) Nothing
+      (only-answer _ (slotNamed l (rootAt k) (rootEntries k) (nameGiven s .name)) Nothing
       (slot-named-answers l (rootAt k) (rootEntries k) (root-within l k v (rootAt k) (rootEntries k) refl refl) (nameGiven s .name) long)
-      (λ q h x. clash q h x (fs q) refl (shows q)))
+      (λ q x. clash q (x .0) (x .1) (fs q) refl (shows q)))
     where
       clash : (q : ℕ) → q < rootEntries k → PlainAt l (slotAt k q) × (nameOf l (slotAt k q) ≡ nameGiven s .name) → (o : Option File) → fs q ≡ o → ShowsAt k l q o → ⊥
       clash q h x none e y = y (record { below = h; plain = x .0 })
@@ -37,11 +38,10 @@ module _ (k : Kind) (l : List ℕ) (v : OnVolume l k) (fs : Files) (shows : Show
   pub lowest-vacant : (n : ℕ) → n < rootEntries k → ((t : ℕ) → t < n → (f : File) × (fs t ≡ some f)) → NeverUsedAt l (slotAt k n) → slotForNew l ≡ At n
   unfolding slotForNew
   lowest-vacant n h below never = rw (on-kind l k v)
-      (only-answer (λ (s : ℕ). VacantAt l (slotAt k s)) (rootEntries k) (lowestVacant l (rootAt k) (rootEntries k)) (At n) (vacant-slot-answers l (rootAt k) (rootEntries k))
-      (record {
-        below = h;
-        passes = inr never;
-        none-lower = λ q i either.
-            let x = subst (ShowsAt k l q) (below q i .1) (shows q) in
-            elim either [ inl e ↦ x .is-file .plain .0 .1 e | inr e ↦ x .is-file .plain .0 .0 e ];
-      }))
+      (only-answer (λ s. (s < rootEntries k) × VacantAt l (slotAt k s)) (lowestVacant l (rootAt k) (rootEntries k)) (At n)
+      (vacant-slot-answers l (rootAt k) (rootEntries k)) (
+        (h, inr never),
+        λ q i y.
+            let x = subst (ShowsAt k l q) (below q (ltb-true q n i) .1) (shows q) in
+            elim (y .1) [ inl e ↦ x .is-file .plain .0 .1 e | inr e ↦ x .is-file .plain .0 .0 e ],
+      ))

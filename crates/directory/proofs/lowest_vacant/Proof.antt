@@ -3,9 +3,9 @@ use borrow.Author.Needs.{needs}
 use mathlib.Core.Path.{_≡_}
 use Prim.Native.Nat.{_-_, _≤_}
 use Rattle.search.specs.Search.{lowest}
+use Rattle.search.specs.Laws.Turns.{lowest-all, lowest-hit, lowest-miss, lowest-done}
 use Rattle.directory.specs.Search.{lowestVacant}
 use Rattle.directory.specs.Aids.Search.{vacantSlot}
-use Rattle.directory.specs.Laws.Search.{lowest-all, lowest-hit, lowest-miss, lowest-end}
 use Rattle.directory.proofs.lowest_vacant.Statement.{statement}
 use Rattle.directory.proofs.lowest_vacant.Tie as tie
 
@@ -41,7 +41,7 @@ loop-again : tie.Need-loop-again Inv-loop μ-loop
 loop-again c = search (needs, lowest-miss)
 
 returns-2 : tie.Need-returns-2 Inv-loop μ-loop
-returns-2 c = search lowest-end
+returns-2 c = search lowest-done
 
 pub lowest-vacant-spec : {M : Type 1} → statement M
 lowest-vacant-spec =

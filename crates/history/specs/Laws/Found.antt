@@ -3,11 +3,12 @@ use Prim.Native.Nat.{ℕ, _<_}
 use mathlib.Core.Bool.{true, false, not}
 use mathlib.Core.List.{List}
 use mathlib.Core.Path.{_≡_, refl, sym, _∙_, subst}
+use lib.Dec.{ltb}
 use borrow.Author.Tests.{not-false}
 use Rattle.chains.specs.Laws.Tests.{clash}
 use Rattle.diskette.specs.Places.{rootAt, rootEntries, slotAt}
 use Rattle.diskette.specs.declared.Kind.{Kind}
-use Rattle.search.specs.Search.{isFound, LowestBelow, Answers}
+use Rattle.search.specs.Search.{isFound, Lowest, Answers}
 use Rattle.search.specs.declared.Found.{Found}
 use Rattle.search.specs.declared.Found.the-variants.{At, Nothing}
 use Rattle.directory.specs.Search.{lowestVacant, slotNamed}
@@ -70,9 +71,9 @@ module _ (k : Kind) (l : List ℕ) (v : OnVolume l k) where
   live-there t h e = let x = live-at t h e in record { below = rw (← on-kind l k v) (x .slot); plain = rw (← on-kind l k v) (x .plain) }
 
   -- the slot that a new file takes: below the root's count, and open
-  pub new-slot : not (isFound (slotForNew l)) ≡ false → LowestBelow (λ (i : ℕ). VacantAt l (slotAt k i)) (rootEntries k) (placeFound (slotForNew l))
+  pub new-slot : not (isFound (slotForNew l)) ≡ false → Lowest ltb (λ i. (i < rootEntries k) × VacantAt l (slotAt k i)) (placeFound (slotForNew l))
   unfolding slotForNew
   new-slot e =
       let same : slotForNew l ≡ lowestVacant l (rootAt k) (rootEntries k) = rw (on-kind l k v) refl in
-      subst (Answers (λ (i : ℕ). VacantAt l (slotAt k i)) (rootEntries k)) (sym same ∙ found-at (slotForNew l) e)
+      subst (Answers (λ i. (i < rootEntries k) × VacantAt l (slotAt k i))) (sym same ∙ found-at (slotForNew l) e)
       (vacant-slot-answers l (rootAt k) (rootEntries k))

@@ -34,12 +34,12 @@ module _ (k : Kind) (w : World) (b : Begins k w) where
   handed c access s x i =
       let t = w .table in
       let p = ours c w .value in
-      let only = record-only t p (x .lowest .below) access s 0 false in
+      let only = record-only t p (x .lowest .0 .0) access s 0 false in
       let small : s < 4294967296 = omega (arith, i .below, on-usable (w .image) k (on b) .few-slots) in
-      let y = record-holds t p (x .lowest .below) access s 0 false small (omega arith) in
+      let y = record-holds t p (x .lowest .0 .0) access s 0 false small (omega arith) in
       let m = withRecord t p access s 0 false in
       let live : LivePlace m p (step w c .image) (rootAt k) (rootEntries k) = record {
-        counted = rw (only-count p m t only) (x .lowest .below);
+        counted = rw (only-count p m t only) (x .lowest .0 .0);
         used = y .used;
         access = rw (y .access) (x .access-fits);
         slot = rw (y .slot) (i .below);

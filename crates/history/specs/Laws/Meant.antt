@@ -1,5 +1,5 @@
 -- The file that a call names: that there is one, by the rows that were passed, and that there is no second.
-use Prim.Native.Nat.{ℕ}
+use Prim.Native.Nat.{ℕ, _<_}
 use mathlib.Core.Bool.{true, false, not}
 use mathlib.Core.List.{List}
 use mathlib.Core.Logic.{_↔_}
@@ -43,22 +43,22 @@ meant-exactly name fits P = (λ x. subst P (sym (meant-is (x .1))) (x .2), λ p.
 
 module _ (k : Kind) (l : List ℕ) (v : OnVolume l k) (name : List ℕ) (fits : nameGiven name .fits ≡ true) where
   abbrev Named : ℕ → Type 0
-  Named s = PlainAt l (slotAt k s) × (nameOf l (slotAt k s) ≡ nameGiven name .name)
+  Named s = (s < rootEntries k) × (PlainAt l (slotAt k s) × (nameOf l (slotAt k s) ≡ nameGiven name .name))
 
-  searched : (f : Found) → slotNamed l (rootAt k) (rootEntries k) (nameGiven name .name) ≡ f → Answers Named (rootEntries k) f
+  searched : (f : Found) → slotNamed l (rootAt k) (rootEntries k) (nameGiven name .name) ≡ f → Answers Named f
   searched f e =
       let within = root-within l k v (rootAt k) (rootEntries k) refl refl in
-      subst (Answers Named (rootEntries k)) e (slot-named-answers l (rootAt k) (rootEntries k) within (nameGiven name .name) (proper name fits .long))
+      subst (Answers Named) e (slot-named-answers l (rootAt k) (rootEntries k) within (nameGiven name .name) (proper name fits .long))
 
   -- the file that the search finds
   pub has-name : noFile l name ≡ false → HasName k l name (fileSlot l name)
   has-name there =
       let x = searched (At (fileSlot l name)) (file-found k l v name there) in
-      record { is-file = record { below = x .below; plain = x .passes .0 }; meant = rw (x .passes .1) (means name fits) }
+      record { is-file = record { below = x .0 .0; plain = x .0 .1 .0 }; meant = rw (x .0 .1 .1) (means name fits) }
 
   -- and where it finds none
   pub no-name : noFile l name ≡ true → (s : ℕ) → ¬ HasName k l name s
-  no-name none s x = searched Nothing (no-file-found k l v name none) s (x .is-file .below) (x .is-file .plain, sym (meant-is (x .meant)))
+  no-name none s x = searched Nothing (no-file-found k l v name none) s (x .is-file .below, (x .is-file .plain, sym (meant-is (x .meant))))
 
   pub for-new : noFile l name ≡ true → not (isFound (slotForNew l)) ≡ false → IsForNew k l name (placeFound (slotForNew l))
   for-new none room = record { good = (nameGiven name .name, means name fits); new = no-name none; lowest = new-slot k l v room }

@@ -1,13 +1,12 @@
 -- There is no second: a call names one slot at most.
 use Prim.Native.Nat.{ℕ}
-use native.Mathlib.Omega.{arith}
-use native.Mathlib.Decide.{ℕ-discrete, decLt}
+use native.Mathlib.Decide.{ℕ-discrete}
 use mathlib.Core.Bool.{false}
 use mathlib.Core.List.{List}
 use mathlib.Core.Logic.{inl, inr}
 use mathlib.Core.Path.{_≡_, sym, _∙_}
 use Rattle.diskette.specs.declared.Kind.{Kind}
-use Rattle.search.specs.Search.{LowestBelow}
+use Rattle.search.specs.Laws.Answers.{lowest-one}
 use Rattle.calls.specs.Aids.Ready.{OnVolume}
 use Rattle.calls.specs.Refusals.{badName, noFile, fileSlot}
 use Rattle.changes.specs.Laws.Slots.{name-once}
@@ -23,12 +22,6 @@ module _ (k : Kind) (w : World) (v : OnVolume (w .image) k) (s t : ℕ) where
         absurd (name-once k (w .image) v t (y .is-file) s (x .is-file .below) d (x .is-file .plain) (sym (meant-is (x .meant)) ∙ meant-is (y .meant)))
   ]
 
-  lowest-one : {P : ℕ → Type 0} {n : ℕ} → LowestBelow P n s → LowestBelow P n t → s ≡ t
-  lowest-one x y = elim (decLt s t) [
-    | yes h ↦ absurd (y .none-lower s h (x .passes))
-    | no h ↦ elim (decLt t s) [ yes i ↦ absurd (x .none-lower t i (y .passes)) | no i ↦ omega arith ]
-  ]
-
   reached-one : {h : ℕ} → Reaches k w h s → Reaches k w h t → s ≡ t
   reached-one x y = sym (x .slot) ∙ y .slot
 
@@ -38,7 +31,7 @@ module _ (k : Kind) (w : World) (v : OnVolume (w .image) k) (s t : ℕ) where
   names-one (create name attr stamp) (inl x) (inl y) = name-one x y
   names-one (create name attr stamp) (inl x) (inr y) = absurd (y .new s x)
   names-one (create name attr stamp) (inr x) (inl y) = absurd (x .new t y)
-  names-one (create name attr stamp) (inr x) (inr y) = lowest-one (x .lowest) (y .lowest)
+  names-one (create name attr stamp) (inr x) (inr y) = lowest-one _ s t (x .lowest) (y .lowest)
   names-one (read h buffer) x y = reached-one x y
   names-one (write h bs) x y = reached-one x y
   names-one (seek h method offset) x y = reached-one x y

@@ -67,8 +67,8 @@ module _ (k : Kind) (w : World) (v : OnVolume (w .image) k) (h : ℕ) (counts : 
   took-kept : (c : Call) (access s : ℕ) → Took k w c access s (ours c w) → Kept t h (ours c w .table)
   took-kept c access s x =
       let p = ours c w .value in
-      rw (x .table) (other-kept t h _ p (record-only t p (x .lowest .below) access s 0 false)
-      (λ e. clash (subst (λ (q : ℕ). usedOf t q ≡ true) e used) (x .lowest .passes)))
+      rw (x .table) (other-kept t h _ p (record-only t p (x .lowest .0 .0) access s 0 false)
+      (λ e. clash (subst (λ (q : ℕ). usedOf t q ≡ true) e used) (x .lowest .0 .1)))
 
   pub kept : (c : Call) → ours c w .number ≡ 0 → ((stamp : Stamp) → ¬ (c ≡ close h stamp)) → Kept t h (ours c w .table)
   kept (look x) well n = same-kept t h (ap (λ (u : World). u .table) (looks-alter-nothing w x))

@@ -55,8 +55,8 @@ module _ (k : Kind) (w : World) (bytes : Bytes (w .table)) where
   took-only : (c : Call) (access s : ℕ) → Took k w c access s (ours c w)
       → OnlyAt (ours c w .value) (ours c w .table) (w .table) × Bytes (ours c w .table)
   took-only c access s x = rw (x .table) (
-    record-only (w .table) (ours c w .value) (x .lowest .below) access s 0 false,
-    record-bytes (w .table) (ours c w .value) (x .lowest .below) access s 0 false bytes (omega (arith, x .access-fits)),
+    record-only (w .table) (ours c w .value) (x .lowest .0 .0) access s 0 false,
+    record-bytes (w .table) (ours c w .value) (x .lowest .0 .0) access s 0 false bytes (omega (arith, x .access-fits)),
   )
 
 -- ---- a pointer moved

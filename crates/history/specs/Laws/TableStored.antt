@@ -6,7 +6,7 @@ use mathlib.Core.Bool.{Bool, true, false, cond, not, _&&_}
 use mathlib.Core.List.{List, []}
 use mathlib.Core.Logic.{_⊎_, _≢_, inl, inr}
 use mathlib.Core.Path.{_≡_, refl, sym, ap, _∙_, subst}
-use lib.Dec.{eqb, leb}
+use lib.Dec.{eqb, leb, ltb}
 use lib.IntN.{ℤ, pos, negsuc, _+ℤ_}
 use lib.ListN.{length}
 use borrow.Author.Tests.{eq-eqb, ne-eqb, leb-true, ltb-false}
@@ -16,7 +16,7 @@ use Rattle.fields.specs.Fields.{sizeOf}
 use Rattle.names.specs.Reading.{nameGiven}
 use Rattle.offset.specs.Offset.{asPointer, movedBy}
 use Rattle.offset.specs.declared.Moved.the-variants.{To, Beyond}
-use Rattle.search.specs.Search.{isFound, LowestBelow, Answers}
+use Rattle.search.specs.Search.{isFound, Lowest, Answers}
 use Rattle.stamps.specs.Stamps.{packed}
 use Rattle.stamps.specs.declared.Packed.{Packed}
 use Rattle.stamps.specs.declared.Packed.the-variants.{Words, OutOfRange}
@@ -53,7 +53,7 @@ use Rattle.history.specs.Laws.Rows.{decided-cases}
 pub record Took (k : Kind) (w : World) (c : Call) (access s : ℕ) (o : Outcome) : Type 0 where
   pub access-fits : access ≤ 2
   pub named : Names c k w s
-  pub lowest : LowestBelow (λ p. usedOf (w .table) p ≡ false) (placeCount (w .table)) (o .value)
+  pub lowest : Lowest ltb (λ p. (p < placeCount (w .table)) × (usedOf (w .table) p ≡ false)) (o .value)
   pub table : o .table ≡ withRecord (w .table) (o .value) access s 0 false
 
 -- m is t with v as the pointer of place h
@@ -77,8 +77,8 @@ module _ (rows : List Row) (effect : Outcome) (l t b : List ℕ) where
     | inr x ↦ ap (λ (o : Outcome). o .table) (x .1) ∙ e
   ]
 
-free-lowest : (t : List ℕ) → noPlace t ≡ false → LowestBelow (λ p. usedOf t p ≡ false) (placeCount t) (freePlace t)
-free-lowest t e = subst (Answers (λ p. usedOf t p ≡ false) (placeCount t)) (found-at (lowestUnused t) e) (unused-answers t)
+free-lowest : (t : List ℕ) → noPlace t ≡ false → Lowest ltb (λ p. (p < placeCount t) × (usedOf t p ≡ false)) (freePlace t)
+free-lowest t e = subst (Answers (λ p. (p < placeCount t) × (usedOf t p ≡ false))) (found-at (lowestUnused t) e) (unused-answers t)
 
 -- where an offset leads
 moved-fits : (base : ℕ) (offset : ℤ) → answerOf (movedBy base offset) .value < 4294967296

@@ -202,10 +202,10 @@ module _ (k : Kind) (w : World) (v : OnVolume (w .image) k) (s : ℕ) (g : Guard
       made-by-spares OutOfRange = made-spares 0 0
 
     new-small : not (isFound (slotForNew l)) ≡ false → placeFound (slotForNew l) < 4294967296
-    new-small e = omega (arith, new-slot k l v e .below, on-usable l k v .few-slots)
+    new-small e = omega (arith, new-slot k l v e .0 .0, on-usable l k v .few-slots)
 
     new-other : not (isFound (slotForNew l)) ≡ false → ¬ (s ≡ placeFound (slotForNew l))
-    new-other e q = elim (subst (λ (n : ℕ). VacantAt l (slotAt k n)) (sym q) (new-slot k l v e .passes)) [
+    new-other e q = elim (subst (λ (n : ℕ). VacantAt l (slotAt k n)) (sym q) (new-slot k l v e .0 .1)) [
       | inl z ↦ g .is-file .plain .0 .1 z
       | inr z ↦ g .is-file .plain .0 .0 z
     ]

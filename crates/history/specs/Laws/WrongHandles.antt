@@ -59,7 +59,7 @@ module _ (k : Kind) (w : World) (fs : Files) (m free : ℕ) (x : HasFiles k w fs
   opens-first-strays keeps =
       let o = open-well k w (on (x .stands .begins)) name fits n 0 has (ap lowestUnused (x .table) ∙ place-free) in
       let r = keeps k w (x .stands .begins) [] tt .0 name 0 (rw o refl) n has in
-      let taken = record-holds (w .table) (freePlace (w .table)) (rw o at (r .lowest .below)) 0 0 0 false (omega arith) (omega arith) in
+      let taken = record-holds (w .table) (freePlace (w .table)) (rw o at (r .lowest .0 .0)) 0 0 0 false (omega arith) (omega arith) in
       later (sym (rw o at (r .reaches .slot)) ∙ taken .slot)
 
 -- the volume of the listing case, with 40 zeros in the first file and one byte in the second

@@ -141,7 +141,7 @@ module _ {k : Kind} {w : World} {fs : Files} {f : File} {name : List ℕ} {attr 
 
   not-named : ¬ Names (create name attr stamp) k u 0
   not-named (inl y) = no-file 0 y
-  not-named (inr y) = elim (y .lowest .passes) [ inl z ↦ first-file .plain .0 .1 z | inr z ↦ first-file .plain .0 .0 z ]
+  not-named (inr y) = elim (y .lowest .0 .1) [ inl z ↦ first-file .plain .0 .1 z | inr z ↦ first-file .plain .0 .0 z ]
 
   other-name : ¬ Holds k remade 0 f
   other-name y =

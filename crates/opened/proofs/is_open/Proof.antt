@@ -3,7 +3,7 @@ use borrow.Author.Needs.{needs}
 use Prim.Native.Nat.{_-_, _≤_}
 use mathlib.Core.Path.{_≡_}
 use Rattle.search.specs.Search.{lowest}
-use Rattle.directory.specs.Laws.Search.{lowest-miss}
+use Rattle.search.specs.Laws.Turns.{lowest-miss}
 use Rattle.opened.specs.Places.{isOpen}
 use Rattle.opened.specs.Aids.Places.{namesSlot}
 use Rattle.opened.specs.Records.{placeCount}

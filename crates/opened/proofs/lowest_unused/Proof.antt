@@ -3,7 +3,7 @@ use borrow.Author.Needs.{needs}
 use Prim.Native.Nat.{_-_, _≤_}
 use mathlib.Core.Path.{_≡_}
 use Rattle.search.specs.Search as find
-use Rattle.directory.specs.Laws.Search.{lowest-end}
+use Rattle.search.specs.Laws.Turns.{lowest-done}
 use Rattle.opened.specs.Places.{lowestUnused}
 use Rattle.opened.specs.Aids.Places.{unusedAt}
 use Rattle.opened.specs.Records.{placeCount}
@@ -40,7 +40,7 @@ loop-again : tie.Need-loop-again Inv-loop μ-loop
 loop-again c = search (needs, unused-miss)
 
 returns-2 : tie.Need-returns-2 Inv-loop μ-loop
-returns-2 c = search lowest-end
+returns-2 c = search lowest-done
 
 pub lowest-unused-spec : {M : Type 1} → statement M
 lowest-unused-spec =

@@ -7,10 +7,10 @@ use mathlib.Core.Path.{_≡_, sym, _∙_, ap}
 use lib.Dec.{eqb, leb, ltb}
 use borrow.Author.Tests.{lt-ltb, le-ltb, le-leb, lt-leb, not-true, not-false}
 use Rattle.search.specs.Search.{lowest, isFound}
+use Rattle.search.specs.Laws.Turns.{lowest-hit, lowest-miss, lowest-done}
 use Rattle.search.specs.declared.Found.{Found}
 use Rattle.search.specs.declared.Found.the-variants.{At, Nothing}
 use Rattle.directory.specs.Slots.{standingOf, isPlain}
-use Rattle.directory.specs.Laws.Search.{lowest-hit, lowest-miss, lowest-end}
 use Rattle.opened.specs.Records.{placeCount, usedOf, slotOf, accessOf}
 use Rattle.opened.specs.Places.{isLive}
 use Rattle.opened.specs.Aids.Places.{liveSlot, holdsFile, namesSlot, unusedAt}
@@ -32,7 +32,7 @@ module _ (p : ℕ → Bool) (s n : ℕ) (t : Bool) (r : Found) (whole : isFound 
   found-hit h b q e = ap isFound (lowest-hit p s n r inv h b q e) ∙ whole
 
   pub found-end : n ≤ s → false ≡ t
-  found-end h = ap isFound (lowest-end p s n r inv h) ∙ whole
+  found-end h = ap isFound (lowest-done p s n r inv h) ∙ whole
 
 module _ (t : List ℕ) (slot p : ℕ) (u : Bool) (is : u ≡ usedOf t p) where
   pub names-used : u ≡ true → (s : ℕ) → s ≡ slotOf t p → eqb s slot ≡ namesSlot t slot p

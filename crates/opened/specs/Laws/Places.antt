@@ -8,7 +8,7 @@ use mathlib.Core.Path.{_≡_, refl, sym, _∙_}
 use lib.Dec.{eqb, leb, ltb}
 use borrow.Author.Tests.{ltb-true, leb-true, eqb-true, lt-ltb, le-leb, eq-eqb, not-true}
 use Rattle.search.specs.Search.{lowest, Answers, isFound}
-use Rattle.search.specs.Laws.Below.{lowest-answers}
+use Rattle.search.specs.Laws.Answers.{below-answers}
 use Rattle.search.specs.declared.Found.{Found}
 use Rattle.search.specs.declared.Found.the-variants.{At, Nothing}
 use Rattle.directory.specs.Slots.{standingOf, isPlain}
@@ -79,9 +79,9 @@ module _ (t : List ℕ) (h : ℕ) (l : List ℕ) (root count : ℕ) where
 
 -- ---- the lowest unused place
 
-pub unused-answers : (t : List ℕ) → Answers (λ (p : ℕ). usedOf t p ≡ false) (placeCount t) (lowestUnused t)
+pub unused-answers : (t : List ℕ) → Answers (λ p. (p < placeCount t) × (usedOf t p ≡ false)) (lowestUnused t)
 unfolding lowestUnused
-unused-answers t = lowest-answers (unusedAt t) (λ (p : ℕ). usedOf t p ≡ false) (placeCount t) (λ p k. (not-true (usedOf t p), λ e. rw e))
+unused-answers t = below-answers (unusedAt t) (λ (p : ℕ). usedOf t p ≡ false) (placeCount t) (λ p k. (not-true (usedOf t p), λ e. rw e))
 
 -- ---- open files
 
@@ -99,21 +99,21 @@ names-not t slot p n = cases (namesSlot t slot p) refl
     cases false e = e
 
 module _ (t : List ℕ) (slot : ℕ) where
-  search-answers : Answers (NamesAt t slot) (placeCount t) (lowest (namesSlot t slot) 0 (placeCount t))
-  search-answers = lowest-answers (namesSlot t slot) (NamesAt t slot) (placeCount t) (λ p k. names-is t slot p)
+  search-answers : Answers (λ p. (p < placeCount t) × NamesAt t slot p) (lowest (namesSlot t slot) 0 (placeCount t))
+  search-answers = below-answers (namesSlot t slot) (NamesAt t slot) (placeCount t) (λ p k. names-is t slot p)
 
   -- some used place names the slot
   pub open-is : (isOpen t slot ≡ true) ↔ ((p : ℕ) × (p < placeCount t) × NamesAt t slot p)
   unfolding isOpen
   open-is = (to (lowest (namesSlot t slot) 0 (placeCount t)) search-answers, λ n. from n (lowest (namesSlot t slot) 0 (placeCount t)) search-answers)
     where
-      to : (r : Found) → Answers (NamesAt t slot) (placeCount t) r → isFound r ≡ true → (p : ℕ) × (p < placeCount t) × NamesAt t slot p
-      to (At p) a e = (p, a .below, a .passes)
+      to : (r : Found) → Answers (λ p. (p < placeCount t) × NamesAt t slot p) r → isFound r ≡ true → (p : ℕ) × (p < placeCount t) × NamesAt t slot p
+      to (At p) a e = (p, a .0 .0, a .0 .1)
       to Nothing a e = absurd (let z : _≡_ {A = ℕ} 0 1 = cc in omega arith)
 
-      from : ((p : ℕ) × (p < placeCount t) × NamesAt t slot p) → (r : Found) → Answers (NamesAt t slot) (placeCount t) r → isFound r ≡ true
+      from : ((p : ℕ) × (p < placeCount t) × NamesAt t slot p) → (r : Found) → Answers (λ p. (p < placeCount t) × NamesAt t slot p) r → isFound r ≡ true
       from n (At p) a = refl
-      from n Nothing a = absurd (a (n .0) (n .1) (n .2))
+      from n Nothing a = absurd (a (n .0) (n .1, n .2))
 
   -- no used place names it
   pub closed-is : (isOpen t slot ≡ false) ↔ ((p : ℕ) → p < placeCount t → ¬ NamesAt t slot p)

@@ -7,7 +7,7 @@ use mathlib.Core.Path.{_≡_, refl, ap}
 use lib.Dec.{T}
 use lib.ListN.{length}
 use Rattle.search.specs.Search.{lowest, isFound}
-use Rattle.search.specs.Laws.Turns.{lowest-hit, lowest-miss, lowest-done}
+use Rattle.search.specs.Laws.Turns.{lowest-all, lowest-hit, lowest-miss, lowest-done}
 use Rattle.search.specs.declared.Found.the-variants.{At, Nothing}
 use Rattle.records.specs.declared.OpenRecord.{OpenRecord}
 use Rattle.records.specs.Row.{rowCount, unusedIn, lowestUnusedIn, namesIn, isOpenIn}
@@ -26,14 +26,14 @@ module _ (test : ℕ → Bool) (row : List OpenRecord) where
   Left i = lowest test i (rowCount row - i) ≡ lowest test 0 (rowCount row)
 
   pub all-left : Left 0
-  all-left = let e : rowCount row - 0 ≡ rowCount row = omega arith in ap (lowest test 0) e
+  all-left = lowest-all test (rowCount row)
 
   module _ (i : ℕ) (left : Left i) where
     pub hit : i < 16 → i < length row → T (test i) → At i ≡ lowest test 0 (rowCount row)
-    hit few within passed = lowest-hit test i (rowCount row) (lowest test 0 (rowCount row)) left (omega arith) (is-true (test i) passed)
+    hit few within passed = lowest-hit test i (rowCount row) (lowest test 0 (rowCount row)) left (omega arith) (test i) refl (is-true (test i) passed)
 
     pub miss : i < 16 → i < length row → T (not (test i)) → Left (i + 1)
-    miss few within failed = lowest-miss test i (rowCount row) (lowest test 0 (rowCount row)) left (omega arith) (is-false (test i) failed)
+    miss few within failed = lowest-miss test i (rowCount row) (lowest test 0 (rowCount row)) left (omega arith) (test i) refl (is-false (test i) failed)
 
     pub done : rowCount row ≤ i → Nothing ≡ lowest test 0 (rowCount row)
     done over = lowest-done test i (rowCount row) (lowest test 0 (rowCount row)) left over

@@ -1,12 +1,13 @@
 -- A file that stands on a disk, under a name that no other has, is what rescue gives.
-use Prim.Native.Nat.{ℕ, _+_, _*_, _≤_, min}
+use Prim.Native.Nat.{ℕ, _+_, _*_, _≤_, _<_, min}
 use native.Mathlib.Omega.{arith}
 use mathlib.Core.Bool.{true, false, not}
 use mathlib.Core.List.{List, []}
 use mathlib.Core.Path.{_≡_, sym, ap, _∙_}
 use lib.ListN.{length, take}
+use borrow.Author.Tests.{ltb-true}
 use Rattle.image.specs.Store.{stored}
-use Rattle.search.specs.Laws.Below.{only-answer}
+use Rattle.search.specs.Laws.Answers.{only-answer}
 use Rattle.search.specs.declared.Found.the-variants.{At}
 use Rattle.chains.specs.Laws.Tests.{true-says}
 use Rattle.diskette.specs.Images.{kindOfImage}
@@ -45,19 +46,19 @@ module _ (m : List ℕ) (k : Kind) (e : kindOfImage m ≡ Known k) (s : ℕ) (f 
 
   -- slot r holds a plain file of the name
   abbrev Named : ℕ → Type 0
-  Named r = PlainAt m (slotFrom (rootAt k) r) × (nameOf m (slotFrom (rootAt k) r) ≡ nameGiven name .name)
+  Named r = (r < rootEntries k) × (PlainAt m (slotFrom (rootAt k) r) × (nameOf m (slotFrom (rootAt k) r) ≡ nameGiven name .name))
 
   found : fileFound m name ≡ At s
   unfolding fileFound
   found =
       let n = nameGiven name .name in
-      rw is-kind (only-answer Named (rootEntries k) (slotNamed m (rootAt k) (rootEntries k) n) (At s)
-      (slot-named-answers m (rootAt k) (rootEntries k) root-in n (proper name (accepted name (f .name) .1 means .0) .long))
-      (record {
-        below = h .is-file .below;
-        passes = (h .is-file .plain, spelled);
-        none-lower = λ q l x. let z : q ≡ s = alone q (record { below = omega (arith, h .is-file .below); plain = x .0 }) (x .1 ∙ sym spelled) in omega arith;
-      }))
+      rw is-kind (only-answer Named (slotNamed m (rootAt k) (rootEntries k) n) (At s)
+      (slot-named-answers m (rootAt k) (rootEntries k) root-in n (proper name (accepted name (f .name) .1 means .0) .long)) (
+        (h .is-file .below, (h .is-file .plain, spelled)),
+        λ q l x.
+            let z : q ≡ s = alone q (record { below = x .0; plain = x .1 .0 }) (x .1 .1 ∙ sym spelled) in
+            omega (arith, ltb-true q s l),
+      ))
 
   good : goodChain k m s ≡ true
   good = true-says (says-chain m k e s) (h .bytes .0, h .bytes .1)

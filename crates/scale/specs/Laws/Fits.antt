@@ -10,7 +10,8 @@ use lib.ListN.{length, getD}
 use Rattle.chains.specs.Lists.{_∈_}
 use Rattle.chains.specs.Sums.{tally, bit}
 use Rattle.chains.specs.Values.{Link}
-use Rattle.chains.specs.Verdict.{None, OrElse}
+use Rattle.chains.specs.Verdict.{OrElse}
+use Rattle.search.specs.Search.{None}
 use Rattle.chains.specs.Laws.Tests.{says-dec}
 use Rattle.diskette.specs.Images.{kindOfImage, kindOfArea}
 use Rattle.diskette.specs.Kinds.{named}

@@ -3,8 +3,8 @@ use borrow.Author.Needs.{needs}
 use mathlib.Core.Path.{_≡_}
 use Prim.Native.Nat.{_-_, _≤_}
 use lib.ListN.{length}
-use Rattle.chains.specs.Aids.Verdict.{first}
-use Rattle.chains.specs.Laws.SearchTurns.{slots-start, first-end}
+use Rattle.search.specs.Search.{lowest}
+use Rattle.search.specs.Laws.Turns.{lowest-all, lowest-done}
 use Rattle.slotcheck.specs.Aids.Slots.{anyBelow, neverUsedSlot, labelSlot, badSlotAt}
 use Rattle.slotcheck.specs.Aids.Checksums.{NamesMet}
 use Rattle.slotcheck.specs.Laws.Slots.{any-more, bad-found, bad-not-here}
@@ -12,14 +12,14 @@ use Rattle.slotcheck.proofs.first_bad_by.Statement.{statement}
 use Rattle.slotcheck.proofs.first_bad_by.Tie as tie
 
 abbrev Inv-loop : tie.InvT-loop
-Inv-loop img met₀ root count never₀ label₀ s₀ met never label s = (s ≤ count) × (never ≡ anyBelow (neverUsedSlot img root) s) × (label ≡ anyBelow (labelSlot img root) s) × (first (badSlotAt img root) (count - s) s ≡ first (badSlotAt img root) count 0) × (length met ≡ length met₀) × NamesMet img root s met
+Inv-loop img met₀ root count never₀ label₀ s₀ met never label s = (s ≤ count) × (never ≡ anyBelow (neverUsedSlot img root) s) × (label ≡ anyBelow (labelSlot img root) s) × (lowest (badSlotAt img root) s (count - s) ≡ lowest (badSlotAt img root) 0 count) × (length met ≡ length met₀) × NamesMet img root s met
 
 abbrev μ-loop : tie.MeasureT-loop
 μ-loop img met₀ root count never₀ label₀ s₀ met never label s = count - s
 
 loop-holds : tie.Need-loop-holds Inv-loop μ-loop
 unfolding anyBelow
-loop-holds c = search (needs, slots-start)
+loop-holds c = search (needs, lowest-all)
 
 is-bad-requires : tie.Need-is-bad-requires Inv-loop μ-loop
 is-bad-requires c κs = search needs
@@ -57,7 +57,7 @@ same-length-2 : tie.Need-same-length-2 Inv-loop μ-loop
 same-length-2 c = search needs
 
 returns-2 : tie.Need-returns-2 Inv-loop μ-loop
-returns-2 c = search first-end
+returns-2 c = search lowest-done
 
 pub first-bad-by-spec : {M : Type 1} → statement M
 first-bad-by-spec =

@@ -77,9 +77,9 @@ module _ (l : List ℕ) (root s : ℕ) (m : List ℕ) (met : NamesMet l root s m
       unmet : getD m sum 0 ≡ 0 → isFound (slotNamed l root s (nameOf l (slotFrom root s))) ≡ false
       unmet zeros =
           let name = nameOf l (slotFrom root s) in
-          elim (says-found (λ t. PlainAt l (slotFrom root t) × (nameOf l (slotFrom root t) ≡ name)) s (slotNamed l root s name)
+          elim (says-found (λ t. (t < s) × (PlainAt l (slotFrom root t) × (nameOf l (slotFrom root t) ≡ name))) (slotNamed l root s name)
           (slot-named-answers l root s (omega arith) name (length-part l (slotFrom root s) 11 (omega arith)))) [
-            | aye y f ↦ absurd (met .marked (f .0) (f .1) (f .2 .0) (ap (λ (n : List ℕ). getD m (checksum n) 0) (f .2 .1) ∙ (rw (sums) at zeros)))
+            | aye y f ↦ absurd (met .marked (f .0) (f .1 .0) (f .1 .1 .0) (ap (λ (n : List ℕ). getD m (checksum n) 0) (f .1 .1 .1) ∙ (rw (sums) at zeros)))
             | nay f n ↦ f
           ]
 

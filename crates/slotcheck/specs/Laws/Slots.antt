@@ -4,19 +4,17 @@ use native.Mathlib.Omega.{arith}
 use mathlib.Core.Bool.{Bool, true, false, _&&_, _||_, not}
 use mathlib.Core.List.{List}
 use mathlib.Core.Logic.{_≢_}
-use mathlib.Core.Option.{Option, some}
-use mathlib.Core.Path.{_≡_, refl, sym, _∙_, ap}
+use mathlib.Core.Path.{_≡_, refl, _∙_, ap}
 use lib.ListN.{getD}
 use borrow.Author.Tests.{eq-eqb, ne-eqb}
 use Rattle.chains.specs.Aids.Tests.{Says, aye, nay}
-use Rattle.chains.specs.Aids.Verdict.{first}
-use Rattle.chains.specs.Laws.SearchTurns.{first-hit, first-miss}
 use Rattle.fields.specs.Fields.{nameOf, attrOf}
 use Rattle.directory.specs.Slots.{hasBit, standingOf, isPlain}
 use Rattle.directory.specs.Search.{slotNamed}
 use Rattle.diskette.specs.Places.{slotFrom}
 use Rattle.directory.specs.declared.Standing.{Standing}
-use Rattle.search.specs.Search.{Answers, isFound}
+use Rattle.search.specs.Search.{lowest, Answers, isFound}
+use Rattle.search.specs.Laws.Turns.{lowest-hit, lowest-miss}
 use Rattle.search.specs.declared.Found.{Found}
 use Rattle.search.specs.declared.Found.the-variants.{At, Nothing}
 use Rattle.slotcheck.specs.Aids.Slots.{anyBelow, isLabel, isLiveEntry, neverUsedSlot, labelSlot, strange, strangeSlot, nameTwiceSlot, badSlotBy, badSlotAt}
@@ -100,16 +98,16 @@ module _ (l : List ℕ) (root s : ℕ) (never label r : Bool) (is : r ≡ badSlo
   unfolding badSlotAt
   here = is ∙ rw (nevers, labels)
 
-  module _ (count : ℕ) (whole : Option ℕ) (left : s < count) (inv : first (badSlotAt l root) (count - s) s ≡ whole) where
-    pub bad-found : r ≡ true → some s ≡ whole
-    bad-found t = first-hit (badSlotAt l root) count s whole left (sym here ∙ t) inv
+  module _ (count : ℕ) (whole : Found) (left : s < count) (inv : lowest (badSlotAt l root) s (count - s) ≡ whole) where
+    pub bad-found : r ≡ true → At s ≡ whole
+    bad-found = lowest-hit (badSlotAt l root) s count whole inv left r here
 
-    pub bad-not-here : r ≡ false → first (badSlotAt l root) (count - (s + 1)) (s + 1) ≡ whole
-    bad-not-here f = first-miss (badSlotAt l root) count s whole left (sym here ∙ f) inv
+    pub bad-not-here : r ≡ false → lowest (badSlotAt l root) (s + 1) (count - (s + 1)) ≡ whole
+    bad-not-here = lowest-miss (badSlotAt l root) s count whole inv left r here
 
 -- ---- a search
 
--- the search below s found a plain file of that name
-pub says-found : (P : ℕ → Type 0) (count : ℕ) (f : Found) → Answers P count f → Says (isFound f) ((t : ℕ) × (t < count) × P t)
-says-found P count (At t) a = aye refl (t, a .below, a .passes)
-says-found P count Nothing a = nay refl (λ x. a (x .0) (x .1) (x .2))
+-- it found something exactly where there is something
+pub says-found : (B : ℕ → Type 0) (f : Found) → Answers B f → Says (isFound f) ((t : ℕ) × B t)
+says-found B (At t) a = aye refl (t, a .0)
+says-found B Nothing a = nay refl (λ x. a (x .0) (x .1))

@@ -4,7 +4,8 @@ use mathlib.Core.Bool.{Bool, true, false}
 use mathlib.Core.List.{List}
 use Rattle.chains.specs.Aids.Check.{chainMarks, inTwo, lost, badValue, checkChains}
 use Rattle.chains.specs.Aids.Findings.{Voice}
-use Rattle.chains.specs.Aids.Verdict.{orElse, first}
+use Rattle.chains.specs.Aids.Verdict.{orElse, optional}
+use Rattle.search.specs.Search.{lowest}
 use Rattle.diskette.specs.Places.{lastCluster, clusterBytes, rootAt, rootEntries, copyTwo}
 use Rattle.diskette.specs.declared.Kind.{Kind}
 use Rattle.diskette.specs.declared.WhichKind.{WhichKind}
@@ -32,21 +33,24 @@ voice k l = record {
 
 -- findings 6 and 7 by the marks m, as the code goes
 unfoldable pub marksJudged : ℕ → (ℕ → ℕ) → List ℕ → Verdict → Verdict
-marksJudged last f m fine = orElse (Finding 6) (first (inTwo m) (last - 1) 2) (orElse (Finding 7) (first (lost last f m) (last - 1) 2) fine)
+marksJudged last f m fine =
+    orElse (Finding 6) (optional (lowest (inTwo m) 2 (last - 1)))
+    (orElse (Finding 7) (optional (lowest (lost last f m) 2 (last - 1))) fine)
 
 -- findings 5 to 7, as the code goes
 unfoldable pub chainsJudged : Kind → List ℕ → ℕ → ℕ → Verdict
 chainsJudged k l free aside =
-    orElse (Finding 5) (first (badChainSlot (lastCluster k) (clusterBytes k) l (rootAt k)) (rootEntries k) 0)
+    orElse (Finding 5) (optional (lowest (badChainSlot (lastCluster k) (clusterBytes k) l (rootAt k)) 0 (rootEntries k)))
     (marksJudged (lastCluster k) (valueOf k l) (marksOfFiles k l) (Sound (fileCount k l) free (heldOf k l) aside))
 
 -- all findings but the first
 unfoldable pub judged : Kind → List ℕ → Verdict
 judged k l =
-    orElse (Finding 2) (first (differsAt (copyTwo k) l) (512 * k .fat) 0)
-    (orElse (Finding 3) (first (badValue (lastCluster k) (valueOf k l)) (lastCluster k - 1) 2)
-    (orElse (Finding 4) (first (badSlotAt l (rootAt k)) (rootEntries k) 0)
-    (checkChains (lastCluster k) (valueOf k l) (marksOfFiles k l) (voice k l) (first (badChainSlot (lastCluster k) (clusterBytes k) l (rootAt k)) (rootEntries k) 0))))
+    orElse (Finding 2) (optional (lowest (differsAt (copyTwo k) l) 0 (512 * k .fat)))
+    (orElse (Finding 3) (optional (lowest (badValue (lastCluster k) (valueOf k l)) 2 (lastCluster k - 1)))
+    (orElse (Finding 4) (optional (lowest (badSlotAt l (rootAt k)) 0 (rootEntries k)))
+    (checkChains (lastCluster k) (valueOf k l) (marksOfFiles k l) (voice k l)
+    (optional (lowest (badChainSlot (lastCluster k) (clusterBytes k) l (rootAt k)) 0 (rootEntries k))))))
 
 abbrev pub judgedBy : WhichKind → List ℕ → Verdict
 judgedBy (Known k) l = judged k l

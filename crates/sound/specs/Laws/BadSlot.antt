@@ -10,9 +10,9 @@ use lib.Dec.{ltb}
 use lib.ListN.{length, getD}
 use Rattle.image.specs.Laws.Store.{length-part}
 use Rattle.chains.specs.Aids.Tests.{Says, aye, nay}
-use Rattle.chains.specs.Aids.Verdict.{Found, first}
+use Rattle.chains.specs.Aids.Verdict.{optional, Finds}
 use Rattle.chains.specs.Laws.Tests.{says-eq, says-and, says-or, says-not, says-map, by-test, clash}
-use Rattle.chains.specs.Laws.Verdict.{first-found}
+use Rattle.chains.specs.Laws.Verdict.{lowest-finds}
 use Rattle.diskette.specs.Places.{firstData, rootEntries, rootAt, slotAt, slotFrom}
 use Rattle.diskette.specs.declared.Kind.{Kind}
 use Rattle.fields.specs.Fields.{nameOf, attrOf}
@@ -22,7 +22,7 @@ use Rattle.directory.specs.Laws.Slots.{standing-label, live-is, plain-is}
 use Rattle.directory.specs.Laws.Search.{slot-named-answers}
 use Rattle.directory.specs.declared.Standing.{Standing}
 use Rattle.directory.specs.declared.Standing.the-variants.{NeverUsed, Erased, Label, Plain}
-use Rattle.search.specs.declared.Found as answer
+use Rattle.search.specs.Search.{lowest}
 use Rattle.slotcheck.specs.Laws.Slots.{says-found}
 use Rattle.slotcheck.specs.Aids.Slots.{anyBelow, isLabel, isLiveEntry, neverUsedSlot, labelSlot, strange, strangeSlot, nameTwiceSlot, badSlotBy, badSlotAt}
 use Rattle.sound.specs.Findings.{AfterNeverUsed, StrangeEntry, SecondLabel, NameTwice, BadSlot}
@@ -108,8 +108,8 @@ module _ (k : Kind) (l : List ℕ) (s : ℕ) where
     says-name-twice =
         let name = nameOf l (slotAt k s) in
         says-and (says-plain l (rootAt k) s)
-        (says-map (λ x. (x .0, x .1, x .2 .0, x .2 .1)) (λ x. (x .0, x .1, (x .2, x .3)))
-        (says-found (λ t. PlainAt l (slotAt k t) × (nameOf l (slotAt k t) ≡ name)) s (slotNamed l (rootAt k) s name)
+        (says-map (λ x. (x .0, x .1 .0, x .1 .1 .0, x .1 .1 .1)) (λ x. (x .0, (x .1, (x .2, x .3))))
+        (says-found (λ t. (t < s) × (PlainAt l (slotAt k t) × (nameOf l (slotAt k t) ≡ name))) (slotNamed l (rootAt k) s name)
         (slot-named-answers l (rootAt k) s (omega arith) name (length-part l (slotAt k s) 11 (omega arith)))))
 
     -- the test of a slot decides finding 4
@@ -118,8 +118,9 @@ module _ (k : Kind) (l : List ℕ) (s : ℕ) where
     says-bad-slot = says-or says-after (says-or says-strange (says-or says-second-label says-name-twice))
 
 -- The search answers the lowest bad slot.
-pub found-bad-slot : (k : Kind) (l : List ℕ) → 512 * firstData k ≤ length l → Found ltb (BadSlot k l) (first (badSlotAt l (rootAt k)) (rootEntries k) 0)
+pub found-bad-slot : (k : Kind) (l : List ℕ) → 512 * firstData k ≤ length l
+    → Finds ltb (BadSlot k l) (optional (lowest (badSlotAt l (rootAt k)) 0 (rootEntries k)))
 found-bad-slot k l long =
-    first-found (BadSlot k l) (badSlotAt l (rootAt k)) (rootEntries k) 0
+    lowest-finds (BadSlot k l) (badSlotAt l (rootAt k)) 0 (rootEntries k)
     (λ s b. let h : s < rootEntries k = b .0 in (omega arith, omega arith))
     (λ s z h. let e : s < rootEntries k = omega arith in says-map (λ b. (e, b)) (λ b. b .1) (says-bad-slot k l s long e))

@@ -9,10 +9,10 @@ use mathlib.Core.Path.{_≡_, refl, ap, _∙_}
 use lib.Dec.{ltb}
 use lib.ListN.{getD}
 use Rattle.chains.specs.Aids.Tests.{Says}
-use Rattle.chains.specs.Verdict.{None}
-use Rattle.chains.specs.Aids.Verdict.{Found, first}
+use Rattle.search.specs.Search.{lowest, None}
+use Rattle.chains.specs.Aids.Verdict.{optional, Finds}
 use Rattle.chains.specs.Laws.Tests.{says-eq, says-and, says-or, says-not, says-map}
-use Rattle.chains.specs.Laws.Verdict.{first-found}
+use Rattle.chains.specs.Laws.Verdict.{lowest-finds}
 use Rattle.diskette.specs.Aids.Usable.{Usable}
 use Rattle.diskette.specs.Places.{copyOne, copyTwo}
 use Rattle.diskette.specs.declared.Kind.{Kind}
@@ -28,8 +28,9 @@ says-differs k l j h =
     says-map (λ r. (h, elim r [ inl x ↦ inr x | inr x ↦ inl x ])) (λ r. elim (r .1) [ inl x ↦ inr x | inr x ↦ inl x ])
     (says-or (says-not (says-eq one two)) (says-and (says-or (says-eq j 1) (says-eq j 2)) (says-not (says-eq one 0xFF))))
 
-pub found-difference : (k : Kind) (l : List ℕ) → Found ltb (TablesDiffer k l) (first (differsAt (copyTwo k) l) (512 * k .fat) 0)
-found-difference k l = first-found (TablesDiffer k l) (differsAt (copyTwo k) l) (512 * k .fat) 0 (λ j b. (omega arith, omega (arith, b .0))) (λ j h i. says-differs k l j (omega arith))
+pub found-difference : (k : Kind) (l : List ℕ) → Finds ltb (TablesDiffer k l) (optional (lowest (differsAt (copyTwo k) l) 0 (512 * k .fat)))
+found-difference k l =
+    lowest-finds (TablesDiffer k l) (differsAt (copyTwo k) l) 0 (512 * k .fat) (λ j b. (omega arith, omega (arith, b .0))) (λ j h i. says-differs k l j (omega arith))
 
 module _ (k : Kind) (l : List ℕ) where
   pub no-difference : Usable k → None (TablesDiffer k l) → Agree (copyTwo k) (512 * k .fat) l × (getD l (copyOne + 1) 0 ≡ 0xFF) × (getD l (copyOne + 2) 0 ≡ 0xFF)

@@ -7,7 +7,8 @@ use mathlib.Core.Logic.{_↔_, inl, inr}
 use mathlib.Core.Path.{_≡_, refl, sym, ap, _∙_, subst}
 use lib.Dec.{ltb}
 use Rattle.chains.specs.Aids.Tests.{Says, aye, nay}
-use Rattle.chains.specs.Verdict.{None, OrElse}
+use Rattle.chains.specs.Verdict.{OrElse}
+use Rattle.search.specs.Search.{None}
 use Rattle.chains.specs.Laws.Tests.{says-true, says-false, true-says, false-says, says-map}
 use Rattle.diskette.specs.Images.{kindOfImage, kindOfArea, OfKind, AreaOf}
 use Rattle.diskette.specs.declared.Kind.{Kind}

@@ -1,12 +1,11 @@
 -- The answer put together, in the form of the code's needs: r is what a search answered.
 use Prim.Native.Nat.{ℕ, _-_, _*_}
 use mathlib.Core.List.{List}
-use mathlib.Core.Option.{Option, none, some}
 use mathlib.Core.Path.{_≡_, refl, sym, _∙_}
 use lib.ListN.{replicate}
-use Rattle.chains.specs.Aids.Verdict.{orElse, first}
+use Rattle.chains.specs.Aids.Verdict.{orElse, optional}
 use Rattle.chains.specs.Aids.Check.{badValue, inTwo, lost, checkLost, checkTwo, checkChains}
-use Rattle.search.specs.Laws.Theory.{optional}
+use Rattle.search.specs.Search.{lowest}
 use Rattle.search.specs.declared.Found.{Found}
 use Rattle.search.specs.declared.Found.the-variants.{At, Nothing}
 use Rattle.diskette.specs.Places.{clusterBytes, lastCluster, rootEntries, rootAt, copyTwo}
@@ -31,22 +30,22 @@ use Rattle.sound.specs.declared.Verdict.the-variants.{Sound, Finding}
 
 -- ---- one finding in front of the rest
 
-found-says : (say : ℕ → Verdict) (o : Option ℕ) (rest : Verdict) (r : Found) (p : ℕ) → optional r ≡ o → r ≡ At p → say p ≡ orElse say o rest
-unfolding orElse
+found-says : (say : ℕ → Verdict) (o : Found) (rest : Verdict) (r : Found) (p : ℕ) → r ≡ o → r ≡ At p → say p ≡ orElse say (optional o) rest
+unfolding orElse optional
 found-says say o rest r p e q = rw (← e, q)
 
-nothing-says : (say : ℕ → Verdict) (o : Option ℕ) (rest : Verdict) (r : Found) → optional r ≡ o → r ≡ Nothing → rest ≡ orElse say o rest
-unfolding orElse
+nothing-says : (say : ℕ → Verdict) (o : Found) (rest : Verdict) (r : Found) → r ≡ o → r ≡ Nothing → rest ≡ orElse say (optional o) rest
+unfolding orElse optional
 nothing-says say o rest r e q = rw (← e, q)
 
 -- ---- findings 6 and 7
 
-module _ (last : ℕ) (f : ℕ → ℕ) (m : List ℕ) (fine : Verdict) (r : Found) (e : optional r ≡ first (inTwo m) (last - 1) 2) where
+module _ (last : ℕ) (f : ℕ → ℕ) (m : List ℕ) (fine : Verdict) (r : Found) (e : r ≡ lowest (inTwo m) 2 (last - 1)) where
   pub marks-two : (c : ℕ) → r ≡ At c → Finding 6 c ≡ marksJudged last f m fine
   unfolding marksJudged
   marks-two c q = found-says (Finding 6) _ _ r c e q
 
-  module _ (q : r ≡ Nothing) (s : Found) (g : optional s ≡ first (lost last f m) (last - 1) 2) where
+  module _ (q : r ≡ Nothing) (s : Found) (g : s ≡ lowest (lost last f m) 2 (last - 1)) where
     pub marks-lost : (c : ℕ) → s ≡ At c → Finding 7 c ≡ marksJudged last f m fine
     unfolding marksJudged
     marks-lost c p = found-says (Finding 7) _ fine s c g p ∙ nothing-says (Finding 6) _ _ r e q
@@ -57,10 +56,10 @@ module _ (last : ℕ) (f : ℕ → ℕ) (m : List ℕ) (fine : Verdict) (r : Fou
 
 -- ---- findings 5 to 7
 
-chains-say : (o : Option ℕ) (files held : ℕ) (r : Chains) → r ≡ chainsBy o files held → (rest : ℕ → ℕ → Verdict) → (elim r as (λ _. Verdict) [ BadChain s ↦ Finding 5 s | Held a b ↦ rest a b ]) ≡ orElse (Finding 5) o (rest files held)
-unfolding orElse
-chains-say none files held r e rest = rw e
-chains-say (some s) files held r e rest = rw e
+chains-say : (o : Found) (files held : ℕ) (r : Chains) → r ≡ chainsBy o files held → (rest : ℕ → ℕ → Verdict) → (elim r as (λ _. Verdict) [ BadChain s ↦ Finding 5 s | Held a b ↦ rest a b ]) ≡ orElse (Finding 5) (optional o) (rest files held)
+unfolding orElse optional
+chains-say Nothing files held r e rest = rw e
+chains-say (At s) files held r e rest = rw e
 
 module _ (k : Kind) (l : List ℕ) (free aside : ℕ) (r : Chains) (e : r ≡ chainsFound (lastCluster k) (clusterBytes k) l (rootAt k) (rootEntries k)) where
   said : (elim r as (λ _. Verdict) [ BadChain s ↦ Finding 5 s | Held a b ↦ marksJudged (lastCluster k) (valueOf k l) (marksOfFiles k l) (Sound a free b aside) ]) ≡ chainsJudged k l free aside
@@ -88,26 +87,26 @@ module _ (k : Kind) (l : List ℕ) (free aside last root count cb : ℕ) (a : la
 
 -- ---- all of them
 
-census-says : (o : Option ℕ) (free aside : ℕ) (r : Census) → r ≡ censusBy o free aside → (rest : ℕ → ℕ → Verdict) → (elim r as (λ _. Verdict) [ BadValue c ↦ Finding 3 c | Values a b ↦ rest a b ]) ≡ orElse (Finding 3) o (rest free aside)
-unfolding orElse
-census-says none free aside r e rest = rw e
-census-says (some c) free aside r e rest = rw e
+census-says : (o : Found) (free aside : ℕ) (r : Census) → r ≡ censusBy o free aside → (rest : ℕ → ℕ → Verdict) → (elim r as (λ _. Verdict) [ BadValue c ↦ Finding 3 c | Values a b ↦ rest a b ]) ≡ orElse (Finding 3) (optional o) (rest free aside)
+unfolding orElse optional
+census-says Nothing free aside r e rest = rw e
+census-says (At c) free aside r e rest = rw e
 
 module _ (k : Kind) (l : List ℕ) where
   -- findings 5 to 7 as the theory of chains has them
-  chains-as : chainsJudged k l (freeOf k l) (asideOf k l) ≡ checkChains (lastCluster k) (valueOf k l) (marksOfFiles k l) (voice k l) (first (badChainSlot (lastCluster k) (clusterBytes k) l (rootAt k)) (rootEntries k) 0)
+  chains-as : chainsJudged k l (freeOf k l) (asideOf k l) ≡ checkChains (lastCluster k) (valueOf k l) (marksOfFiles k l) (voice k l) (optional (lowest (badChainSlot (lastCluster k) (clusterBytes k) l (rootAt k)) 0 (rootEntries k)))
   unfolding chainsJudged marksJudged checkChains checkTwo checkLost
   chains-as = refl
 
   from-slots : ℕ → ℕ → Verdict
-  from-slots free aside = orElse (Finding 4) (first (badSlotAt l (rootAt k)) (rootEntries k) 0) (chainsJudged k l free aside)
+  from-slots free aside = orElse (Finding 4) (optional (lowest (badSlotAt l (rootAt k)) 0 (rootEntries k))) (chainsJudged k l free aside)
 
-  judged-as : judged k l ≡ orElse (Finding 2) (first (differsAt (copyTwo k) l) (512 * k .fat) 0) (orElse (Finding 3) (first (badValue (lastCluster k) (valueOf k l)) (lastCluster k - 1) 2) (from-slots (freeOf k l) (asideOf k l)))
+  judged-as : judged k l ≡ orElse (Finding 2) (optional (lowest (differsAt (copyTwo k) l) 0 (512 * k .fat))) (orElse (Finding 3) (optional (lowest (badValue (lastCluster k) (valueOf k l)) 2 (lastCluster k - 1))) (from-slots (freeOf k l) (asideOf k l)))
   unfolding judged from-slots
   judged-as = rw chains-as
 
-  module _ (second : ℕ) (x : second ≡ copyTwo k) (r : Found) (e : optional r ≡ first (differsAt second l) (512 * k .fat) 0) where
-    tables-say : optional r ≡ first (differsAt (copyTwo k) l) (512 * k .fat) 0
+  module _ (second : ℕ) (x : second ≡ copyTwo k) (r : Found) (e : r ≡ lowest (differsAt second l) 0 (512 * k .fat)) where
+    tables-say : r ≡ lowest (differsAt (copyTwo k) l) 0 (512 * k .fat)
     tables-say = rw x at e
 
     pub judged-tables : (j : ℕ) → r ≡ At j → Finding 2 j ≡ judged k l
@@ -121,11 +120,11 @@ module _ (k : Kind) (l : List ℕ) where
       pub judged-values : (c : ℕ) → s ≡ BadValue c → Finding 3 c ≡ judged k l
       judged-values c p = rw p at after-tables
 
-      module _ (free aside : ℕ) (p : s ≡ Values free aside) (root count : ℕ) (w : root ≡ rootAt k) (z : count ≡ rootEntries k) (t : Found) (h : optional t ≡ first (badSlotAt l root) count 0) where
+      module _ (free aside : ℕ) (p : s ≡ Values free aside) (root count : ℕ) (w : root ≡ rootAt k) (z : count ≡ rootEntries k) (t : Found) (h : t ≡ lowest (badSlotAt l root) 0 count) where
         after-values : from-slots free aside ≡ judged k l
         after-values = rw p at after-tables
 
-        slots-say : optional t ≡ first (badSlotAt l (rootAt k)) (rootEntries k) 0
+        slots-say : t ≡ lowest (badSlotAt l (rootAt k)) 0 (rootEntries k)
         slots-say = rw (w, z) at h
 
         pub judged-slots : (n : ℕ) → t ≡ At n → Finding 4 n ≡ judged k l

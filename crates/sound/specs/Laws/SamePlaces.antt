@@ -1,7 +1,8 @@
 -- Findings that hold at the same places are answered alike.
 use mathlib.Core.Bool.{Bool}
 use mathlib.Core.Logic.{inl, inr, _↔_}
-use Rattle.chains.specs.Verdict.{Lowest, None, OrElse}
+use Rattle.chains.specs.Verdict.{OrElse}
+use Rattle.search.specs.Search.{Lowest, None}
 
 pub turned : {P Q : Type 0} → P ↔ Q → Q ↔ P
 turned e = (e .1, e .0)

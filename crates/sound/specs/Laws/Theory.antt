@@ -6,7 +6,7 @@ use mathlib.Core.Path.{_≡_, subst}
 use lib.Dec.{ltb}
 use Rattle.chains.specs.Aids.Holders.{NamesAll, FitTogether}
 use Rattle.chains.specs.Lists.{_∈_}
-use Rattle.chains.specs.Verdict.{None}
+use Rattle.search.specs.Search.{None}
 use Rattle.chains.specs.Laws.Findings.{none-sound}
 use Rattle.chains.specs.Laws.Holders.{sound-names}
 use Rattle.diskette.specs.Aids.Usable.{Usable}

@@ -2,21 +2,21 @@
 use borrow.Author.Needs.{needs}
 use Prim.Native.Nat.{_-_}
 use mathlib.Core.Path.{_≡_}
-use Rattle.chains.specs.Aids.Verdict.{first}
-use Rattle.chains.specs.Laws.SearchTurns.{slots-start}
+use Rattle.search.specs.Search.{lowest}
+use Rattle.search.specs.Laws.Turns.{lowest-all}
 use Rattle.tablecheck.specs.Aids.Copies.{differsAt}
 use Rattle.tablecheck.specs.Laws.Tables.{difference-hit, difference-miss, difference-end}
 use Rattle.tablecheck.proofs.first_difference.Statement.{statement}
 use Rattle.tablecheck.proofs.first_difference.Tie as tie
 
 abbrev Inv-loop : tie.InvT-loop
-Inv-loop img second size j₀ j = first (differsAt second img) (size - j) j ≡ first (differsAt second img) size 0
+Inv-loop img second size j₀ j = lowest (differsAt second img) j (size - j) ≡ lowest (differsAt second img) 0 size
 
 abbrev μ-loop : tie.MeasureT-loop
 μ-loop img second size j₀ j = size - j
 
 loop-holds : tie.Need-loop-holds Inv-loop μ-loop
-loop-holds c = search (needs, slots-start)
+loop-holds c = search (needs, lowest-all)
 
 alike-requires : tie.Need-alike-requires Inv-loop μ-loop
 alike-requires c κs = search needs

@@ -6,7 +6,6 @@ use mir.Syntax.{w8}
 use mathlib.Core.Bool.{Bool, true, false, _||_, not}
 use mathlib.Core.List.{List}
 use mathlib.Core.Logic.{_≢_, inl, inr}
-use mathlib.Core.Option.{Option, none}
 use mathlib.Core.Path.{_≡_, refl, sym, ap, _∙_}
 use lib.Dec.{eqb}
 use lib.ListN.{getD}
@@ -17,13 +16,13 @@ use Rattle.chains.specs.Aids.Check.{badValue}
 use Rattle.chains.specs.Sums.{tally, bit}
 use Rattle.chains.specs.Values.{freeCount, asideCount, freeb, linkb, asideb, Valid, free, used, aside, endb}
 use Rattle.chains.specs.Aids.Values.{freeAt, asideAt}
-use Rattle.chains.specs.Aids.Verdict.{first}
 use Rattle.chains.specs.Laws.Tests.{says-not, true-says, false-says, clash}
 use Rattle.chains.specs.Laws.Values.{says-valid, says-aside}
 use Rattle.chains.specs.Laws.TallyTurns.{tally-hit, tally-miss, tally-end}
-use Rattle.chains.specs.Laws.SearchTurns.{first-hit, first-miss, first-end, clusters-start}
-use Rattle.chains.specs.Laws.CountTurns.{free-start, aside-start}
-use Rattle.search.specs.Laws.Theory.{optional}
+use Rattle.chains.specs.Laws.ClusterLoops.{lowest-start, free-start, aside-start}
+use Rattle.search.specs.Search.{lowest}
+use Rattle.search.specs.Laws.Turns.{lowest-hit, lowest-miss, lowest-done}
+use Rattle.search.specs.declared.Found.{Found}
 use Rattle.search.specs.declared.Found.the-variants.{At, Nothing}
 use Rattle.values.specs.Values.{meaningOf}
 use Rattle.values.specs.Values as values
@@ -112,23 +111,24 @@ module _ (l : List ℕ) (second size j : ℕ) where
 
 -- ---- the search for the lowest
 
-misses : (t : ℕ → Bool) (end c : ℕ) (whole : Option ℕ) → first t (end - c) c ≡ whole → (n : ℕ) → c + n ≤ end → ((i : ℕ) → i < n → t (c + i) ≡ false)
-    → first t (end - (c + n)) (c + n) ≡ whole
+misses : (t : ℕ → Bool) (end c : ℕ) (whole : Found) → lowest t c (end - c) ≡ whole → (n : ℕ) → c + n ≤ end → ((i : ℕ) → i < n → t (c + i) ≡ false)
+    → lowest t (c + n) (end - (c + n)) ≡ whole
 misses t end c whole inv zero h clear = let z : c + 0 ≡ c = omega arith in rw z inv
 misses t end c whole inv (suc n) h clear =
     let z : c + suc n ≡ c + n + 1 = omega arith in
-    rw z (first-miss t end (c + n) whole (omega arith) (clear n (omega arith)) (misses t end c whole inv n (omega arith) (λ i k. clear i (omega arith))))
+    rw z (lowest-miss t (c + n) end whole (misses t end c whole inv n (omega arith) (λ i k. clear i (omega arith)))
+    (omega arith) (t (c + n)) refl (clear n (omega arith)))
 
-module _ (l : List ℕ) (second size j : ℕ) (whole : Option ℕ) (inv : first (differsAt second l) (size - j) j ≡ whole) where
+module _ (l : List ℕ) (second size j : ℕ) (whole : Found) (inv : lowest (differsAt second l) j (size - j) ≡ whole) where
   module _ (n : ℕ) (a : Alike second l size j n) where
-    pub difference-hit : j < size → n ≡ 0 → optional (At j) ≡ whole
-    difference-hit h z = first-hit (differsAt second l) size j whole h (a .here z) inv
+    pub difference-hit : j < size → n ≡ 0 → At j ≡ whole
+    difference-hit h z = lowest-hit (differsAt second l) j size whole inv h (differsAt second l j) refl (a .here z)
 
-    pub difference-miss : first (differsAt second l) (size - (j + n)) (j + n) ≡ whole
+    pub difference-miss : lowest (differsAt second l) (j + n) (size - (j + n)) ≡ whole
     difference-miss = misses (differsAt second l) size j whole inv n (a .within) (a .clear)
 
-  pub difference-end : size ≤ j → optional Nothing ≡ whole
-  difference-end h = first-end (differsAt second l) size j whole h inv
+  pub difference-end : size ≤ j → Nothing ≡ whole
+  difference-end h = lowest-done (differsAt second l) j size whole inv h
 
 -- ---- the census
 
@@ -139,7 +139,7 @@ pub record Met (last : ℕ) (l : List ℕ) (after free aside c : ℕ) : Type 0 w
   pub aside-few : aside ≤ c
   pub free-is : free + tally (freeAt (tableOf last l)) (after - c) c ≡ freeCount last (tableOf last l)
   pub aside-is : aside + tally (asideAt (tableOf last l)) (after - c) c ≡ asideCount last (tableOf last l)
-  pub bad-is : first (badValue last (tableOf last l)) (after - c) c ≡ first (badValue last (tableOf last l)) (last - 1) 2
+  pub bad-is : lowest (badValue last (tableOf last l)) c (after - c) ≡ lowest (badValue last (tableOf last l)) 2 (last - 1)
 
 pub met-start : (last : ℕ) (l : List ℕ) → Met last l (last + 1) 0 0 2
 met-start last l = record {
@@ -148,7 +148,7 @@ met-start last l = record {
   aside-few = omega arith;
   free-is = free-start (tableOf last l) last;
   aside-is = aside-start (tableOf last l) last;
-  bad-is = clusters-start (badValue last (tableOf last l)) last;
+  bad-is = lowest-start (badValue last (tableOf last l)) last;
 }
 
 -- what a meaning says of the tests
@@ -236,7 +236,7 @@ module _ (last : ℕ) (l : List ℕ) (free aside c v : ℕ) (m : Meaning) (fit :
     aside-few = omega (arith, inv .aside-few, bit-small (isAside m));
     free-is = tally-turn (freeAt f) (last + 1) c free free′ (freeCount last f) (isFree m) h (rw (sym value) (free-said last v low m fits)) x (inv .free-is);
     aside-is = tally-turn (asideAt f) (last + 1) c aside aside′ (asideCount last f) (isAside m) h (rw (sym value) (aside-said last v low m fits)) y (inv .aside-is);
-    bad-is = first-miss (badValue last f) (last + 1) c (first (badValue last f) (last - 1) 2) h (bad ∙ g) (inv .bad-is);
+    bad-is = lowest-miss (badValue last f) c (last + 1) (lowest (badValue last f) 2 (last - 1)) (inv .bad-is) h (isBad m) (sym bad) g;
   }
 
   module _ (free′ aside′ : ℕ) where
@@ -254,13 +254,15 @@ module _ (last : ℕ) (l : List ℕ) (free aside c v : ℕ) (m : Meaning) (fit :
 
   pub met-bad : m ≡ NoneOfThese → BadValue c ≡ censusOf last l
   unfolding censusOf
-  met-bad g = ap (λ o. censusBy o (freeCount last f) (asideCount last f)) (first-hit (badValue last f) (last + 1) c (first (badValue last f) (last - 1) 2) h (bad ∙ (rw g)) (inv .bad-is))
+  met-bad g = ap (λ o. censusBy o (freeCount last f) (asideCount last f))
+      (lowest-hit (badValue last f) c (last + 1) (lowest (badValue last f) 2 (last - 1)) (inv .bad-is) h (isBad m) (sym bad) (rw g))
 
 pub met-all : (last : ℕ) (l : List ℕ) (n m c : ℕ) → Met last l (last + 1) n m c → last + 1 ≤ c → Values n m ≡ censusOf last l
 unfolding censusOf
 met-all last l n m c inv h =
     let f : ℕ → ℕ = tableOf last l in
-    let none-bad : none ≡ first (badValue last f) (last - 1) 2 = first-end (badValue last f) (last + 1) c (first (badValue last f) (last - 1) 2) h (inv .bad-is) in
+    let none-bad : Nothing ≡ lowest (badValue last f) 2 (last - 1)
+    = lowest-done (badValue last f) c (last + 1) (lowest (badValue last f) 2 (last - 1)) (inv .bad-is) h in
     let frees : n ≡ freeCount last f = tally-end (freeAt f) (last + 1) c n (freeCount last f) h (inv .free-is) in
     let asides : m ≡ asideCount last f = tally-end (asideAt f) (last + 1) c m (asideCount last f) h (inv .aside-is) in
     rw (sym none-bad, frees, asides)

@@ -3,15 +3,15 @@ use borrow.Author.Needs.{needs}
 use Prim.Native.Nat.{_-_, _≤_}
 use mathlib.Core.Path.{_≡_}
 use Rattle.chains.specs.Aids.Check.{inTwo}
-use Rattle.chains.specs.Aids.Verdict.{first}
-use Rattle.chains.specs.Laws.SearchTurns.{clusters-start}
+use Rattle.chains.specs.Laws.ClusterLoops.{lowest-start}
+use Rattle.search.specs.Search.{lowest}
+use Rattle.search.specs.Laws.Turns.{lowest-done}
 use Rattle.chaincheck.specs.Laws.MarkTurns.{two-hit, two-miss}
-use Rattle.chaincheck.specs.Laws.Searches.{search-done}
 use Rattle.chaincheck.proofs.marks.first_in_two.Statement.{statement}
 use Rattle.chaincheck.proofs.marks.first_in_two.Tie as tie
 
 abbrev Inv-loop : tie.InvT-loop
-Inv-loop marks last after twice₀ twice = (2 ≤ twice) × (first (inTwo marks) (after - twice) twice ≡ first (inTwo marks) (last - 1) 2)
+Inv-loop marks last after twice₀ twice = (2 ≤ twice) × (lowest (inTwo marks) twice (after - twice) ≡ lowest (inTwo marks) 2 (last - 1))
 
 abbrev μ-loop : tie.MeasureT-loop
 μ-loop marks last after twice₀ twice = after - twice
@@ -20,7 +20,7 @@ add-after : tie.Need-add-after Inv-loop μ-loop
 add-after c = search needs
 
 loop-holds : tie.Need-loop-holds Inv-loop μ-loop
-loop-holds c = search (needs, clusters-start)
+loop-holds c = search (needs, lowest-start)
 
 shared-slice-read-if1 : tie.Need-shared-slice-read-if1 Inv-loop μ-loop
 shared-slice-read-if1 c = search needs
@@ -38,7 +38,7 @@ loop-again : tie.Need-loop-again Inv-loop μ-loop
 loop-again c = search (needs, two-miss)
 
 returns-2 : tie.Need-returns-2 Inv-loop μ-loop
-returns-2 c = search search-done
+returns-2 c = search lowest-done
 
 pub first-in-two-spec : {M : Type 1} → statement M
 first-in-two-spec =

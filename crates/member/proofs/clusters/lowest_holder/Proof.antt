@@ -2,7 +2,7 @@
 use Prim.Native.Nat.{_-_}
 use mathlib.Core.Path.{_≡_}
 use Rattle.search.specs.Search.{lowest}
-use Rattle.directory.specs.Laws.Search.{lowest-hit, lowest-miss, lowest-end}
+use Rattle.search.specs.Laws.Turns.{lowest-hit, lowest-miss, lowest-done}
 use Rattle.member.specs.Clusters.{slotHolds}
 use borrow.Author.Needs.{needs}
 use Rattle.member.proofs.clusters.lowest_holder.Statement.{statement}
@@ -39,7 +39,7 @@ loop-again : tie.Need-loop-again Inv-loop μ-loop
 loop-again c = search (needs, lowest-miss)
 
 returns-2 : tie.Need-returns-2 Inv-loop μ-loop
-returns-2 c = search lowest-end
+returns-2 c = search lowest-done
 
 pub lowest-holder-spec : {M : Type 1} → statement M
 lowest-holder-spec =
