@@ -88,12 +88,12 @@ def put_by_us(volume, files):
 
 
 def weigh(volume, files):
-    """The scale's program writes at the end of the day's file, which the maker began; it wants a read-only tare."""
+    """The scale's program writes behind the day's file, whose last line has no end; it wants a read-only tare."""
     expect(volume.change("mode", "TARE.KEY", "01"), True, f"{volume.title}: our mode")
     grams = [str(61000 + n) for n in range(200)]
     [(status, _, said)] = ended([*SCALE, volume.path, "1983-09-01", "18:05:58", *grams])
     expect((status, said), (0, ""), f"{volume.title}: weighings written at a file's end")
-    files["19830901.LOG"] += "".join(f"18:05:58 {weight}\n" for weight in grams).encode()
+    files["19830901.LOG"] += ("\n" + "".join(f"18:05:58 {weight}\n" for weight in grams)).encode()
 
 
 def change_by_us(volume, files):
