@@ -43,10 +43,9 @@ class Reading:
         """What must be read, each with what named it first."""
         listed = {cite for row in self.papers[UNIQUENESS].table("Call") for cite in named_in(row.cells["Call"])}
         self.calls = roots.calls(self.definitions, self.tree.text(HEADER), listed, self.tally)
-        rooms = roots.rooms(self.definitions, self.tally)
         statements = roots.statements(self.definitions, self.tally)
         laws, self.unread = roots.theorems(self.definitions, self.papers[READING], self.tally)
-        found = reach.reached(self.definitions, [*self.calls, *rooms, *statements, *laws], self.unread | set(laws))
+        found = reach.reached(self.definitions, [*self.calls, *statements, *laws], self.unread | set(laws))
         return {thing: by for thing, by in found.items() if thing not in laws and not isinstance(thing, Function)}
 
     def named_files(self):

@@ -1,5 +1,5 @@
-"""Where reading begins: the contracts of the public calls, rooms of calls to come, the promises and worked numbers that are proved, and the
-theorems that say what a test means."""
+"""Where reading begins: the contracts of the public calls, the promises and worked numbers that are proved, and the theorems that say what a
+test means."""
 
 import re
 
@@ -11,17 +11,15 @@ from words import nested
 # The files of the calls in Rattle, over a table of bytes and over lent records: each public function there is a call.
 # The calls for C are found by their mark.
 CALLS = [
-    *("formatting/src/format.rt", "sound/src/lib.rt", "freespace/src/free_space.rt", "entries/src/entry.rt"),
+    *("formatting/src/format.rt", "sound/src/lib.rt", "freespace/src/free_space.rt", "entries/src/entry.rt", "matching/src/find.rt"),
     *("opening/src/open.rt", "creating/src/create.rt", "reading/src/read.rt", "writing/src/write.rt"),
     *("seeking/src/seek.rt", "closing/src/close.rt", "deleting/src/delete.rt", "renaming/src/rename.rt"),
     *("marking/src/mode.rt", "viewing/src/view.rt", "rescuing/src/rescue.rt"),
     *("lent/src/lib.rt", "single/src/held.rt", "lending/src/lib.rt"),
 ]
-# The rooms of calls that are still to come: what their public functions promise is read as a call's contract is.
-ROOMS = ["patterns/src/lib.rt"]
 # The file with equations over worked numbers; and the folders of promises and worked numbers that the laws there prove.
 EQUATIONS = "crates/lines/specs/Worked.antt"
-PROMISES = ["crates/history/specs", "crates/reset/specs", "crates/worked/specs"]
+PROMISES = ["crates/matching/specs", "crates/history/specs", "crates/reset/specs", "crates/worked/specs"]
 # The head of the column of tests in READING.md.
 TESTS = "Test: what it means"
 
@@ -50,18 +48,6 @@ def calls(definitions, header, listed, tally):
         tally.check(not call.asks(), f"{call.where()} asks for something: a public call takes anything")
         named = [thing for thing in definitions.uses(call) if isinstance(thing, Item)]
         tally.check(call.promises() and named, f"{call.where()} promises nothing by our definitions")
-    return found
-
-
-def rooms(definitions, tally):
-    """The public functions of rooms that no call uses yet. Standing beneath a call, they may ask for something."""
-    found = []
-    for file in ROOMS:
-        public = public_in(definitions, file)
-        tally.check(public, f"crates/{file} has no public function: tests/reading/roots.py names it as a room to read")
-        found += public
-    for function in found:
-        tally.check(function.promises(), f"{function.where()} promises nothing")
     return found
 
 

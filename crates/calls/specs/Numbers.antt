@@ -1,4 +1,4 @@
--- Document 01, "Refusal numbers, in order of test": each number once, by a name. The rows of the calls use the names.
+-- The refusal numbers of document 01, "in order of test", and of document 02: each once, by a name that the rows of the calls use.
 use Prim.Native.Nat.{ℕ}
 
 -- ---- "Numbers 1 to 12 have the meaning of its Error Return Table"
@@ -26,6 +26,12 @@ invalidHandle = 6
 -- access above 2
 abbrev pub invalidAccess : ℕ
 invalidAccess = 12
+
+-- ---- document 02, M-100
+
+-- no more files
+abbrev pub noMoreFiles : ℕ
+noMoreFiles = 18
 
 -- ---- the group's own
 

@@ -1,4 +1,4 @@
-// Document 01's refusal numbers. Those to 12 have the meaning of the manual's Error Return Table.
+// The refusal numbers of documents 01 and 02. Those to 12 have the meaning of the manual's Error Return Table.
 
 // Seek method above 2; file mode function above 1; seek result below 0 or above 4,294,967,295.
 pub const INVALID_FUNCTION: u32 = 1;
@@ -12,6 +12,8 @@ pub const ACCESS_DENIED: u32 = 5;
 pub const INVALID_HANDLE: u32 = 6;
 // Access above 2.
 pub const INVALID_ACCESS: u32 = 12;
+// No more files.
+pub const NO_MORE_FILES: u32 = 18;
 // Image not of a kind (format: unknown kind byte or wrong length).
 pub const OF_NO_KIND: u32 = 40;
 // Volume not sound.

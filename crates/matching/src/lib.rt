@@ -1,0 +1,2 @@
+// Files found by a pattern: find.
+pub mod find;
