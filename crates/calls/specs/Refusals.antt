@@ -5,7 +5,7 @@ use mathlib.Core.List.{List}
 use lib.Dec.{eqb}
 use Rattle.diskette.specs.Images.{kindOfImage}
 use Rattle.diskette.specs.Kinds.{kindFE}
-use Rattle.diskette.specs.Places.{rootAt, rootEntries, slotAt}
+use Rattle.diskette.specs.Places.{rootEntries, slotAt}
 use Rattle.diskette.specs.declared.Kind.{Kind}
 use Rattle.diskette.specs.declared.WhichKind.{WhichKind}
 use Rattle.diskette.specs.declared.WhichKind.the-variants.{Known, Unknown}
@@ -75,7 +75,7 @@ badAttr a = not (eqb a (a % 8 + a / 32 % 2 * 32))
 
 -- the slot of the plain file that a caller's name means
 unfoldable pub fileFound : List ℕ → List ℕ → Found
-fileFound img s = slotNamed img (rootAt (theKind img)) (rootEntries (theKind img)) (nameGiven s .name)
+fileFound img s = slotNamed img (slotAt (theKind img)) (rootEntries (theKind img)) (nameGiven s .name)
 
 -- 2: no such plain file
 abbrev pub noFile : List ℕ → List ℕ → Bool
@@ -94,7 +94,7 @@ readOnly img slot = hasBit (attrOf img (addressOf img slot)) 0x01
 
 -- 6: handle not live
 unfoldable pub notLive : List ℕ → List ℕ → ℕ → Bool
-notLive img t h = not (isLive t h img (rootAt (theKind img)) (rootEntries (theKind img)))
+notLive img t h = not (isLive t h img (slotAt (theKind img)) (rootEntries (theKind img)))
 
 -- 4: no unused place
 abbrev pub noPlace : List ℕ → Bool
@@ -105,4 +105,4 @@ freePlace t = placeFound (lowestUnused t)
 
 -- the lowest erased or never-used slot
 unfoldable pub slotForNew : List ℕ → Found
-slotForNew img = lowestVacant img (rootAt (theKind img)) (rootEntries (theKind img))
+slotForNew img = lowestVacant img (slotAt (theKind img)) (rootEntries (theKind img))

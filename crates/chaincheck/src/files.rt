@@ -4,6 +4,7 @@ use crate::Slot;
 use walks::Length;
 ghost use Prim.Native.Nat.{_+_, _*_, _-_, _≤_, _<_};
 ghost use lib.ListN.{length};
+ghost use Rattle.diskette.specs.Places.{slotFrom};
 ghost use Rattle.table.specs.Entries.{wordAt, tableOf};
 ghost use Rattle.walks.specs.Aids.Walks.{Tails};
 ghost use Rattle.chaincheck.specs.Aids.Visits.{SlotVisited, FilesVisited};
@@ -58,7 +59,7 @@ pub fn visit_files(
     requires { ⌜ Tails last (tableOf last (now img)) (now marks) (now left) ⌝ }
     requires { ⌜ (root + 32 * count ≤ length (now img)) × (count ≤ 65536) ⌝ }
     requires { ⌜ (0 < cb) × (cb ≤ 4096) ⌝ }
-    ensures { λ r. ⌜ FilesVisited last cb (now (img .entry)) root count (now (marks .entry)) r (now (marks .exit)) ⌝ }
+    ensures { λ r. ⌜ FilesVisited last cb (now (img .entry)) (slotFrom root) count (now (marks .entry)) r (now (marks .exit)) ⌝ }
 {
     let mut files: usize = 0;
     let mut held: usize = 0;

@@ -11,7 +11,7 @@ use search::Found;
 use stamps::Packed;
 use stamps::Stamp;
 ghost use mathlib.Core.Path.{_≡_};
-ghost use Rattle.diskette.specs.Places.{rootAt, rootEntries};
+ghost use Rattle.diskette.specs.Places.{slotAt, rootEntries};
 ghost use Rattle.directory.specs.Search.{lowestVacant};
 ghost use Rattle.calls.specs.Aids.Ready.{OnVolume};
 ghost use Rattle.sound.specs.Files.{IsFile};
@@ -21,7 +21,7 @@ ghost use Rattle.creating.specs.Aids.Create.{Empties, MakesNew};
 // The lowest slot that a new file may take.
 fn slot_for_new(img: &[u8], k: Kind) -> Found
     requires { ⌜ OnVolume (now img) k ⌝ }
-    ensures { λ r. ⌜ r ≡ lowestVacant (now (img .entry)) (rootAt k) (rootEntries k) ⌝ }
+    ensures { λ r. ⌜ r ≡ lowestVacant (now (img .entry)) (slotAt k) (rootEntries k) ⌝ }
 {
     directory::lowest_vacant(img, k.root_at(), k.root_entries())
 }

@@ -1,4 +1,4 @@
--- A slot found in a directory of count slots, the first of which stands at byte root.
+-- A slot found in a directory of count slots; way takes a slot to the byte at which its entry starts.
 use Prim.Native.Nat.{ℕ, zero, suc, _+_}
 use mathlib.Core.Bool.{Bool, true, _&&_}
 use mathlib.Core.List.{List}
@@ -6,7 +6,6 @@ use lib.Dec.{eqb}
 use lib.ListN.{getD}
 use Rattle.search.specs.Search.{lowest}
 use Rattle.search.specs.declared.Found.{Found}
-use Rattle.diskette.specs.Places.{slotFrom}
 use Rattle.fields.specs.Fields.{nameOf}
 use Rattle.directory.specs.Slots.{standingOf, isVacant, isPlain}
 
@@ -20,9 +19,9 @@ abbrev pub isNamed : List ℕ → ℕ → List ℕ → Bool
 isNamed l a name = isPlain (standingOf l a) && sameFrom (nameOf l a) name 0 11
 
 -- the lowest erased or never-used slot
-unfoldable pub lowestVacant : List ℕ → ℕ → ℕ → Found
-lowestVacant l root count = lowest (λ s. isVacant (standingOf l (slotFrom root s))) 0 count
+unfoldable pub lowestVacant : List ℕ → (ℕ → ℕ) → ℕ → Found
+lowestVacant l way count = lowest (λ s. isVacant (standingOf l (way s))) 0 count
 
 -- the slot of the plain file with these 11 name bytes
-unfoldable pub slotNamed : List ℕ → ℕ → ℕ → List ℕ → Found
-slotNamed l root count name = lowest (λ s. isNamed l (slotFrom root s) name) 0 count
+unfoldable pub slotNamed : List ℕ → (ℕ → ℕ) → ℕ → List ℕ → Found
+slotNamed l way count name = lowest (λ s. isNamed l (way s) name) 0 count

@@ -3,6 +3,7 @@ use search::Found;
 ghost use mathlib.Core.Path.{_≡_};
 ghost use Prim.Native.Nat.{_+_, _*_, _≤_, _<_};
 ghost use lib.ListN.{length};
+ghost use Rattle.diskette.specs.Places.{slotFrom};
 ghost use Rattle.fields.specs.Fields.{nameOf};
 ghost use Rattle.directory.specs.Slots.{hasBit, standingBy, standingOf, isVacant, isPlain};
 ghost use Rattle.directory.specs.Search.{sameFrom, isNamed, lowestVacant, slotNamed};
@@ -116,7 +117,7 @@ pub fn named_at(img: &[u8], a: usize, name: [u8; 11]) -> bool
 // The lowest slot that is erased or never used.
 pub fn lowest_vacant(img: &[u8], root: usize, count: usize) -> Found
     requires { ⌜ root + 32 * count ≤ length (now img) ⌝ }
-    ensures { λ r. ⌜ r ≡ lowestVacant (now (img .entry)) root count ⌝ }
+    ensures { λ r. ⌜ r ≡ lowestVacant (now (img .entry)) (slotFrom root) count ⌝ }
 {
     let mut slot: usize = 0;
     while slot < count {
@@ -131,7 +132,7 @@ pub fn lowest_vacant(img: &[u8], root: usize, count: usize) -> Found
 // The slot of the plain file of that name.
 pub fn slot_named(img: &[u8], root: usize, count: usize, name: [u8; 11]) -> Found
     requires { ⌜ root + 32 * count ≤ length (now img) ⌝ }
-    ensures { λ r. ⌜ r ≡ slotNamed (now (img .entry)) root count name ⌝ }
+    ensures { λ r. ⌜ r ≡ slotNamed (now (img .entry)) (slotFrom root) count name ⌝ }
 {
     let mut slot: usize = 0;
     while slot < count {

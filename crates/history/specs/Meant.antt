@@ -4,7 +4,7 @@ use mathlib.Core.List.{List}
 use mathlib.Core.Logic.{_⊎_}
 use mathlib.Core.Path.{_≡_}
 use lib.Dec.{ltb}
-use Rattle.diskette.specs.Places.{rootAt, rootEntries, slotAt}
+use Rattle.diskette.specs.Places.{rootEntries, slotAt}
 use Rattle.diskette.specs.declared.Kind.{Kind}
 use Rattle.search.specs.Search.{Lowest}
 use Rattle.fields.specs.Fields.{nameOf}
@@ -22,7 +22,7 @@ pub record HasName (k : Kind) (l name : List ℕ) (s : ℕ) : Type 0 where
 
 -- place h is live, and its slot is s
 pub record Reaches (k : Kind) (w : World) (h s : ℕ) : Type 0 where
-  pub live : LivePlace (w .table) h (w .image) (rootAt k) (rootEntries k)
+  pub live : LivePlace (w .table) h (w .image) (slotAt k) (rootEntries k)
   pub slot : slotOf (w .table) h ≡ s
 
 -- the name may be a file's, and no file has it: "else the lowest erased or never-used slot is taken"

@@ -7,7 +7,7 @@ use lib.Dec.{leb}
 use lib.ListN.{length}
 use Rattle.image.specs.Store.{stored}
 use Rattle.diskette.specs.Images.{kindOfArea}
-use Rattle.diskette.specs.Places.{clusters, rootEntries, rootAt, slotFrom}
+use Rattle.diskette.specs.Places.{clusters, rootEntries, slotAt}
 use Rattle.diskette.specs.declared.Kind.{Kind}
 use Rattle.diskette.specs.declared.WhichKind.{WhichKind}
 use Rattle.diskette.specs.declared.WhichKind.the-variants.{Known, Unknown}
@@ -28,17 +28,17 @@ entryText l a = fileText (nameOf l a) (attrOf l a) (sizeOf l a) (startOf l a) (d
 unfoldable pub slotText : List ℕ → ℕ → List ℕ
 slotText l a = cond (isPlain (standingOf l a)) (entryText l a) []
 
--- Files come in slot order: those of n slots from slot s on, in a directory that stands at byte root
-unfoldable pub filesText : List ℕ → ℕ → ℕ → ℕ → List ℕ
-filesText l root s zero = []
-filesText l root s (suc n) = slotText l (slotFrom root s) ++ filesText l root (s + 1) n
+-- Files come in slot order: those of n slots from slot s on; way takes a slot to the byte at which its entry starts
+unfoldable pub filesText : List ℕ → (ℕ → ℕ) → ℕ → ℕ → List ℕ
+filesText l way s zero = []
+filesText l way s (suc n) = slotText l (way s) ++ filesText l way (s + 1) n
 
 -- ---- the whole
 
 -- of a volume of the kind k, by what check answers of it. If not sound: `sound=no`, `finding=`, `place=` only.
 unfoldable pub volumeText : Kind → List ℕ → Verdict → List ℕ
 volumeText k l (Sound files free held aside) =
-    soundText (k .byte) (clusters k) free held aside files ++ filesText l (rootAt k) 0 (rootEntries k)
+    soundText (k .byte) (clusters k) free held aside files ++ filesText l (slotAt k) 0 (rootEntries k)
 volumeText k l (Finding number place) = unsoundText number place
 
 -- finding 1: Not of a kind, or a system area that ends before the first data sector; place 0.

@@ -5,6 +5,7 @@ use sound::Verdict;
 ghost use Prim.Native.Nat.{_+_, _*_, _≤_};
 ghost use lib.ListN.{length};
 ghost use Rattle.diskette.specs.Images.{AreaOf};
+ghost use Rattle.diskette.specs.Places.{slotFrom};
 ghost use Rattle.sound.specs.declared.Verdict.the-variants.{Sound};
 ghost use Rattle.text.specs.Aids.Puts.{PutsIn};
 ghost use Rattle.lines.specs.Aids.Rooms.{fileRoom};
@@ -42,7 +43,7 @@ fn put_slot(area: &[u8], a: usize, out: &mut [u8], at: usize) -> usize
 fn put_files(area: &[u8], root: usize, count: usize, out: &mut [u8], at: usize) -> usize
     requires { ⌜ root + 32 * count ≤ length (now area) ⌝ }
     requires { ⌜ at + fileRoom * count ≤ length (now out) ⌝ }
-    ensures { λ r. ⌜ PutsIn (fileRoom * count) (filesText (now (area .entry)) root 0 count) (now (out .entry)) at r (now (out .exit)) ⌝ }
+    ensures { λ r. ⌜ PutsIn (fileRoom * count) (filesText (now (area .entry)) (slotFrom root) 0 count) (now (out .entry)) at r (now (out .exit)) ⌝ }
 {
     let mut next = at;
     let mut slot: usize = 0;

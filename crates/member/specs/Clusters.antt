@@ -8,7 +8,7 @@ use Rattle.chains.specs.Values.{linkb}
 use Rattle.search.specs.Search.{lowest}
 use Rattle.search.specs.declared.Found.{Found}
 use Rattle.search.specs.declared.Found.the-variants.{At, Nothing}
-use Rattle.diskette.specs.Places.{clusters, lastCluster, rootEntries, rootAt, slotFrom}
+use Rattle.diskette.specs.Places.{clusters, lastCluster, rootEntries, slotAt}
 use Rattle.diskette.specs.declared.WhichKind.{WhichKind}
 use Rattle.diskette.specs.declared.WhichKind.the-variants.{Known, Unknown}
 use Rattle.values.specs.Values.{meaningOf}
@@ -47,9 +47,9 @@ comesTo last f c (suc n) v = linkb last v && (eqb v c || comesTo last f c n (f v
 unfoldable pub holdsAt : ℕ → ℕ → List ℕ → ℕ → ℕ → Bool
 holdsAt last n img c a = isPlain (standingOf img a) && comesTo last (tableOf last img) c n (startOf img a)
 
--- the same of slot s of a root that stands at byte root
-abbrev pub slotHolds : ℕ → ℕ → List ℕ → ℕ → ℕ → ℕ → Bool
-slotHolds last n img root c s = holdsAt last n img c (slotFrom root s)
+-- the same of slot s; way takes a slot to the byte at which its entry starts
+abbrev pub slotHolds : ℕ → ℕ → List ℕ → (ℕ → ℕ) → ℕ → ℕ → Bool
+slotHolds last n img way c s = holdsAt last n img c (way s)
 
 -- a slot, and one more; 0: none
 unfoldable pub foundTold : Found → ℕ
@@ -58,5 +58,5 @@ foundTold Nothing = 0
 
 -- the lowest slot from s on that holds cluster c; "40: image not of a kind"
 unfoldable pub holderTold : WhichKind → List ℕ → ℕ → ℕ → ℕ
-holderTold (Known k) img c s = foundTold (lowest (slotHolds (lastCluster k) (clusters k) img (rootAt k) c) s (rootEntries k - s))
+holderTold (Known k) img c s = foundTold (lowest (slotHolds (lastCluster k) (clusters k) img (slotAt k) c) s (rootEntries k - s))
 holderTold Unknown img c s = refusalAnswer ofNoKind

@@ -10,7 +10,7 @@ ghost use lib.ListN.{length};
 ghost use Rattle.search.specs.Search.{lowest};
 ghost use Rattle.diskette.specs.Images.{kindOfImage};
 ghost use Rattle.diskette.specs.Aids.Usable.{Usable};
-ghost use Rattle.diskette.specs.Places.{firstData};
+ghost use Rattle.diskette.specs.Places.{firstData, slotFrom};
 ghost use Rattle.diskette.specs.declared.WhichKind.the-variants.{Known};
 ghost use Rattle.table.specs.Entries.{wordAt, tableOf};
 ghost use Rattle.member.specs.Clusters.{meaningTold, clusterTold, comesTo, holdsAt, slotHolds, holderTold};
@@ -106,7 +106,7 @@ fn lowest_holder(
     requires { ⌜ last ≤ 4079 ⌝ }
     requires { ⌜ wordAt 512 last + 2 ≤ length (now img) ⌝ }
     requires { ⌜ root + 32 * count ≤ length (now img) ⌝ }
-    ensures { λ r. ⌜ r ≡ lowest (slotHolds last n (now (img .entry)) root c) from (count - from) ⌝ }
+    ensures { λ r. ⌜ r ≡ lowest (slotHolds last n (now (img .entry)) (slotFrom root) c) from (count - from) ⌝ }
 {
     let mut slot = from;
     while slot < count {

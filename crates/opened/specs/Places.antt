@@ -7,23 +7,22 @@ use lib.Dec.{eqb, leb, ltb}
 use Rattle.search.specs.Search.{lowest, isFound}
 use Rattle.search.specs.declared.Found.{Found}
 use Rattle.directory.specs.Slots.{PlainAt, standingOf, isPlain}
-use Rattle.diskette.specs.Places.{slotFrom}
 use Rattle.opened.specs.Records.{placeCount, usedOf, slotOf, accessOf}
 
 -- ---- A handle is its place. A place is live when used, its slot holds a plain file of this volume and access is 0 to 2.
--- The volume is an image with count slots, the first of which stands at byte root.
+-- The volume is an image with count slots; way takes a slot to the byte at which its entry starts.
 
-pub record LivePlace (t : List ℕ) (h : ℕ) (l : List ℕ) (root count : ℕ) : Type 0 where
+pub record LivePlace (t : List ℕ) (h : ℕ) (l : List ℕ) (way : ℕ → ℕ) (count : ℕ) : Type 0 where
   pub counted : h < placeCount t
   pub used : usedOf t h ≡ true
   pub access : accessOf t h ≤ 2
   pub slot : slotOf t h < count
-  pub plain : PlainAt l (slotFrom root (slotOf t h))
+  pub plain : PlainAt l (way (slotOf t h))
 
-unfoldable pub isLive : List ℕ → ℕ → List ℕ → ℕ → ℕ → Bool
-isLive t h l root count =
+unfoldable pub isLive : List ℕ → ℕ → List ℕ → (ℕ → ℕ) → ℕ → Bool
+isLive t h l way count =
     let s = slotOf t h in
-    ltb h (placeCount t) && (usedOf t h && (leb (accessOf t h) 2 && (ltb s count && isPlain (standingOf l (slotFrom root s)))))
+    ltb h (placeCount t) && (usedOf t h && (leb (accessOf t h) 2 && (ltb s count && isPlain (standingOf l (way s)))))
 
 -- ---- A file is open when a used place names its slot.
 

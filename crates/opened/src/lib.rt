@@ -6,6 +6,7 @@ ghost use mathlib.Core.Bool.{false};
 ghost use Prim.Native.Nat.{_+_, _*_, _≤_, _<_};
 ghost use lib.ListN.{length};
 ghost use Rattle.image.specs.Store.{stored};
+ghost use Rattle.diskette.specs.Places.{slotFrom};
 ghost use Rattle.opened.specs.Records.{placeCount, placeAt, usedOf, slotOf, accessOf, pointerOf, writtenOf, withRecord, withPointer, withWritten, cleared};
 ghost use Rattle.opened.specs.Aids.Records.{markBytes, numberBytes};
 ghost use Rattle.opened.specs.Places.{isOpen, lowestUnused};
@@ -151,7 +152,7 @@ pub fn is_open(t: &[u8], slot: usize) -> bool
 // The slot of the file that the handle reaches; nothing where the place is not live.
 pub fn live_slot(t: &[u8], handle: u32, img: &[u8], root: usize, count: usize) -> Found
     requires { ⌜ root + 32 * count ≤ length (now img) ⌝ }
-    ensures { λ r. ⌜ r ≡ liveSlot (now (t .entry)) handle (now (img .entry)) root count ⌝ }
+    ensures { λ r. ⌜ r ≡ liveSlot (now (t .entry)) handle (now (img .entry)) (slotFrom root) count ⌝ }
 {
     let place = handle as usize;
     if place >= place_count(t) {

@@ -8,7 +8,7 @@ use diskette::Kind;
 use search::Found;
 ghost use Prim.Native.Nat.{_<_};
 ghost use mathlib.Core.Path.{_≡_};
-ghost use Rattle.diskette.specs.Places.{rootAt, rootEntries, slotAt};
+ghost use Rattle.diskette.specs.Places.{rootEntries, slotAt};
 ghost use Rattle.fields.specs.Fields.{withName};
 ghost use Rattle.search.specs.Search.{isFound};
 ghost use Rattle.directory.specs.Search.{slotNamed};
@@ -19,7 +19,7 @@ ghost use Rattle.renaming.specs.Aids.Rename.{RenamesSlot};
 // Whether a plain file has the name.
 fn is_taken(img: &[u8], k: Kind, name: [u8; 11]) -> bool
     requires { ⌜ OnVolume (now img) k ⌝ }
-    ensures { λ r. ⌜ r ≡ isFound (slotNamed (now (img .entry)) (rootAt k) (rootEntries k) name) ⌝ }
+    ensures { λ r. ⌜ r ≡ isFound (slotNamed (now (img .entry)) (slotAt k) (rootEntries k) name) ⌝ }
 {
     match files::file_named(img, k, name) {
         Found::At(_) => true,

@@ -5,6 +5,7 @@ ghost use mathlib.Core.Bool.{_&&_, _||_};
 ghost use mathlib.Core.Path.{_≡_};
 ghost use Prim.Native.Nat.{_+_, _*_, _≤_};
 ghost use lib.ListN.{length};
+ghost use Rattle.diskette.specs.Places.{slotFrom};
 ghost use Rattle.fields.specs.Fields.{nameOf};
 ghost use Rattle.slotcheck.specs.Aids.Slots.{isLabel, isLiveEntry, neverUsedSlot, labelSlot, strange, strangeSlot, badSlotAt};
 ghost use Rattle.search.specs.Search.{lowest, isFound};
@@ -71,14 +72,14 @@ fn is_strange(first: u8, attr: u8) -> bool
 
 fn is_never_used(img: &[u8], root: usize, s: usize) -> bool
     requires { ⌜ root + 32 * s + 32 ≤ length (now img) ⌝ }
-    ensures { λ r. ⌜ r ≡ neverUsedSlot (now (img .entry)) root s ⌝ }
+    ensures { λ r. ⌜ r ≡ neverUsedSlot (now (img .entry)) (slotFrom root) s ⌝ }
 {
     img[root + 32 * s] == 0x00
 }
 
 fn is_label(img: &[u8], root: usize, s: usize) -> bool
     requires { ⌜ root + 32 * s + 32 ≤ length (now img) ⌝ }
-    ensures { λ r. ⌜ r ≡ labelSlot (now (img .entry)) root s ⌝ }
+    ensures { λ r. ⌜ r ≡ labelSlot (now (img .entry)) (slotFrom root) s ⌝ }
 {
     stands_for_label(directory::standing_at(img, root + 32 * s))
 }
@@ -86,7 +87,7 @@ fn is_label(img: &[u8], root: usize, s: usize) -> bool
 // A live entry whose first byte or attribute is strange.
 fn is_strange_slot(img: &[u8], root: usize, s: usize) -> bool
     requires { ⌜ root + 32 * s + 32 ≤ length (now img) ⌝ }
-    ensures { λ r. ⌜ r ≡ strangeSlot (now (img .entry)) root s ⌝ }
+    ensures { λ r. ⌜ r ≡ strangeSlot (now (img .entry)) (slotFrom root) s ⌝ }
 {
     let a = root + 32 * s;
     if stands_for_live(directory::standing_at(img, a)) {
@@ -120,8 +121,8 @@ fn checksum_at(img: &[u8], a: usize) -> u8
 // A plain file whose name one in a lower slot has; none has it where the mark of its checksum is not set. Sets that mark.
 fn is_name_twice(img: &[u8], met: &mut [u8], root: usize, s: usize) -> bool
     requires { ⌜ root + 32 * s + 32 ≤ length (now img) ⌝ }
-    requires { ⌜ NamesMet (now img) root s (now met) ⌝ }
-    ensures { λ r. ⌜ NameTold (now (img .entry)) root s r (now (met .exit)) ⌝ }
+    requires { ⌜ NamesMet (now img) (slotFrom root) s (now met) ⌝ }
+    ensures { λ r. ⌜ NameTold (now (img .entry)) (slotFrom root) s r (now (met .exit)) ⌝ }
 {
     let a = root + 32 * s;
     if !directory::plain_at(img, a) {
@@ -138,8 +139,8 @@ fn is_name_twice(img: &[u8], met: &mut [u8], root: usize, s: usize) -> bool
 // Whether slot s is bad; never and label say what was met in lower slots, and met has the marks of their names.
 fn is_bad(img: &[u8], met: &mut [u8], root: usize, s: usize, never: bool, label: bool) -> bool
     requires { ⌜ root + 32 * s + 32 ≤ length (now img) ⌝ }
-    requires { ⌜ NamesMet (now img) root s (now met) ⌝ }
-    ensures { λ r. ⌜ SlotTold (now (img .entry)) root s never label r (now (met .exit)) ⌝ }
+    requires { ⌜ NamesMet (now img) (slotFrom root) s (now met) ⌝ }
+    ensures { λ r. ⌜ SlotTold (now (img .entry)) (slotFrom root) s never label r (now (met .exit)) ⌝ }
 {
     if both(!is_never_used(img, root, s), never) {
         return true;
@@ -156,8 +157,8 @@ fn is_bad(img: &[u8], met: &mut [u8], root: usize, s: usize, never: bool, label:
 // The lowest bad slot, with a buffer for the marks of names.
 fn first_bad_by(img: &[u8], met: &mut [u8], root: usize, count: usize) -> Found
     requires { ⌜ root + 32 * count ≤ length (now img) ⌝ }
-    requires { ⌜ NamesMet (now img) root 0 (now met) ⌝ }
-    ensures { λ r. ⌜ r ≡ lowest (badSlotAt (now (img .entry)) root) 0 count ⌝ }
+    requires { ⌜ NamesMet (now img) (slotFrom root) 0 (now met) ⌝ }
+    ensures { λ r. ⌜ r ≡ lowest (badSlotAt (now (img .entry)) (slotFrom root)) 0 count ⌝ }
 {
     let mut never = false;
     let mut label = false;
@@ -176,7 +177,7 @@ fn first_bad_by(img: &[u8], met: &mut [u8], root: usize, count: usize) -> Found
 // The lowest bad slot.
 pub fn first_bad(img: &[u8], root: usize, count: usize) -> Found
     requires { ⌜ root + 32 * count ≤ length (now img) ⌝ }
-    ensures { λ r. ⌜ r ≡ lowest (badSlotAt (now (img .entry)) root) 0 count ⌝ }
+    ensures { λ r. ⌜ r ≡ lowest (badSlotAt (now (img .entry)) (slotFrom root)) 0 count ⌝ }
 {
     let mut met = [0u8; 256];
     first_bad_by(img, &mut met, root, count)

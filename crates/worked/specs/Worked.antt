@@ -10,7 +10,7 @@ use Rattle.chains.specs.Content.{clusterBegin}
 use Rattle.chains.specs.Sizes.{clustersFor}
 use Rattle.diskette.specs.Images.{OfKind}
 use Rattle.diskette.specs.Kinds.{kindFE, kindFD}
-use Rattle.diskette.specs.Places.{firstData, clusterBytes, rootAt, rootEntries}
+use Rattle.diskette.specs.Places.{firstData, clusterBytes, slotAt, rootEntries}
 use Rattle.diskette.specs.declared.Kind.{Kind}
 use Rattle.table.specs.Entries.{entryAt, setAt}
 use Rattle.stamps.specs.Stamps.{packed}
@@ -72,7 +72,7 @@ pub record Scene : Type 0 where
   pub handle : ℕ
   pub of-kind : OfKind image kind
   pub sound : Sound kind image
-  pub live : LivePlace table handle image (rootAt kind) (rootEntries kind)
+  pub live : LivePlace table handle image (slotAt kind) (rootEntries kind)
   pub pointer : pointerOf table handle ≡ 10
 
 abbrev pub callAnswer : Outcome → Answer

@@ -5,14 +5,14 @@ use mathlib.Core.Bool.{Bool, true, false, not}
 use mathlib.Core.List.{List, _∷_}
 use mathlib.Core.Path.{_≡_, refl, sym, _∙_}
 use lib.ListN.{length}
-use Rattle.diskette.specs.Places.{firstData, rootAt, rootEntries, slotAt}
+use Rattle.diskette.specs.Places.{firstData, rootAt, rootEntries, slotAt, slotFrom}
 use Rattle.diskette.specs.declared.Kind.{Kind}
 use Rattle.search.specs.Laws.Meaning.{LowestIs, lowest-is}
 use Rattle.search.specs.declared.Found.{Found}
 use Rattle.search.specs.declared.Found.the-variants.{At, Nothing}
 use Rattle.fields.specs.Fields.{attrOf}
 use Rattle.directory.specs.Slots.{hasBit}
-use Rattle.directory.specs.Search.{slotNamed}
+use Rattle.directory.specs.Search.{lowestVacant, slotNamed}
 use Rattle.directory.specs.Aids.Search.{namedSlot}
 use Rattle.names.specs.Reading.{nameGiven}
 use Rattle.names.specs.declared.Spelled.{Spelled}
@@ -33,10 +33,10 @@ pub below-by : (p : ℕ → Bool) (n s : ℕ) (f : Found) → LowestIs p 0 n f �
 below-by p n s (At i) x e = let z : i ≡ s = cc in let y : i < 0 + n = x .1 in omega arith
 below-by p n s Nothing x e = absurd (let z : _≡_ {A = ℕ} 0 1 = cc in omega arith)
 
-module _ (img : List ℕ) (k : Kind) (name : List ℕ) (f : Found) (e : f ≡ slotNamed img (rootAt k) (rootEntries k) name) where
+module _ (img : List ℕ) (k : Kind) (name : List ℕ) (f : Found) (e : f ≡ slotNamed img (slotAt k) (rootEntries k) name) where
   pub named-below : (slot : ℕ) → f ≡ At slot → slot < rootEntries k
   unfolding slotNamed
-  named-below slot q = below-by (namedSlot img (rootAt k) name) (rootEntries k) slot f (rw e (lowest-is (namedSlot img (rootAt k) name) 0 (rootEntries k))) q
+  named-below slot q = below-by (namedSlot img (slotAt k) name) (rootEntries k) slot f (rw e (lowest-is (namedSlot img (slotAt k) name) 0 (rootEntries k))) q
 
   pub named-at-most : (slot : ℕ) → f ≡ At slot → slot ≤ rootEntries k
   named-at-most slot q = let x : slot < rootEntries k = named-below slot q in omega arith
@@ -47,6 +47,18 @@ module _ (img : List ℕ) (k : Kind) (name : List ℕ) (f : Found) (e : f ≡ sl
       let h : slot < rootEntries k = named-below slot q in
       let r : k .root ≤ 4096 = on-usable img k v .few-slots in
       omega arith
+
+-- ---- what the code finds from the byte of the root on, in as many slots, it finds in the root
+
+module _ (img : List ℕ) (k : Kind) (root count : ℕ) (e : root ≡ rootAt k) (n : count ≡ rootEntries k) (f : Found) where
+  pub named-in-root : (name : List ℕ) → f ≡ slotNamed img (slotFrom root) count name → f ≡ slotNamed img (slotAt k) (rootEntries k) name
+  named-in-root name q = rw (e, n) at q
+
+  pub vacant-in-root : f ≡ lowestVacant img (slotFrom root) count → f ≡ lowestVacant img (slotAt k) (rootEntries k)
+  vacant-in-root q = rw (e, n) at q
+
+  pub live-in-root : (t : List ℕ) (h : ℕ) → f ≡ liveSlot t h img (slotFrom root) count → f ≡ liveSlot t h img (slotAt k) (rootEntries k)
+  live-in-root t h q = rw (e, n) at q
 
 -- ---- the lowest unused place
 
@@ -69,11 +81,15 @@ module _ (img : List ℕ) (k : Kind) (v : OnVolume img k) where
   pub root-within : (root count : ℕ) → root ≡ rootAt k → count ≡ rootEntries k → root + 32 * count ≤ length img
   root-within root count e f = let h : 512 * firstData k ≤ length img = on-area img k v in omega arith
 
+  -- and so each of its slots
+  pub slots-within : (slot : ℕ) → slot < rootEntries k → slotAt k slot + 32 ≤ length img
+  slots-within slot h = let b : 512 * firstData k ≤ length img = on-area img k v in omega arith
+
   pub slot-within : (slot a : ℕ) → slot < rootEntries k → a ≡ slotAt k slot → a + 32 ≤ length img
-  slot-within slot a h e = let b : 512 * firstData k ≤ length img = on-area img k v in omega arith
+  slot-within slot a h e = rw e (slots-within slot h)
 
   -- a file looked for by the name that a caller gave
-  pub found-is : (s : List ℕ) (g : Spelled) → g ≡ nameGiven s → (f : Found) → f ≡ slotNamed img (rootAt k) (rootEntries k) (g .name) → fileFound img s ≡ f
+  pub found-is : (s : List ℕ) (g : Spelled) → g ≡ nameGiven s → (f : Found) → f ≡ slotNamed img (slotAt k) (rootEntries k) (g .name) → fileFound img s ≡ f
   unfolding fileFound
   found-is s g e f q = rw (on-kind img k v, ← e, q)
 
@@ -82,7 +98,7 @@ module _ (img : List ℕ) (k : Kind) (v : OnVolume img k) where
   read-only-is slot a attr e f b q = rw (on-kind img k v, q, f, e)
 
   -- the entry of a file that was found stands within the image
-  pub named-within : (name : List ℕ) (f : Found) → f ≡ slotNamed img (rootAt k) (rootEntries k) name → (slot : ℕ) → f ≡ At slot → (a : ℕ) → a ≡ slotAt k slot → a + 32 ≤ length img
+  pub named-within : (name : List ℕ) (f : Found) → f ≡ slotNamed img (slotAt k) (rootEntries k) name → (slot : ℕ) → f ≡ At slot → (a : ℕ) → a ≡ slotAt k slot → a + 32 ≤ length img
   named-within name f e slot q a i = slot-within slot a (named-below img k name f e slot q) i
 
 -- ---- the slot that a handle reaches
@@ -91,12 +107,12 @@ not-live-by : (b : Bool) → (b ≡ true → ⊥) → not b ≡ true
 not-live-by true n = absurd (n refl)
 not-live-by false n = refl
 
-module _ (img : List ℕ) (k : Kind) (t : List ℕ) (h : ℕ) (f : Found) (e : f ≡ liveSlot t h img (rootAt k) (rootEntries k)) where
+module _ (img : List ℕ) (k : Kind) (t : List ℕ) (h : ℕ) (f : Found) (e : f ≡ liveSlot t h img (slotAt k) (rootEntries k)) where
   pub not-live : OnVolume img k → f ≡ Nothing → notLive img t h ≡ true
   unfolding notLive
   not-live v q = rw (on-kind img k v)
-      (not-live-by (isLive t h img (rootAt k) (rootEntries k))
-      (λ x. live-slot-none t h img (rootAt k) (rootEntries k) .0 (sym e ∙ q) (live-is t h img (rootAt k) (rootEntries k) .0 x)))
+      (not-live-by (isLive t h img (slotAt k) (rootEntries k))
+      (λ x. live-slot-none t h img (slotAt k) (rootEntries k) .0 (sym e ∙ q) (live-is t h img (slotAt k) (rootEntries k) .0 x)))
 
   pub handle-stops : OnVolume img k → f ≡ Nothing → (rows : List Row) → Stops ((notLive img t h, invalidHandle) ∷ rows) invalidHandle
   handle-stops v q rows = stops-at (notLive img t h) invalidHandle rows (not-live v q) refl
@@ -104,17 +120,17 @@ module _ (img : List ℕ) (k : Kind) (t : List ℕ) (h : ℕ) (f : Found) (e : f
   module _ (slot : ℕ) (q : f ≡ At slot) where
     pub live-passed : OnVolume img k → notLive img t h ≡ false
     unfolding notLive
-    live-passed v = rw (on-kind img k v, live-is t h img (rootAt k) (rootEntries k) .1 (live-slot-is t h img (rootAt k) (rootEntries k) slot (sym e ∙ q) .0))
+    live-passed v = rw (on-kind img k v, live-is t h img (slotAt k) (rootEntries k) .1 (live-slot-is t h img (slotAt k) (rootEntries k) slot (sym e ∙ q) .0))
 
     pub handle-past : OnVolume img k → (m n : ℕ) (rows : List Row) → Stops rows n → Stops ((notLive img t h, m) ∷ rows) n
     handle-past v m n rows x = stops-past (notLive img t h) m n rows (live-passed v) x
 
     pub live-slot : slot ≡ slotOf t h
-    live-slot = sym (live-slot-is t h img (rootAt k) (rootEntries k) slot (sym e ∙ q) .1)
+    live-slot = sym (live-slot-is t h img (slotAt k) (rootEntries k) slot (sym e ∙ q) .1)
 
     pub live-below : slot < rootEntries k
     live-below =
-        let x : slotOf t h < rootEntries k = live-slot-is t h img (rootAt k) (rootEntries k) slot (sym e ∙ q) .0 .slot in
+        let x : slotOf t h < rootEntries k = live-slot-is t h img (slotAt k) (rootEntries k) slot (sym e ∙ q) .0 .slot in
         let y : slot ≡ slotOf t h = live-slot in
         omega arith
 
@@ -126,7 +142,7 @@ module _ (img : List ℕ) (k : Kind) (t : List ℕ) (h : ℕ) (f : Found) (e : f
     live-within v a i = slot-within img k v slot a live-below i
 
     pub live-counted : h < placeCount t
-    live-counted = live-slot-is t h img (rootAt k) (rootEntries k) slot (sym e ∙ q) .0 .counted
+    live-counted = live-slot-is t h img (slotAt k) (rootEntries k) slot (sym e ∙ q) .0 .counted
 
 -- the rows in front of every call by a handle, for `search`
 pub ruleset reached = (volume-past, handle-stops, handle-past)

@@ -4,7 +4,7 @@ use Prim.Native.Nat.{ℕ}
 use mathlib.Core.Bool.{true, false, not}
 use mathlib.Core.List.{List, _∷_}
 use mathlib.Core.Path.{_≡_, refl, _∙_}
-use Rattle.diskette.specs.Places.{rootAt, rootEntries}
+use Rattle.diskette.specs.Places.{slotAt, rootEntries}
 use Rattle.diskette.specs.declared.Kind.{Kind}
 use Rattle.search.specs.declared.Found.{Found}
 use Rattle.search.specs.declared.Found.the-variants.{At, Nothing}
@@ -34,7 +34,7 @@ module _ (s : List ℕ) (g : Spelled) (given : g ≡ nameGiven s) where
   pub name-past : not (g .fits) ≡ false → (m n : ℕ) (rows : List Row) → Stops rows n → Stops ((badName s, m) ∷ rows) n
   name-past h m n rows x = stops-past (badName s) m n rows (rw (← given) h) x
 
-  module _ (img : List ℕ) (k : Kind) (v : OnVolume img k) (f : Found) (found : f ≡ slotNamed img (rootAt k) (rootEntries k) (g .name)) where
+  module _ (img : List ℕ) (k : Kind) (v : OnVolume img k) (f : Found) (found : f ≡ slotNamed img (slotAt k) (rootEntries k) (g .name)) where
     -- 2
     pub file-stops : f ≡ Nothing → (rows : List Row) → Stops ((noFile img s, fileNotFound) ∷ rows) fileNotFound
     file-stops h rows = stops-at (noFile img s) fileNotFound rows (rw (found-is img k v s g given f found, h)) refl

@@ -7,7 +7,6 @@ use Rattle.chains.specs.Aids.Findings.{holdersOf}
 use Rattle.chains.specs.Aids.Lists.{joined}
 use Rattle.chains.specs.Aids.Check.{ownsb, chainOf}
 use Rattle.chains.specs.Aids.Rows.{rows}
-use Rattle.diskette.specs.Places.{slotFrom}
 use Rattle.table.specs.Entries.{tableOf}
 use Rattle.fields.specs.Fields.{startOf, sizeOf}
 use Rattle.directory.specs.Slots.{standingOf}
@@ -24,14 +23,14 @@ holderBy cb start size Plain = fileHolder cb start size
 abbrev pub holderAt : ℕ → List ℕ → ℕ → Holder
 holderAt cb l a = holderBy cb (startOf l a) (sizeOf l a) (standingOf l a)
 
--- finding 5, at slot s of a directory that stands at byte root
-unfoldable pub badChainSlot : ℕ → ℕ → List ℕ → ℕ → ℕ → Bool
-badChainSlot last cb l root s = not (ownsb last (tableOf last l) (holderAt cb l (slotFrom root s)))
+-- finding 5, at slot s of a directory; way takes a slot to the byte at which its entry starts
+unfoldable pub badChainSlot : ℕ → ℕ → List ℕ → (ℕ → ℕ) → ℕ → Bool
+badChainSlot last cb l way s = not (ownsb last (tableOf last l) (holderAt cb l (way s)))
 
 -- the addresses of the entries in count slots
-abbrev pub entriesOf : ℕ → ℕ → List ℕ
-entriesOf root count = holdersOf (rows (slotFrom root) 0 count)
+abbrev pub entriesOf : (ℕ → ℕ) → ℕ → List ℕ
+entriesOf way count = holdersOf (rows way 0 count)
 
 -- the chains of all of them, one behind the other
-unfoldable pub chainsOf : ℕ → ℕ → List ℕ → ℕ → ℕ → List ℕ
-chainsOf last cb l root count = joined (λ a. chainOf last (tableOf last l) (holderAt cb l a)) (entriesOf root count)
+unfoldable pub chainsOf : ℕ → ℕ → List ℕ → (ℕ → ℕ) → ℕ → List ℕ
+chainsOf last cb l way count = joined (λ a. chainOf last (tableOf last l) (holderAt cb l a)) (entriesOf way count)

@@ -14,7 +14,6 @@ use Rattle.chains.specs.Sizes.{clustersFor}
 use Rattle.search.specs.Search.{lowest}
 use Rattle.search.specs.declared.Found.{Found}
 use Rattle.search.specs.declared.Found.the-variants.{At, Nothing}
-use Rattle.diskette.specs.Places.{slotFrom}
 use Rattle.table.specs.Entries.{tableOf}
 use Rattle.fields.specs.Fields.{sizeOf}
 use Rattle.directory.specs.Slots.{standingOf, isPlain}
@@ -62,27 +61,27 @@ abbrev pub chainsBy : Found → ℕ → ℕ → Chains
 chainsBy Nothing files held = Held files held
 chainsBy (At s) files held = BadChain s
 
-unfoldable pub chainsFound : ℕ → ℕ → List ℕ → ℕ → ℕ → Chains
-chainsFound last cb l root count =
-    chainsBy (lowest (badChainSlot last cb l root) 0 count) (tally (plainSlot l root) count 0) (sum count (heldSlot cb l root))
+unfoldable pub chainsFound : ℕ → ℕ → List ℕ → (ℕ → ℕ) → ℕ → Chains
+chainsFound last cb l way count =
+    chainsBy (lowest (badChainSlot last cb l way) 0 count) (tally (plainSlot l way) count 0) (sum count (heldSlot cb l way))
 
 abbrev pub marksIf : Chains → List ℕ → List ℕ → Type 0
 marksIf (Held files held) after all = after ≡ all
 marksIf (BadChain s) after all = Unit
 
 -- where the loop over the slots stands: those before s have files and held, no bad chain, and the marks m; t has its tails
-pub record Underway (last cb : ℕ) (l : List ℕ) (root count : ℕ) (m₀ : List ℕ) (s files held : ℕ) (m t : List ℕ) : Type 0 where
+pub record Underway (last cb : ℕ) (l : List ℕ) (way : ℕ → ℕ) (count : ℕ) (m₀ : List ℕ) (s files held : ℕ) (m t : List ℕ) : Type 0 where
   pub within : s ≤ count
   pub long : length m ≡ length m₀
   pub few : files ≤ s
   pub bounded : held ≤ 4096 * s
-  pub none-bad : lowest (badChainSlot last cb l root) s (count - s) ≡ lowest (badChainSlot last cb l root) 0 count
-  pub files-are : files + tally (plainSlot l root) (count - s) s ≡ tally (plainSlot l root) count 0
-  pub held-is : held ≡ sum s (heldSlot cb l root)
-  pub marks-are : marks m (joined (chainAt last cb l) (holdersOf (rows (slotFrom root) s (count - s)))) ≡ marks m₀ (chainsOf last cb l root count)
+  pub none-bad : lowest (badChainSlot last cb l way) s (count - s) ≡ lowest (badChainSlot last cb l way) 0 count
+  pub files-are : files + tally (plainSlot l way) (count - s) s ≡ tally (plainSlot l way) count 0
+  pub held-is : held ≡ sum s (heldSlot cb l way)
+  pub marks-are : marks m (joined (chainAt last cb l) (holdersOf (rows way s (count - s)))) ≡ marks m₀ (chainsOf last cb l way count)
   pub tails : Tails last (tableOf last l) m t
 
 -- what the code's loop promises: its answer r, and where no chain is bad the marks of all chains
-pub record FilesVisited (last cb : ℕ) (l : List ℕ) (root count : ℕ) (m : List ℕ) (r : Chains) (after : List ℕ) : Type 0 where
-  pub is : r ≡ chainsFound last cb l root count
-  pub marks-are : marksIf r after (marks m (chainsOf last cb l root count))
+pub record FilesVisited (last cb : ℕ) (l : List ℕ) (way : ℕ → ℕ) (count : ℕ) (m : List ℕ) (r : Chains) (after : List ℕ) : Type 0 where
+  pub is : r ≡ chainsFound last cb l way count
+  pub marks-are : marksIf r after (marks m (chainsOf last cb l way count))

@@ -1,5 +1,5 @@
 -- The loop over the slots of a directory, turn by turn.
-use Prim.Native.Nat.{ℕ, suc, _+_, _*_, _-_, _≤_, _<_}
+use Prim.Native.Nat.{ℕ, suc, _+_, _-_, _≤_, _<_}
 use native.Mathlib.Omega.{arith}
 use mathlib.Core.Bool.{Bool, true, false, cond, not}
 use mathlib.Core.List.{List, []}
@@ -25,7 +25,6 @@ use Rattle.search.specs.Search.{lowest}
 use Rattle.search.specs.Laws.Turns.{lowest-all, lowest-hit, lowest-miss, lowest-done}
 use Rattle.table.specs.Entries.{tableOf}
 use Rattle.fields.specs.Fields.{startOf, sizeOf}
-use Rattle.diskette.specs.Places.{slotFrom}
 use Rattle.directory.specs.Slots.{standingOf, isPlain}
 use Rattle.walks.specs.Aids.Walks.{Tails}
 use Rattle.chaincheck.specs.Aids.Held.{plainSlot, heldSlot}
@@ -74,7 +73,7 @@ few-by false o n h = omega arith
 few-by true false n h = omega arith
 few-by true true n h = h refl refl
 
-module _ (last cb : ℕ) (l : List ℕ) (root s : ℕ) (low : last ≤ 4079) (wide : 0 < cb) (g : Slot) (r : g ≡ slotFound last cb l (slotFrom root s)) where
+module _ (last cb : ℕ) (l : List ℕ) (way : ℕ → ℕ) (s : ℕ) (low : last ≤ 4079) (wide : 0 < cb) (g : Slot) (r : g ≡ slotFound last cb l (way s)) where
   abbrev G : Geometry
   G = record { last = last; cb = cb; small = low; wide = wide }
 
@@ -82,7 +81,7 @@ module _ (last cb : ℕ) (l : List ℕ) (root s : ℕ) (low : last ≤ 4079) (wi
   f = tableOf last l
 
   abbrev a : ℕ
-  a = slotFrom root s
+  a = way s
 
   abbrev p : Bool
   p = isPlain (standingOf l a)
@@ -109,15 +108,15 @@ module _ (last cb : ℕ) (l : List ℕ) (root s : ℕ) (low : last ≤ 4079) (wi
       let e : length (w .0) ≡ n = fits-exact cb (sizeOf l a) (length (w .0)) (file-allows last cb f (holderAt cb l a) (w .0) (startOf l a) (sizeOf l a) is (w .1)) in
       omega (arith, e, chain-length G f (holderAt cb l a .start) (w .0) (w .1 .chain))
 
-  plain-said : plainSlot l root s ≡ isFile g
+  plain-said : plainSlot l way s ≡ isFile g
   unfolding plainSlot
   plain-said = file-by p o n ∙ ap isFile slot-is
 
-  bad-said : badChainSlot last cb l root s ≡ isBad g
+  bad-said : badChainSlot last cb l way s ≡ isBad g
   unfolding badChainSlot
   bad-said = bad-by p o n nobody-good ∙ ap isBad slot-is
 
-  held-said : isBad g ≡ false → heldSlot cb l root s ≡ holds g
+  held-said : isBad g ≡ false → heldSlot cb l way s ≡ holds g
   unfolding heldSlot plainSlot
   held-said h = held-by p o n (ap isBad slot-is ∙ h) ∙ ap holds slot-is
 
@@ -126,74 +125,74 @@ module _ (last cb : ℕ) (l : List ℕ) (root s : ℕ) (low : last ≤ 4079) (wi
 
 -- ---- the loop
 
-pub files-begin : (last cb : ℕ) (l : List ℕ) (root count : ℕ) (m t : List ℕ) → Tails last (tableOf last l) m t → Underway last cb l root count m 0 0 0 m t
+pub files-begin : (last cb : ℕ) (l : List ℕ) (way : ℕ → ℕ) (count : ℕ) (m t : List ℕ) → Tails last (tableOf last l) m t → Underway last cb l way count m 0 0 0 m t
 unfolding sum chainsOf chainAt
-files-begin last cb l root count m t T =
+files-begin last cb l way count m t T =
     let z : count - 0 ≡ count = omega arith in
     record {
       within = omega arith;
       long = refl;
       few = omega arith;
       bounded = omega arith;
-      none-bad = lowest-all (badChainSlot last cb l root) count;
+      none-bad = lowest-all (badChainSlot last cb l way) count;
       files-are = rw z (omega arith);
       held-is = refl;
       marks-are = rw z;
       tails = T;
     }
 
-module _ (last cb : ℕ) (l : List ℕ) (root count : ℕ) (m₀ : List ℕ) (s files held : ℕ) (m t : List ℕ) (u : Underway last cb l root count m₀ s files held m t) where
-  pub files-done : count ≤ s → FilesVisited last cb l root count m₀ (Held files held) m
+module _ (last cb : ℕ) (l : List ℕ) (way : ℕ → ℕ) (count : ℕ) (m₀ : List ℕ) (s files held : ℕ) (m t : List ℕ) (u : Underway last cb l way count m₀ s files held m t) where
+  pub files-done : count ≤ s → FilesVisited last cb l way count m₀ (Held files held) m
   unfolding chainsFound chainsOf chainAt
   files-done h =
       let e : s ≡ count = omega (arith, u .within) in
-      let x = lowest-done (badChainSlot last cb l root) s count (lowest (badChainSlot last cb l root) 0 count) (u .none-bad) h in
-      let y = tally-end (plainSlot l root) count s files (tally (plainSlot l root) count 0) h (u .files-are) in
-      let z : held ≡ sum count (heldSlot cb l root) = u .held-is ∙ ap (λ (k : ℕ). sum k (heldSlot cb l root)) e in
+      let x = lowest-done (badChainSlot last cb l way) s count (lowest (badChainSlot last cb l way) 0 count) (u .none-bad) h in
+      let y = tally-end (plainSlot l way) count s files (tally (plainSlot l way) count 0) h (u .files-are) in
+      let z : held ≡ sum count (heldSlot cb l way) = u .held-is ∙ ap (λ (k : ℕ). sum k (heldSlot cb l way)) e in
       record {
         is = rw (sym x, sym y, sym z);
-        marks-are = marks-end (chainAt last cb l) (slotFrom root) count s m (marks m₀ (chainsOf last cb l root count)) h (u .marks-are);
+        marks-are = marks-end (chainAt last cb l) way count s m (marks m₀ (chainsOf last cb l way count)) h (u .marks-are);
       }
 
   -- g is the answer for slot s, m′ and t′ are the buffers then
-  module _ (g : Slot) (m′ t′ : List ℕ) (low : last ≤ 4079) (wide : 0 < cb) (h : s < count) (v : SlotVisited last cb l (root + 32 * s) m g m′ t′) where
-    pub files-bad : g ≡ Bad → FilesVisited last cb l root count m₀ (BadChain s) m′
+  module _ (g : Slot) (m′ t′ : List ℕ) (low : last ≤ 4079) (wide : 0 < cb) (h : s < count) (v : SlotVisited last cb l (way s) m g m′ t′) where
+    pub files-bad : g ≡ Bad → FilesVisited last cb l way count m₀ (BadChain s) m′
     unfolding chainsFound
     files-bad t =
-        let x = lowest-hit (badChainSlot last cb l root) s count (lowest (badChainSlot last cb l root) 0 count) (u .none-bad) h (isBad g)
-        (sym (bad-said last cb l root s low wide g (v .is))) (ap isBad t) in
+        let x = lowest-hit (badChainSlot last cb l way) s count (lowest (badChainSlot last cb l way) 0 count) (u .none-bad) h (isBad g)
+        (sym (bad-said last cb l way s low wide g (v .is))) (ap isBad t) in
         record { is = rw (sym x); marks-are = tt }
 
     pub held-fits : (n : ℕ) → count ≤ 65536 → g ≡ Clusters n → Fits w64 (held + n)
-    held-fits n k t = record { fits = omega (arith, u .bounded, ap holds t, few-said last cb l root s low wide g (v .is)) }
+    held-fits n k t = record { fits = omega (arith, u .bounded, ap holds t, few-said last cb l way s low wide g (v .is)) }
 
-    next : (files′ held′ : ℕ) → isBad g ≡ false → SlotMarked last cb l (slotFrom root s) m m′ t′ → files′ ≤ files + 1 → held′ ≡ held + holds g
-        → files′ + tally (plainSlot l root) (count - (s + 1)) (s + 1) ≡ tally (plainSlot l root) count 0 → Underway last cb l root count m₀ (s + 1) files′ held′ m′ t′
+    next : (files′ held′ : ℕ) → isBad g ≡ false → SlotMarked last cb l (way s) m m′ t′ → files′ ≤ files + 1 → held′ ≡ held + holds g
+        → files′ + tally (plainSlot l way) (count - (s + 1)) (s + 1) ≡ tally (plainSlot l way) count 0 → Underway last cb l way count m₀ (s + 1) files′ held′ m′ t′
     next files′ held′ b x y z w = record {
       within = omega arith;
-      long = ap length (x .marks-are) ∙ marks-length m (chainAt last cb l (slotFrom root s)) ∙ u .long;
+      long = ap length (x .marks-are) ∙ marks-length m (chainAt last cb l (way s)) ∙ u .long;
       few = omega (arith, u .few);
-      bounded = omega (arith, z, u .bounded, few-said last cb l root s low wide g (v .is));
-      none-bad = lowest-miss (badChainSlot last cb l root) s count (lowest (badChainSlot last cb l root) 0 count) (u .none-bad) h (isBad g)
-          (sym (bad-said last cb l root s low wide g (v .is))) b;
+      bounded = omega (arith, z, u .bounded, few-said last cb l way s low wide g (v .is));
+      none-bad = lowest-miss (badChainSlot last cb l way) s count (lowest (badChainSlot last cb l way) 0 count) (u .none-bad) h (isBad g)
+          (sym (bad-said last cb l way s low wide g (v .is))) b;
       files-are = w;
       held-is =
           let e : s + 1 ≡ suc s = omega arith in
-          let q : sum (suc s) (heldSlot cb l root) ≡ sum s (heldSlot cb l root) + heldSlot cb l root s = unfold sum in refl in
-          rw e (omega (arith, z, q, u .held-is, held-said last cb l root s low wide g (v .is) b));
-      marks-are = marks-turn (chainAt last cb l) (slotFrom root) count s m m′ (marks m₀ (chainsOf last cb l root count)) h (x .marks-are) (u .marks-are);
+          let q : sum (suc s) (heldSlot cb l way) ≡ sum s (heldSlot cb l way) + heldSlot cb l way s = unfold sum in refl in
+          rw e (omega (arith, z, q, u .held-is, held-said last cb l way s low wide g (v .is) b));
+      marks-are = marks-turn (chainAt last cb l) way count s m m′ (marks m₀ (chainsOf last cb l way count)) h (x .marks-are) (u .marks-are);
       tails = x .tails;
     }
 
     module _ (files′ held′ : ℕ) where
-      pub files-skip : g ≡ NoFile → files′ ≡ files → held′ ≡ held → Underway last cb l root count m₀ (s + 1) files′ held′ m′ t′
+      pub files-skip : g ≡ NoFile → files′ ≡ files → held′ ≡ held → Underway last cb l way count m₀ (s + 1) files′ held′ m′ t′
       files-skip e x y =
-          let d : plainSlot l root s ≡ false = plain-said last cb l root s low wide g (v .is) ∙ ap isFile e in
-          next files′ held′ (ap isBad e) (subst (λ (k : Slot). markedUnlessBad last cb l (slotFrom root s) m k m′ t′) e (v .marked)) (omega arith) (omega (arith, ap holds e))
-          (tally-miss (plainSlot l root) count s files files′ (tally (plainSlot l root) count 0) h d x (u .files-are))
+          let d : plainSlot l way s ≡ false = plain-said last cb l way s low wide g (v .is) ∙ ap isFile e in
+          next files′ held′ (ap isBad e) (subst (λ (k : Slot). markedUnlessBad last cb l (way s) m k m′ t′) e (v .marked)) (omega arith) (omega (arith, ap holds e))
+          (tally-miss (plainSlot l way) count s files files′ (tally (plainSlot l way) count 0) h d x (u .files-are))
 
-      pub files-add : (n : ℕ) → g ≡ Clusters n → files′ ≡ files + 1 → held′ ≡ held + n → Underway last cb l root count m₀ (s + 1) files′ held′ m′ t′
+      pub files-add : (n : ℕ) → g ≡ Clusters n → files′ ≡ files + 1 → held′ ≡ held + n → Underway last cb l way count m₀ (s + 1) files′ held′ m′ t′
       files-add n e x y =
-          let d : plainSlot l root s ≡ true = plain-said last cb l root s low wide g (v .is) ∙ ap isFile e in
-          next files′ held′ (ap isBad e) (subst (λ (k : Slot). markedUnlessBad last cb l (slotFrom root s) m k m′ t′) e (v .marked)) (omega arith) (omega (arith, ap holds e))
-          (tally-hit (plainSlot l root) count s files files′ (tally (plainSlot l root) count 0) h d x (u .files-are))
+          let d : plainSlot l way s ≡ true = plain-said last cb l way s low wide g (v .is) ∙ ap isFile e in
+          next files′ held′ (ap isBad e) (subst (λ (k : Slot). markedUnlessBad last cb l (way s) m k m′ t′) e (v .marked)) (omega arith) (omega (arith, ap holds e))
+          (tally-hit (plainSlot l way) count s files files′ (tally (plainSlot l way) count 0) h d x (u .files-are))

@@ -16,7 +16,7 @@ use Rattle.chains.specs.Content.{content}
 use Rattle.chains.specs.Aids.Holders.{Holder, Owns, fileHolder}
 use Rattle.chains.specs.Laws.Sizes.{fits-empty}
 use Rattle.chains.specs.Laws.Tests.{clash}
-use Rattle.diskette.specs.Places.{clusterBytes, lastCluster, rootAt, rootEntries, slotAt}
+use Rattle.diskette.specs.Places.{clusterBytes, lastCluster, rootEntries, slotAt}
 use Rattle.diskette.specs.declared.Kind.{Kind}
 use Rattle.search.specs.Search.{Lowest, None, Answers}
 use Rattle.search.specs.declared.Found.the-variants.{At, Nothing}
@@ -36,7 +36,7 @@ use Rattle.sound.specs.Laws.Geometry.{geometry}
 use Rattle.sound.specs.Laws.Holders.{plain-holder}
 use Rattle.calls.specs.Refusals.{badAttr}
 use Rattle.calls.specs.Aids.Ready.{OnVolume}
-use Rattle.calls.specs.Laws.Files.{root-within, slot-within}
+use Rattle.calls.specs.Laws.Files.{slots-within, slot-within}
 use Rattle.calls.specs.Laws.Ready.{on-usable}
 use Rattle.freeing.specs.Freed.{chainFreed}
 use Rattle.changes.specs.Aids.Changed.{SlotChanged}
@@ -129,10 +129,10 @@ module _ (k : Kind) (l : List ℕ) (v : OnVolume l k) (b : Bytes l) (given : Lis
 
   -- ---- a file of that name is emptied
 
-  module _ (found : slotNamed l (rootAt k) (rootEntries k) name ≡ At s) where
+  module _ (found : slotNamed l (slotAt k) (rootEntries k) name ≡ At s) where
     named : Lowest ltb (λ t. (t < rootEntries k) × (PlainAt l (slotAt k t) × (nameOf l (slotAt k t) ≡ name))) s
     named = subst (Answers (λ t. (t < rootEntries k) × (PlainAt l (slotAt k t) × (nameOf l (slotAt k t) ≡ name)))) found
-        (slot-named-answers l (rootAt k) (rootEntries k) (root-within l k v (rootAt k) (rootEntries k) refl refl) name (good-name .long))
+        (slot-named-answers l (slotAt k) (rootEntries k) (slots-within l k v) name (good-name .long))
 
     old : IsFile k l s
     old = record { below = named .0 .0; plain = named .0 .1 .0 }
@@ -151,13 +151,13 @@ module _ (k : Kind) (l : List ℕ) (v : OnVolume l k) (b : Bytes l) (given : Lis
 
   -- ---- a new file takes the lowest open slot
 
-  module _ (none : slotNamed l (rootAt k) (rootEntries k) name ≡ Nothing) (lowest : lowestVacant l (rootAt k) (rootEntries k) ≡ At s) where
+  module _ (none : slotNamed l (slotAt k) (rootEntries k) name ≡ Nothing) (lowest : lowestVacant l (slotAt k) (rootEntries k) ≡ At s) where
     nowhere : None (λ t. (t < rootEntries k) × (PlainAt l (slotAt k t) × (nameOf l (slotAt k t) ≡ name)))
     nowhere = subst (Answers (λ t. (t < rootEntries k) × (PlainAt l (slotAt k t) × (nameOf l (slotAt k t) ≡ name)))) none
-        (slot-named-answers l (rootAt k) (rootEntries k) (root-within l k v (rootAt k) (rootEntries k) refl refl) name (good-name .long))
+        (slot-named-answers l (slotAt k) (rootEntries k) (slots-within l k v) name (good-name .long))
 
     vacant : Lowest ltb (λ t. (t < rootEntries k) × VacantAt l (slotAt k t)) s
-    vacant = subst (Answers (λ t. (t < rootEntries k) × VacantAt l (slotAt k t))) lowest (vacant-slot-answers l (rootAt k) (rootEntries k))
+    vacant = subst (Answers (λ t. (t < rootEntries k) × VacantAt l (slotAt k t))) lowest (vacant-slot-answers l (slotAt k) (rootEntries k))
 
     unowned : Emptied k l l s
     unowned = none-emptied k l v b s (vacant .0 .0) (λ p. elim (vacant .0 .1) [ inl e ↦ p .0 .1 e | inr e ↦ p .0 .0 e ])

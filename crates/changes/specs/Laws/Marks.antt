@@ -29,7 +29,7 @@ use Rattle.chains.specs.Laws.Holders.{file-fits}
 use Rattle.chains.specs.Laws.Tests.{clash}
 use Rattle.chains.specs.Laws.Touched.{content-same, touched-twice}
 use Rattle.diskette.specs.Aids.Usable.{Usable}
-use Rattle.diskette.specs.Places.{firstData, clusterBytes, lastCluster, rootAt, rootEntries, slotAt}
+use Rattle.diskette.specs.Places.{firstData, clusterBytes, lastCluster, rootEntries, slotAt}
 use Rattle.diskette.specs.declared.Kind.{Kind}
 use Rattle.directory.specs.Aids.Entries.{Untouched}
 use Rattle.fields.specs.Fields.{nameOf, attrOf, startOf, sizeOf, withName, withAttr}
@@ -51,7 +51,7 @@ use Rattle.sound.specs.Laws.Holders.{root-holder, plain-holder}
 use Rattle.calls.specs.Aids.Ready.{OnVolume}
 use Rattle.calls.specs.Refusals.{badAttr}
 use Rattle.calls.specs.Laws.Attribute.{attr-fits}
-use Rattle.calls.specs.Laws.Files.{root-within}
+use Rattle.calls.specs.Laws.Files.{slots-within}
 use Rattle.calls.specs.Laws.Ready.{on-usable}
 use Rattle.closing.specs.Close.{archived, stamped}
 use Rattle.closing.specs.Laws.Close.{archived-fits}
@@ -291,11 +291,11 @@ module _ (k : Kind) (l : List ℕ) (v : OnVolume l k) (s : ℕ) (i : IsFile k l 
     rename-usual (live, inl e) = good .dotted (sym rename-first ∙ e)
     rename-usual (live, inr e) = usual-before (i .plain .0, inr (rw (sym rename-attr) e))
 
-    pub rename-changed : slotNamed l (rootAt k) (rootEntries k) name ≡ Nothing → SlotChanged k l renamed s (rootChains k l a)
+    pub rename-changed : slotNamed l (slotAt k) (rootEntries k) name ≡ Nothing → SlotChanged k l renamed s (rootChains k l a)
     rename-changed free =
         let none : Answers (λ t. (t < rootEntries k) × (PlainAt l (slotAt k t) × (nameOf l (slotAt k t) ≡ name))) Nothing
         = subst (Answers (λ t. (t < rootEntries k) × (PlainAt l (slotAt k t) × (nameOf l (slotAt k t) ≡ name)))) free
-        (slot-named-answers l (rootAt k) (rootEntries k) (root-within l k v (rootAt k) (rootEntries k) refl refl) name (good .long)) in
+        (slot-named-answers l (slotAt k) (rootEntries k) (slots-within l k v) name (good .long)) in
         entry-changed renamed rename-entry rename-stays rename-usual (λ t h n p e. none t (h, (p, e ∙ rename-name)))
 
     pub rename-holds : (f : File) → Holds k l s f → Holds k renamed s (file name (f .attr) (f .bytes))

@@ -5,7 +5,7 @@ use mathlib.Core.Bool.{Bool, true, false, cond, not}
 use mathlib.Core.List.{List, []}
 use mathlib.Core.Path.{_≡_, sym, ap, _∙_}
 use borrow.Author.Tests.{eqb-false, not-true, not-false}
-use Rattle.diskette.specs.Places.{rootAt, rootEntries, slotAt}
+use Rattle.diskette.specs.Places.{rootEntries, slotAt}
 use Rattle.diskette.specs.declared.Kind.{Kind}
 use Rattle.search.specs.declared.Found.{Found}
 use Rattle.search.specs.declared.Found.the-variants.{At}
@@ -68,7 +68,7 @@ module _ (img t : List ℕ) (h : ℕ) (s : Stamp) (a : Answer) where
   close-refused n x q = record { is = rw x (sym (stopped _ n q _ img t [])) }
 
   pub close-well : (k : Kind) → OnVolume img k → (p : Packed) → p ≡ packed s → (time date : ℕ) → p ≡ Words time date
-      → (f : Found) → f ≡ liveSlot t h img (rootAt k) (rootEntries k) → (slot : ℕ) → f ≡ At slot → (e : ℕ) → e ≡ slotAt k slot
+      → (f : Found) → f ≡ liveSlot t h img (slotAt k) (rootEntries k) → (slot : ℕ) → f ≡ At slot → (e : ℕ) → e ≡ slotAt k slot
       → (l : List ℕ) → l ≡ cond (writtenOf t h) (stamped img e time date) img → (m : List ℕ) → m ≡ cleared t h → a ≡ answering 0 → Closes img t h s a l m
   unfolding closeOutcome decided refusal
   close-well k v p pack time date words f found slot at e i l j m c x = record {

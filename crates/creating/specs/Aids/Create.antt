@@ -3,7 +3,7 @@ use Prim.Native.Nat.{ℕ}
 use mathlib.Core.List.{List, [], _∷_}
 use mathlib.Core.Path.{_≡_}
 use mathlib.Core.Bool.{not}
-use Rattle.diskette.specs.Places.{rootAt, rootEntries}
+use Rattle.diskette.specs.Places.{slotAt, rootEntries}
 use Rattle.diskette.specs.declared.Kind.{Kind}
 use Rattle.search.specs.Search.{isFound}
 use Rattle.directory.specs.Search.{lowestVacant}
@@ -19,13 +19,13 @@ abbrev pub oldRows : List ℕ → List ℕ → ℕ → List Row
 oldRows img t slot = (isOpen t slot, accessDenied) ∷ (readOnly img slot, accessDenied) ∷ (noPlace t, tooManyOpen) ∷ []
 
 abbrev pub newRows : List ℕ → List ℕ → Kind → List Row
-newRows img t k = (not (isFound (lowestVacant img (rootAt k) (rootEntries k))), accessDenied) ∷ (noPlace t, tooManyOpen) ∷ []
+newRows img t k = (not (isFound (lowestVacant img (slotAt k) (rootEntries k))), accessDenied) ∷ (noPlace t, tooManyOpen) ∷ []
 
 pub record Empties (img t : List ℕ) (k : Kind) (slot : ℕ) (name : List ℕ) (attr time date : ℕ) (r : Answer) (after table : List ℕ) : Type 0 where
   pub is : outcome (r .number) (r .value) after table [] ≡ decided (oldRows img t slot) (made (chainFreed k img slot) t k slot name attr time date) img t []
 
 abbrev pub newSlot : Kind → List ℕ → ℕ
-newSlot k img = placeFound (lowestVacant img (rootAt k) (rootEntries k))
+newSlot k img = placeFound (lowestVacant img (slotAt k) (rootEntries k))
 
 pub record MakesNew (img t : List ℕ) (k : Kind) (name : List ℕ) (attr time date : ℕ) (r : Answer) (after table : List ℕ) : Type 0 where
   pub is : outcome (r .number) (r .value) after table [] ≡ decided (newRows img t k) (made img t k (newSlot k img) name attr time date) img t []

@@ -5,7 +5,7 @@ use mathlib.Core.Bool.{Bool, false, not}
 use mathlib.Core.List.{List, [], _∷_}
 use mathlib.Core.Path.{_≡_, refl, sym, ap, _∙_}
 use lib.ListN.{length}
-use Rattle.diskette.specs.Places.{rootAt, rootEntries, slotAt}
+use Rattle.diskette.specs.Places.{rootEntries, slotAt}
 use Rattle.diskette.specs.declared.Kind.{Kind}
 use Rattle.search.specs.Laws.Meaning.{lowest-is}
 use Rattle.search.specs.Search.{isFound}
@@ -44,7 +44,7 @@ creates-only x y =
 
 -- ---- one row stops it, or the last ones decide, of a new file and of an existing one
 
-new-is : (img : List ℕ) (k : Kind) → OnVolume img k → slotForNew img ≡ lowestVacant img (rootAt k) (rootEntries k)
+new-is : (img : List ℕ) (k : Kind) → OnVolume img k → slotForNew img ≡ lowestVacant img (slotAt k) (rootEntries k)
 unfolding slotForNew
 new-is img k v = rw (on-kind img k v)
 
@@ -56,7 +56,7 @@ module _ (img t s : List ℕ) (attr : ℕ) (stamp : Stamp) (a : Answer) where
   module _ (k : Kind) (v : OnVolume img k) (g : Spelled) (given : g ≡ nameGiven s) (fits : not (g .fits) ≡ false)
       (p : Packed) (pack : p ≡ packed stamp) (time date : ℕ) (words : p ≡ Words time date) (b : Bool) (bad : b ≡ badAttr attr) (good : b ≡ false)
       (l m : List ℕ) where
-    pub create-new : (f : Found) → f ≡ slotNamed img (rootAt k) (rootEntries k) (g .name) → f ≡ Nothing → MakesNew img t k (g .name) attr time date a l m
+    pub create-new : (f : Found) → f ≡ slotNamed img (slotAt k) (rootEntries k) (g .name) → f ≡ Nothing → MakesNew img t k (g .name) attr time date a l m
         → Creates img t s attr stamp a l m
     unfolding createOutcome decided refusal
     create-new f found at y = record {
@@ -84,10 +84,10 @@ module _ (img t : List ℕ) (k : Kind) (slot : ℕ) (name : List ℕ) (attr time
 
 -- ---- a new file
 
-module _ (img : List ℕ) (k : Kind) (f : Found) (found : f ≡ lowestVacant img (rootAt k) (rootEntries k)) where
+module _ (img : List ℕ) (k : Kind) (f : Found) (found : f ≡ lowestVacant img (slotAt k) (rootEntries k)) where
   pub open-below : (slot : ℕ) → f ≡ At slot → slot < rootEntries k
   unfolding lowestVacant
-  open-below slot q = below-by (vacantSlot img (rootAt k)) (rootEntries k) slot f (rw found (lowest-is (vacantSlot img (rootAt k)) 0 (rootEntries k))) q
+  open-below slot q = below-by (vacantSlot img (slotAt k)) (rootEntries k) slot f (rw found (lowest-is (vacantSlot img (slotAt k)) 0 (rootEntries k))) q
 
   pub open-at-most : (slot : ℕ) → f ≡ At slot → slot ≤ rootEntries k
   open-at-most slot q = let h : slot < rootEntries k = open-below slot q in omega arith
@@ -101,17 +101,17 @@ module _ (img : List ℕ) (k : Kind) (f : Found) (found : f ≡ lowestVacant img
   pub open-within : OnVolume img k → (slot : ℕ) → f ≡ At slot → (a : ℕ) → a ≡ slotAt k slot → a + 32 ≤ length img
   open-within v slot q a i = slot-within img k v slot a (open-below slot q) i
 
-  pub slot-stops : f ≡ Nothing → (rows : List Row) → Stops ((not (isFound (lowestVacant img (rootAt k) (rootEntries k))), accessDenied) ∷ rows) accessDenied
+  pub slot-stops : f ≡ Nothing → (rows : List Row) → Stops ((not (isFound (lowestVacant img (slotAt k) (rootEntries k))), accessDenied) ∷ rows) accessDenied
   slot-stops q rows = stops-at _ accessDenied rows (rw (← found, q)) refl
 
-  pub slot-past : (slot : ℕ) → f ≡ At slot → (m n : ℕ) (rows : List Row) → Stops rows n → Stops ((not (isFound (lowestVacant img (rootAt k) (rootEntries k))), m) ∷ rows) n
+  pub slot-past : (slot : ℕ) → f ≡ At slot → (m n : ℕ) (rows : List Row) → Stops rows n → Stops ((not (isFound (lowestVacant img (slotAt k) (rootEntries k))), m) ∷ rows) n
   slot-past slot q m n rows x = stops-past _ m n rows (rw (← found, q)) x
 
 module _ (img t : List ℕ) (k : Kind) (name : List ℕ) (attr time date : ℕ) (a : Answer) where
   pub new-refused : (n : ℕ) → a ≡ refusedBy n → Stops (newRows img t k) n → MakesNew img t k name attr time date a img t
   new-refused n x q = record { is = rw x (sym (stopped _ n q _ img t [])) }
 
-  pub new-well : (f : Found) → f ≡ lowestVacant img (rootAt k) (rootEntries k) → (slot : ℕ) → f ≡ At slot
+  pub new-well : (f : Found) → f ≡ lowestVacant img (slotAt k) (rootEntries k) → (slot : ℕ) → f ≡ At slot
       → (p : Found) → p ≡ lowestUnused t → (place : ℕ) → p ≡ At place
       → (e : ℕ) → e ≡ slotAt k slot → (l : List ℕ) → l ≡ withEntry img e name attr time date 0 0
       → (m : List ℕ) → m ≡ withRecord t place 2 slot 0 false → a ≡ answering place → MakesNew img t k name attr time date a l m

@@ -4,13 +4,14 @@ use mathlib.Core.Path.{_≡_}
 use Prim.Native.Nat.{_-_, _≤_}
 use Rattle.search.specs.Search.{lowest}
 use Rattle.search.specs.Laws.Turns.{lowest-all, lowest-hit, lowest-miss, lowest-done}
+use Rattle.diskette.specs.Places.{slotFrom}
 use Rattle.directory.specs.Search.{lowestVacant}
 use Rattle.directory.specs.Aids.Search.{vacantSlot}
 use Rattle.directory.proofs.lowest_vacant.Statement.{statement}
 use Rattle.directory.proofs.lowest_vacant.Tie as tie
 
 abbrev Inv-loop : tie.InvT-loop
-Inv-loop img root count slot₀ slot = (slot ≤ count) × (lowest (vacantSlot img root) slot (count - slot) ≡ lowestVacant img root count)
+Inv-loop img root count slot₀ slot = (slot ≤ count) × (lowest (vacantSlot img (slotFrom root)) slot (count - slot) ≡ lowestVacant img (slotFrom root) count)
 
 abbrev μ-loop : tie.MeasureT-loop
 μ-loop img root count slot₀ slot = count - slot

@@ -4,13 +4,14 @@ use mathlib.Core.Path.{_≡_}
 use Prim.Native.Nat.{_-_, _≤_}
 use Rattle.search.specs.Search.{lowest}
 use Rattle.search.specs.Laws.Turns.{lowest-all, lowest-hit, lowest-miss, lowest-done}
+use Rattle.diskette.specs.Places.{slotFrom}
 use Rattle.directory.specs.Search.{slotNamed}
 use Rattle.directory.specs.Aids.Search.{namedSlot}
 use Rattle.directory.proofs.slot_named.Statement.{statement}
 use Rattle.directory.proofs.slot_named.Tie as tie
 
 abbrev Inv-loop : tie.InvT-loop
-Inv-loop img root count name slot₀ slot = (slot ≤ count) × (lowest (namedSlot img root name) slot (count - slot) ≡ slotNamed img root count name)
+Inv-loop img root count name slot₀ slot = (slot ≤ count) × (lowest (namedSlot img (slotFrom root) name) slot (count - slot) ≡ slotNamed img (slotFrom root) count name)
 
 abbrev μ-loop : tie.MeasureT-loop
 μ-loop img root count name slot₀ slot = count - slot

@@ -11,7 +11,7 @@ use lib.ListN.{length, take}
 use borrow.Author.Tests.{eq-eqb, ne-eqb}
 use Rattle.image.specs.Bytes.{Bytes}
 use Rattle.chains.specs.Write.{written}
-use Rattle.diskette.specs.Places.{rootAt, rootEntries, slotAt}
+use Rattle.diskette.specs.Places.{rootEntries, slotAt}
 use Rattle.diskette.specs.declared.Kind.{Kind}
 use Rattle.search.specs.declared.Found.the-variants.{At}
 use Rattle.fields.specs.Fields.{withEntry}
@@ -139,9 +139,9 @@ module _ (k : Kind) (w : World) (b : Begins k w) where
         let row = passed-row (createRows l t given attr stamp) refl rows in
         let fits = good-name given (row 2) in
         let kind = on-kind l k (on b) in
-        let s = placeFound (lowestVacant l (rootAt k) (rootEntries k)) in
-        let lowest : lowestVacant l (rootAt k) (rootEntries k) ≡ At s
-        = found-at (lowestVacant l (rootAt k) (rootEntries k)) (rw (q, kind) at (row 7)) in
+        let s = placeFound (lowestVacant l (slotAt k) (rootEntries k)) in
+        let lowest : lowestVacant l (slotAt k) (rootEntries k) ≡ At s
+        = found-at (lowestVacant l (slotAt k) (rootEntries k)) (rw (q, kind) at (row 7)) in
         let new-one = for-new k l (on b) given fits q (rw q at (row 7)) in
         let none-named = no-file-found k l (on b) given q in
         made-in l s time date (inr (rw kind at new-one)) fits (e ∙ rw (q, pe, kind))

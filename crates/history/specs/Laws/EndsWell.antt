@@ -7,7 +7,7 @@ use mathlib.Core.List.{List, []}
 use mathlib.Core.Path.{_≡_, refl, ap, _∙_}
 use lib.ListN.{length, replicate, take}
 use borrow.Author.Tests.{ne-eqb}
-use Rattle.diskette.specs.Places.{clusterBytes, rootAt, rootEntries}
+use Rattle.diskette.specs.Places.{clusterBytes, slotAt, rootEntries}
 use Rattle.diskette.specs.declared.Kind.{Kind}
 use Rattle.search.specs.Search.{lowest}
 use Rattle.search.specs.declared.Found.the-variants.{At, Nothing}
@@ -85,7 +85,7 @@ module _ (k : Kind) (w : World) (v : OnVolume (w .image) k) where
   pub live : (n pointer : ℕ) (written : Bool) → TakenFor t n pointer written → IsFile k l n → notLive l t 0 ≡ false
   unfolding notLive
   live n pointer written x i = rw (on-kind l k v)
-      (ap not (live-is t 0 l (rootAt k) (rootEntries k) .1 (record {
+      (ap not (live-is t 0 l (slotAt k) (rootEntries k) .1 (record {
         counted = one-place t (x .long);
         used = x .holds .used;
         access = omega (arith, x .holds .access);

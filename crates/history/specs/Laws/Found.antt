@@ -6,7 +6,7 @@ use mathlib.Core.Path.{_≡_, refl, sym, _∙_, subst}
 use lib.Dec.{ltb}
 use borrow.Author.Tests.{not-false}
 use Rattle.chains.specs.Laws.Tests.{clash}
-use Rattle.diskette.specs.Places.{rootAt, rootEntries, slotAt}
+use Rattle.diskette.specs.Places.{rootEntries, slotAt}
 use Rattle.diskette.specs.declared.Kind.{Kind}
 use Rattle.search.specs.Search.{isFound, Lowest, Answers}
 use Rattle.search.specs.declared.Found.{Found}
@@ -41,19 +41,19 @@ pub place-counts : (t : List ℕ) → noPlace t ≡ false → freePlace t < plac
 place-counts t e = unused-below t _ refl (freePlace t) (found-at _ e)
 
 module _ (k : Kind) (l : List ℕ) (v : OnVolume l k) (s : List ℕ) where
-  by-name : fileFound l s ≡ slotNamed l (rootAt k) (rootEntries k) (nameGiven s .name)
+  by-name : fileFound l s ≡ slotNamed l (slotAt k) (rootEntries k) (nameGiven s .name)
   unfolding fileFound
   by-name = rw (on-kind l k v)
 
   -- the name of a file
-  pub file-found : noFile l s ≡ false → slotNamed l (rootAt k) (rootEntries k) (nameGiven s .name) ≡ At (fileSlot l s)
+  pub file-found : noFile l s ≡ false → slotNamed l (slotAt k) (rootEntries k) (nameGiven s .name) ≡ At (fileSlot l s)
   file-found e = sym by-name ∙ found-at (fileFound l s) e
 
   pub file-there : noFile l s ≡ false → IsFile k l (fileSlot l s)
-  file-there e = named-file l k (nameGiven s .name) (slotNamed l (rootAt k) (rootEntries k) (nameGiven s .name)) refl (fileSlot l s) (file-found e)
+  file-there e = named-file l k (nameGiven s .name) (slotNamed l (slotAt k) (rootEntries k) (nameGiven s .name)) refl (fileSlot l s) (file-found e)
 
   -- the name of none
-  pub no-file-found : noFile l s ≡ true → slotNamed l (rootAt k) (rootEntries k) (nameGiven s .name) ≡ Nothing
+  pub no-file-found : noFile l s ≡ true → slotNamed l (slotAt k) (rootEntries k) (nameGiven s .name) ≡ Nothing
   no-file-found e = sym by-name ∙ found-nothing (fileFound l s) e
 
 module _ (k : Kind) (l : List ℕ) (v : OnVolume l k) where
@@ -62,7 +62,7 @@ module _ (k : Kind) (l : List ℕ) (v : OnVolume l k) where
   named-small name e =
       named-fits l k (nameGiven name .name) (fileFound l name) (found-is l k v name (nameGiven name) refl _ refl) v (fileSlot l name) (found-at _ e)
 
-  pub live-at : (t : List ℕ) (h : ℕ) → notLive l t h ≡ false → LivePlace t h l (rootAt (theKind l)) (rootEntries (theKind l))
+  pub live-at : (t : List ℕ) (h : ℕ) → notLive l t h ≡ false → LivePlace t h l (slotAt (theKind l)) (rootEntries (theKind l))
   unfolding notLive
   live-at t h e = live-is t h l _ _ .0 (not-false _ e)
 
@@ -74,6 +74,6 @@ module _ (k : Kind) (l : List ℕ) (v : OnVolume l k) where
   pub new-slot : not (isFound (slotForNew l)) ≡ false → Lowest ltb (λ i. (i < rootEntries k) × VacantAt l (slotAt k i)) (placeFound (slotForNew l))
   unfolding slotForNew
   new-slot e =
-      let same : slotForNew l ≡ lowestVacant l (rootAt k) (rootEntries k) = rw (on-kind l k v) refl in
+      let same : slotForNew l ≡ lowestVacant l (slotAt k) (rootEntries k) = rw (on-kind l k v) refl in
       subst (Answers (λ i. (i < rootEntries k) × VacantAt l (slotAt k i))) (sym same ∙ found-at (slotForNew l) e)
-      (vacant-slot-answers l (rootAt k) (rootEntries k))
+      (vacant-slot-answers l (slotAt k) (rootEntries k))

@@ -4,7 +4,7 @@ use native.Mathlib.Omega.{arith}
 use mathlib.Core.Bool.{false}
 use mathlib.Core.List.{List, []}
 use mathlib.Core.Path.{_≡_, refl, subst}
-use Rattle.diskette.specs.Places.{rootAt, rootEntries}
+use Rattle.diskette.specs.Places.{slotAt, rootEntries}
 use Rattle.diskette.specs.declared.Kind.{Kind}
 use Rattle.stamps.specs.declared.Stamp.{Stamp}
 use Rattle.opened.specs.Places.{LivePlace}
@@ -38,7 +38,7 @@ module _ (k : Kind) (w : World) (b : Begins k w) where
       let small : s < 4294967296 = omega (arith, i .below, on-usable (w .image) k (on b) .few-slots) in
       let y = record-holds t p (x .lowest .0 .0) access s 0 false small (omega arith) in
       let m = withRecord t p access s 0 false in
-      let live : LivePlace m p (step w c .image) (rootAt k) (rootEntries k) = record {
+      let live : LivePlace m p (step w c .image) (slotAt k) (rootEntries k) = record {
         counted = rw (only-count p m t only) (x .lowest .0 .0);
         used = y .used;
         access = rw (y .access) (x .access-fits);

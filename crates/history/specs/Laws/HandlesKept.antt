@@ -3,7 +3,7 @@ use Prim.Native.Nat.{ℕ}
 use native.Mathlib.Decide.{ℕ-discrete}
 use mathlib.Core.List.{List}
 use mathlib.Core.Path.{_≡_, sym, _∙_, subst}
-use Rattle.diskette.specs.Places.{rootAt, rootEntries}
+use Rattle.diskette.specs.Places.{slotAt, rootEntries}
 use Rattle.diskette.specs.declared.Kind.{Kind}
 use Rattle.stamps.specs.declared.Stamp.{Stamp}
 use Rattle.opened.specs.Places.{LivePlace}
@@ -24,7 +24,7 @@ use Rattle.history.specs.Laws.Runs.{begins-run}
 use Rattle.history.specs.Laws.TableStored.{delete-closed}
 
 module _ (k : Kind) (w : World) (b : Begins k w) where
-  module _ (c : Call) (h s : ℕ) (live : LivePlace (w .table) h (w .image) (rootAt k) (rootEntries k)) (at : slotOf (w .table) h ≡ s) where
+  module _ (c : Call) (h s : ℕ) (live : LivePlace (w .table) h (w .image) (slotAt k) (rootEntries k)) (at : slotOf (w .table) h ≡ s) where
     -- the file of a live place is open, so no delete of it ends well
     not-erased : ¬ Erases k w c s
     not-erased x = erased (x .name) (x .call)
@@ -36,7 +36,7 @@ module _ (k : Kind) (w : World) (b : Begins k w) where
             (record { used = live .used; names = at })
 
     live-still : Given c → ours c w .number ≡ 0 → ((stamp : Stamp) → ¬ (c ≡ close h stamp))
-        → LivePlace (step w c .table) h (step w c .image) (rootAt k) (rootEntries k) × (slotOf (step w c .table) h ≡ s)
+        → LivePlace (step w c .table) h (step w c .image) (slotAt k) (rootEntries k) × (slotOf (step w c .table) h ≡ s)
     live-still given well other =
         let x = kept k w (on b) h (live .counted) (live .used) c well other in
         let y = x .same in

@@ -4,7 +4,7 @@ use mathlib.Core.Bool.{true, false, not}
 use mathlib.Core.List.{List}
 use mathlib.Core.Logic.{_↔_}
 use mathlib.Core.Path.{_≡_, refl, sym, subst}
-use Rattle.diskette.specs.Places.{rootAt, rootEntries, slotAt}
+use Rattle.diskette.specs.Places.{rootEntries, slotAt}
 use Rattle.diskette.specs.declared.Kind.{Kind}
 use Rattle.search.specs.Search.{isFound, Answers}
 use Rattle.search.specs.declared.Found.{Found}
@@ -19,7 +19,7 @@ use Rattle.names.specs.Laws.Meaning.{accepted}
 use Rattle.names.specs.Laws.Proper.{proper}
 use Rattle.calls.specs.Aids.Ready.{OnVolume}
 use Rattle.calls.specs.Refusals.{placeFound, badName, noFile, fileSlot, notLive, slotForNew}
-use Rattle.calls.specs.Laws.Files.{root-within}
+use Rattle.calls.specs.Laws.Files.{slots-within}
 use Rattle.calls.specs.Laws.Ready.{on-kind}
 use Rattle.opened.specs.Places.{LivePlace}
 use Rattle.opened.specs.Records.{slotOf}
@@ -45,10 +45,10 @@ module _ (k : Kind) (l : List ℕ) (v : OnVolume l k) (name : List ℕ) (fits : 
   abbrev Named : ℕ → Type 0
   Named s = (s < rootEntries k) × (PlainAt l (slotAt k s) × (nameOf l (slotAt k s) ≡ nameGiven name .name))
 
-  searched : (f : Found) → slotNamed l (rootAt k) (rootEntries k) (nameGiven name .name) ≡ f → Answers Named f
+  searched : (f : Found) → slotNamed l (slotAt k) (rootEntries k) (nameGiven name .name) ≡ f → Answers Named f
   searched f e =
-      let within = root-within l k v (rootAt k) (rootEntries k) refl refl in
-      subst (Answers Named) e (slot-named-answers l (rootAt k) (rootEntries k) within (nameGiven name .name) (proper name fits .long))
+      let within = slots-within l k v in
+      subst (Answers Named) e (slot-named-answers l (slotAt k) (rootEntries k) within (nameGiven name .name) (proper name fits .long))
 
   -- the file that the search finds
   pub has-name : noFile l name ≡ false → HasName k l name (fileSlot l name)
@@ -66,7 +66,7 @@ module _ (k : Kind) (l : List ℕ) (v : OnVolume l k) (name : List ℕ) (fits : 
 pub reaches : (k : Kind) (w : World) → OnVolume (w .image) k → (h : ℕ) → notLive (w .image) (w .table) h ≡ false
     → Reaches k w h (slotOf (w .table) h)
 reaches k w v h e =
-    let x : LivePlace (w .table) h (w .image) (rootAt k) (rootEntries k) = rw (← on-kind (w .image) k v) (live-at k (w .image) v (w .table) h e) in
+    let x : LivePlace (w .table) h (w .image) (slotAt k) (rootEntries k) = rw (← on-kind (w .image) k v) (live-at k (w .image) v (w .table) h e) in
     record { live = x; slot = refl }
 
 -- a call that only looks names nothing

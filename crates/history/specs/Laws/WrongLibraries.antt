@@ -10,7 +10,7 @@ use mathlib.Core.Path.{_≡_, refl, sym, ap, _∙_, subst}
 use lib.ListN.{length, take}
 use borrow.Author.Tests.{ne-eqb, lt-ltb}
 use Rattle.chains.specs.Write.{written}
-use Rattle.diskette.specs.Places.{rootAt, rootEntries, slotAt}
+use Rattle.diskette.specs.Places.{rootEntries, slotAt}
 use Rattle.diskette.specs.declared.Kind.{Kind}
 use Rattle.fields.specs.Fields.{withEntry}
 use Rattle.directory.specs.Laws.Entries.{fresh}
@@ -160,7 +160,7 @@ module _ {k : Kind} {w : World} {fs : Files} {f : File} {name : List ℕ} {attr 
   -- ---- write through a place that is not live, but has slot 0
 
   module _ (lets : List ℕ → ℕ → Bool) (passes : lets t 0 ≡ true) (at : slotOf t 0 ≡ 0) (pointer : pointerOf t 0 ≡ 0)
-      (dead : ¬ LivePlace t 0 l (rootAt k) (rootEntries k)) where
+      (dead : ¬ LivePlace t 0 l (slotAt k) (rootEntries k)) where
     abbrev m : List ℕ
     m = writtenIn k l 0 0 (take (length bs) bs)
 

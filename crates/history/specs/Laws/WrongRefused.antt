@@ -12,7 +12,7 @@ use Rattle.chains.specs.Write.{written}
 use Rattle.chains.specs.Laws.Put.{put-same}
 use Rattle.chains.specs.Laws.Tests.{clash}
 use Rattle.diskette.specs.Kinds.{kindFE}
-use Rattle.diskette.specs.Places.{rootAt, rootEntries}
+use Rattle.diskette.specs.Places.{slotAt, rootEntries}
 use Rattle.names.specs.Reading.{nameGiven}
 use Rattle.search.specs.Search.{lowest}
 use Rattle.opened.specs.Places.{LivePlace, lowestUnused}
@@ -75,7 +75,7 @@ unfolding written
 other-tare e = let z : _≡_ {A = ℕ} 1 0 = ap (λ (bytes : List ℕ). getD bytes 0 0) e in omega arith
 
 abbrev Live : List ℕ → Type 0
-Live t = LivePlace t 0 (before .image) (rootAt kindFE) (rootEntries kindFE)
+Live t = LivePlace t 0 (before .image) (slotAt kindFE) (rootEntries kindFE)
 
 -- an unused place
 pub writes-unused-refused : Breaks (writesThrough unused) × (¬ NamesAFile (writesThrough unused))

@@ -4,7 +4,7 @@ use native.Mathlib.Omega.{arith}
 use mathlib.Core.Bool.{Bool, true, false, _&&_}
 use mathlib.Core.List.{List}
 use mathlib.Core.Path.{_≡_, refl, sym, _∙_, subst}
-use Rattle.diskette.specs.Places.{rootAt, rootEntries, slotAt}
+use Rattle.diskette.specs.Places.{rootEntries, slotAt}
 use Rattle.diskette.specs.declared.Kind.{Kind}
 use Rattle.search.specs.Laws.Meaning.{LowestIs, lowest-is}
 use Rattle.search.specs.declared.Found.{Found}
@@ -23,7 +23,7 @@ both-first : (a b : Bool) → (a && b) ≡ true → a ≡ true
 both-first true b e = refl
 both-first false b e = e
 
-file-by : (img : List ℕ) (k : Kind) (name : List ℕ) (slot : ℕ) (f : Found) → LowestIs (namedSlot img (rootAt k) name) 0 (rootEntries k) f → f ≡ At slot → IsFile k img slot
+file-by : (img : List ℕ) (k : Kind) (name : List ℕ) (slot : ℕ) (f : Found) → LowestIs (namedSlot img (slotAt k) name) 0 (rootEntries k) f → f ≡ At slot → IsFile k img slot
 file-by img k name slot (At i) x e =
     let z : i ≡ slot = cc in
     let y : i < 0 + rootEntries k = x .1 in
@@ -34,12 +34,12 @@ file-by img k name slot (At i) x e =
     })
 file-by img k name slot Nothing x e = absurd (let z : _≡_ {A = ℕ} 0 1 = cc in omega arith)
 
-pub named-file : (img : List ℕ) (k : Kind) (name : List ℕ) (f : Found) → f ≡ slotNamed img (rootAt k) (rootEntries k) name → (slot : ℕ) → f ≡ At slot → IsFile k img slot
+pub named-file : (img : List ℕ) (k : Kind) (name : List ℕ) (f : Found) → f ≡ slotNamed img (slotAt k) (rootEntries k) name → (slot : ℕ) → f ≡ At slot → IsFile k img slot
 unfolding slotNamed
-named-file img k name f e slot q = file-by img k name slot f (rw e (lowest-is (namedSlot img (rootAt k) name) 0 (rootEntries k))) q
+named-file img k name f e slot q = file-by img k name slot f (rw e (lowest-is (namedSlot img (slotAt k) name) 0 (rootEntries k))) q
 
-pub live-file : (img : List ℕ) (k : Kind) (t : List ℕ) (h : ℕ) (f : Found) → f ≡ liveSlot t h img (rootAt k) (rootEntries k) → (slot : ℕ) → f ≡ At slot → IsFile k img slot
+pub live-file : (img : List ℕ) (k : Kind) (t : List ℕ) (h : ℕ) (f : Found) → f ≡ liveSlot t h img (slotAt k) (rootEntries k) → (slot : ℕ) → f ≡ At slot → IsFile k img slot
 live-file img k t h f found slot at = record {
   below = live-below img k t h f found slot at;
-  plain = rw (live-slot img k t h f found slot at) (live-slot-is t h img (rootAt k) (rootEntries k) slot (sym found ∙ at) .0 .plain);
+  plain = rw (live-slot img k t h f found slot at) (live-slot-is t h img (slotAt k) (rootEntries k) slot (sym found ∙ at) .0 .plain);
 }

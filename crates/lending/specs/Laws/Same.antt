@@ -10,7 +10,7 @@ use lib.Dec.{leb, ltb}
 use lib.ListN.{length, getD, set, length-set}
 use lib.Seq.{set-getD, set-set}
 use borrow.Author.Tests.{lt-ltb, le-ltb, not-false}
-use Rattle.diskette.specs.Places.{rootAt, rootEntries}
+use Rattle.diskette.specs.Places.{slotAt, rootEntries}
 use Rattle.opened.specs.Records.{placeCount}
 use Rattle.opened.specs.Places.{isLive}
 use Rattle.opened.specs.Aids.Places.{holdsFile}
@@ -44,19 +44,19 @@ put-twice row p r r′ = by-tests (ltb p 16) (ltb p (length row)) refl
 
 -- ---- a handle is live by its record
 
-abbrev liveIn : OpenRecord → List ℕ → ℕ → ℕ → Bool
-liveIn r l root count = r .used && (leb (r .access) 2 && holdsFile l root count (r .slot))
+abbrev liveIn : OpenRecord → List ℕ → (ℕ → ℕ) → ℕ → Bool
+liveIn r l way count = r .used && (leb (r .access) 2 && holdsFile l way count (r .slot))
 
-live-by : (t : List ℕ) (h : ℕ) (l : List ℕ) (root count : ℕ) → isLive t h l root count ≡ liveIn (recordAt (rowOf t) h) l root count
+live-by : (t : List ℕ) (h : ℕ) (l : List ℕ) (way : ℕ → ℕ) (count : ℕ) → isLive t h l way count ≡ liveIn (recordAt (rowOf t) h) l way count
 unfolding isLive recordOf
-live-by t h l root count = elim (decLt h (placeCount t)) [
+live-by t h l way count = elim (decLt h (placeCount t)) [
   | yes k ↦ rw (lt-ltb h (placeCount t) k, record-alike t h k)
   | no k ↦ rw (le-ltb h (placeCount t) (omega arith), ← read-none t h (placeCount t) refl (omega arith))
 ]
 
 pub live-counted : (img t : List ℕ) (h : ℕ) → notLive img t h ≡ false → h < placeCount t
 unfolding notLive
-live-counted img t h e = live-is t h img (rootAt (theKind img)) (rootEntries (theKind img)) .0 (not-false _ e) .counted
+live-counted img t h e = live-is t h img (slotAt (theKind img)) (rootEntries (theKind img)) .0 (not-false _ e) .counted
 
 -- ---- the tables t and t′, the places h and h′
 
@@ -76,7 +76,7 @@ module _ (t : List ℕ) (h : ℕ) (t′ : List ℕ) (h′ : ℕ) where
     unfolding notLive
     live-same img =
         let k = theKind img in
-        ap not (live-by t h img (rootAt k) (rootEntries k) ∙ ap (λ (r : OpenRecord). liveIn r img (rootAt k) (rootEntries k)) e ∙ sym (live-by t′ h′ img (rootAt k) (rootEntries k)))
+        ap not (live-by t h img (slotAt k) (rootEntries k) ∙ ap (λ (r : OpenRecord). liveIn r img (slotAt k) (rootEntries k)) e ∙ sym (live-by t′ h′ img (slotAt k) (rootEntries k)))
 
     pub fields-same : h < placeCount t → h′ < placeCount t′ → recordOf t h ≡ recordOf t′ h′
     fields-same k k′ = sym (record-alike t h k) ∙ e ∙ record-alike t′ h′ k′

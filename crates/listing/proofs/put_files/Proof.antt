@@ -4,6 +4,7 @@ use Prim.Native.Nat.{_+_, _*_, _-_, _≤_}
 use mathlib.Core.Path.{_≡_}
 use lib.ListN.{length}
 use Rattle.image.specs.Store.{stored}
+use Rattle.diskette.specs.Places.{slotFrom}
 use Rattle.lines.specs.Aids.Rooms.{fileRoom}
 use Rattle.listing.specs.Listing.{filesText}
 use Rattle.listing.specs.Laws.Files.{all-bytes, all-end, files-bytes, files-end, puts-files}
@@ -14,8 +15,8 @@ abbrev Inv-loop : tie.InvT-loop
 Inv-loop area root count out₀ at next₀ slot₀ out next slot = (slot ≤ count)
     × (length out ≡ length out₀)
     × (next ≤ at + fileRoom * slot)
-    × (stored out next (filesText area root slot (count - slot)) ≡ stored out₀ at (filesText area root 0 count))
-    × (next + length (filesText area root slot (count - slot)) ≡ at + length (filesText area root 0 count))
+    × (stored out next (filesText area (slotFrom root) slot (count - slot)) ≡ stored out₀ at (filesText area (slotFrom root) 0 count))
+    × (next + length (filesText area (slotFrom root) slot (count - slot)) ≡ at + length (filesText area (slotFrom root) 0 count))
 
 abbrev μ-loop : tie.MeasureT-loop
 μ-loop area root count out₀ at next₀ slot₀ out next slot = count - slot

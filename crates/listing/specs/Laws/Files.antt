@@ -9,7 +9,6 @@ use Rattle.image.specs.Store.{stored}
 use Rattle.image.specs.Laws.Store.{stored-append}
 use Rattle.fields.specs.Fields.{nameOf, attrOf, timeOf, dateOf, startOf, sizeOf}
 use Rattle.directory.specs.Slots.{standingOf, isPlain}
-use Rattle.diskette.specs.Places.{slotFrom}
 use Rattle.text.specs.Aids.Puts.{PutsIn}
 use Rattle.lines.specs.Lines.{fileText}
 use Rattle.lines.specs.Aids.Rooms.{fileRoom}
@@ -36,40 +35,40 @@ module _ (l : List ℕ) (a : ℕ) (b : Bool) (is : b ≡ isPlain (standingOf l a
 
 -- ---- the slots
 
-files-next : (l : List ℕ) (root s count : ℕ) → s < count → filesText l root s (count - s) ≡ slotText l (slotFrom root s) ++ filesText l root (s + 1) (count - (s + 1))
+files-next : (l : List ℕ) (way : ℕ → ℕ) (s count : ℕ) → s < count → filesText l way s (count - s) ≡ slotText l (way s) ++ filesText l way (s + 1) (count - (s + 1))
 unfolding filesText
-files-next l root s count h = let e : count - s ≡ suc (count - (s + 1)) = omega arith in rw e
+files-next l way s count h = let e : count - s ≡ suc (count - (s + 1)) = omega arith in rw e
 
-files-none : (l : List ℕ) (root s count : ℕ) → count ≤ s → filesText l root s (count - s) ≡ []
+files-none : (l : List ℕ) (way : ℕ → ℕ) (s count : ℕ) → count ≤ s → filesText l way s (count - s) ≡ []
 unfolding filesText
-files-none l root s count h = let e : count - s ≡ 0 = omega arith in rw e
+files-none l way s count h = let e : count - s ≡ 0 = omega arith in rw e
 
-module _ (l : List ℕ) (root count : ℕ) (o : List ℕ) (at : ℕ) where
-  files-all : filesText l root 0 (count - 0) ≡ filesText l root 0 count
+module _ (l : List ℕ) (way : ℕ → ℕ) (count : ℕ) (o : List ℕ) (at : ℕ) where
+  files-all : filesText l way 0 (count - 0) ≡ filesText l way 0 count
   files-all = let e : count - 0 ≡ count = omega arith in rw e
 
-  pub all-bytes : stored o at (filesText l root 0 (count - 0)) ≡ stored o at (filesText l root 0 count)
+  pub all-bytes : stored o at (filesText l way 0 (count - 0)) ≡ stored o at (filesText l way 0 count)
   all-bytes = rw files-all
 
-  pub all-end : at + length (filesText l root 0 (count - 0)) ≡ at + length (filesText l root 0 count)
+  pub all-end : at + length (filesText l way 0 (count - 0)) ≡ at + length (filesText l way 0 count)
   all-end = rw files-all
 
-module _ (l : List ℕ) (root count : ℕ) (o₀ o : List ℕ) (at next s : ℕ) (bytes : stored o next (filesText l root s (count - s)) ≡ stored o₀ at (filesText l root 0 count)) (end : next + length (filesText l root s (count - s)) ≡ at + length (filesText l root 0 count)) where
-  module _ (r : ℕ) (m : List ℕ) (h : s < count) (p : PutsIn fileRoom (slotText l (root + 32 * s)) o next r m) where
-    pub files-bytes : stored m r (filesText l root (s + 1) (count - (s + 1))) ≡ stored o₀ at (filesText l root 0 count)
+module _ (l : List ℕ) (way : ℕ → ℕ) (count : ℕ) (o₀ o : List ℕ) (at next s : ℕ) (bytes : stored o next (filesText l way s (count - s)) ≡ stored o₀ at (filesText l way 0 count)) (end : next + length (filesText l way s (count - s)) ≡ at + length (filesText l way 0 count)) where
+  module _ (r : ℕ) (m : List ℕ) (h : s < count) (p : PutsIn fileRoom (slotText l (way s)) o next r m) where
+    pub files-bytes : stored m r (filesText l way (s + 1) (count - (s + 1))) ≡ stored o₀ at (filesText l way 0 count)
     files-bytes =
-        let t : List ℕ = filesText l root (s + 1) (count - (s + 1)) in
-        rw (p .puts .stores, p .puts .next, ← stored-append o next (slotText l (slotFrom root s)) t, ← files-next l root s count h) bytes
+        let t : List ℕ = filesText l way (s + 1) (count - (s + 1)) in
+        rw (p .puts .stores, p .puts .next, ← stored-append o next (slotText l (way s)) t, ← files-next l way s count h) bytes
 
-    pub files-end : r + length (filesText l root (s + 1) (count - (s + 1))) ≡ at + length (filesText l root 0 count)
+    pub files-end : r + length (filesText l way (s + 1) (count - (s + 1))) ≡ at + length (filesText l way 0 count)
     files-end =
-        let t : List ℕ = filesText l root (s + 1) (count - (s + 1)) in
-        omega (arith, p .puts .next, length-append (slotText l (slotFrom root s)) t, ap length (files-next l root s count h), end)
+        let t : List ℕ = filesText l way (s + 1) (count - (s + 1)) in
+        omega (arith, p .puts .next, length-append (slotText l (way s)) t, ap length (files-next l way s count h), end)
 
-  pub puts-files : count ≤ s → s ≤ count → next ≤ at + fileRoom * s → PutsIn (fileRoom * count) (filesText l root 0 count) o₀ at next o
+  pub puts-files : count ≤ s → s ≤ count → next ≤ at + fileRoom * s → PutsIn (fileRoom * count) (filesText l way 0 count) o₀ at next o
   unfolding stored
   puts-files h k f =
       record {
-        puts = record { stores = rw (files-none l root s count h) at bytes; next = omega (arith, rw (files-none l root s count h) at end) };
+        puts = record { stores = rw (files-none l way s count h) at bytes; next = omega (arith, rw (files-none l way s count h) at end) };
         room = omega arith;
       }

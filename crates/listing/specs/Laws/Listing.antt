@@ -9,7 +9,7 @@ use borrow.Author.Tests.{le-leb, lt-leb}
 use Rattle.image.specs.Laws.Store.{length-stored}
 use Rattle.diskette.specs.Kinds.{named}
 use Rattle.diskette.specs.Aids.Usable.{Usable}
-use Rattle.diskette.specs.Places.{clusters, rootEntries, rootAt}
+use Rattle.diskette.specs.Places.{clusters, rootEntries, rootAt, slotFrom, slotAt}
 use Rattle.diskette.specs.Images.{AreaOf, kindOfArea}
 use Rattle.diskette.specs.Laws.Kinds.{OfKnown, of-cond}
 use Rattle.diskette.specs.Laws.Images.{area-of-kind, area-usable}
@@ -56,11 +56,11 @@ module _ (l : List ℕ) (k : Kind) (a : AreaOf l k) where
       pub files-fit : listingRoom ≤ length o → first + fileRoom * count ≤ length m
       files-fit h = omega (arith, p .room, few-slots, ap length (p .puts .stores) ∙ length-stored o 0 (soundText (k .byte) n free held aside files))
 
-      pub puts-sound : (r : ℕ) (e : List ℕ) → PutsIn (fileRoom * count) (filesText l root 0 count) m first r e → PutsIn listingRoom (volumeText k l (Sound files free held aside)) o 0 r e
+      pub puts-sound : (r : ℕ) (e : List ℕ) → PutsIn (fileRoom * count) (filesText l (slotFrom root) 0 count) m first r e → PutsIn listingRoom (volumeText k l (Sound files free held aside)) o 0 r e
       unfolding volumeText
       puts-sound r e q =
           record {
-            puts = rw (← all, ← at-root, ← slots) (puts-then (soundText (k .byte) n free held aside files) (filesText l root 0 count) o 0 first m r e (p .puts) (q .puts));
+            puts = rw (← all) (puts-then (soundText (k .byte) n free held aside files) (filesText l (slotAt k) 0 (rootEntries k)) o 0 first m r e (p .puts) (rw (at-root, slots) at (q .puts)));
             room = omega (arith, p .room, q .room, few-slots);
           }
 

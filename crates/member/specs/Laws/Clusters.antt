@@ -24,7 +24,7 @@ use Rattle.search.specs.declared.Found.{Found}
 use Rattle.search.specs.declared.Found.the-variants.{At, Nothing}
 use Rattle.diskette.specs.Images.{kindOfImage}
 use Rattle.diskette.specs.Aids.Usable.{Usable}
-use Rattle.diskette.specs.Places.{firstData, clusters, lastCluster, rootEntries, rootAt}
+use Rattle.diskette.specs.Places.{firstData, clusters, lastCluster, rootEntries, rootAt, slotFrom}
 use Rattle.diskette.specs.Laws.Images.{image-of-kind, image-usable, image-has-area}
 use Rattle.diskette.specs.declared.Kind.{Kind}
 use Rattle.diskette.specs.declared.WhichKind.{WhichKind}
@@ -124,7 +124,7 @@ module _ (last n : ℕ) (l : List ℕ) (c a : ℕ) (b : Bool) (is : b ≡ isPlai
 -- ---- the search: the numbers of the kind as they were computed, and what was found
 
 module _ (k : Kind) (l : List ℕ) (c s last n root count : ℕ) (p : last ≡ lastCluster k) (q : n ≡ clusters k) (t : root ≡ rootAt k) (u : count ≡ rootEntries k) where
-  module _ (f : Found) (e : f ≡ lowest (slotHolds last n l root c) s (count - s)) where
+  module _ (f : Found) (e : f ≡ lowest (slotHolds last n l (slotFrom root) c) s (count - s)) where
     found-is : foundTold f ≡ holderTold (Known k) l c s
     unfolding holderTold
     found-is = rw (e, p, q, t, u)
@@ -132,7 +132,7 @@ module _ (k : Kind) (l : List ℕ) (c s last n root count : ℕ) (p : last ≡ l
     module _ (slot : ℕ) (g : f ≡ At slot) where
       holder-below : slot < count
       holder-below =
-          let test = slotHolds last n l root c in
+          let test = slotHolds last n l (slotFrom root) c in
           let x = subst (LowestIs test s (count - s)) (sym e ∙ g) (lowest-is test s (count - s)) in
           omega arith
 

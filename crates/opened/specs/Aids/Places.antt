@@ -6,17 +6,16 @@ use lib.Dec.{eqb, ltb}
 use Rattle.search.specs.declared.Found.{Found}
 use Rattle.search.specs.declared.Found.the-variants.{At, Nothing}
 use Rattle.directory.specs.Slots.{standingOf, isPlain}
-use Rattle.diskette.specs.Places.{slotFrom}
 use Rattle.opened.specs.Places.{isLive}
 use Rattle.opened.specs.Records.{slotOf, usedOf}
 
 -- the slot of a live place
-unfoldable pub liveSlot : List ℕ → ℕ → List ℕ → ℕ → ℕ → Found
-liveSlot t h l root count = cond (isLive t h l root count) (At (slotOf t h)) Nothing
+unfoldable pub liveSlot : List ℕ → ℕ → List ℕ → (ℕ → ℕ) → ℕ → Found
+liveSlot t h l way count = cond (isLive t h l way count) (At (slotOf t h)) Nothing
 
 -- slot s is one of the volume's and holds a plain file
-abbrev pub holdsFile : List ℕ → ℕ → ℕ → ℕ → Bool
-holdsFile l root count s = ltb s count && isPlain (standingOf l (slotFrom root s))
+abbrev pub holdsFile : List ℕ → (ℕ → ℕ) → ℕ → ℕ → Bool
+holdsFile l way count s = ltb s count && isPlain (standingOf l (way s))
 
 -- place p is used and names the slot
 abbrev pub namesSlot : List ℕ → ℕ → ℕ → Bool

@@ -1,5 +1,5 @@
 -- Tests and searches in the form of the code's needs.
-use Prim.Native.Nat.{ℕ, _+_, _*_, _-_, _≤_, _<_}
+use Prim.Native.Nat.{ℕ, _+_, _-_, _≤_, _<_}
 use native.Mathlib.Omega.{arith}
 use mathlib.Core.Bool.{Bool, true, false, not, and-false}
 use mathlib.Core.List.{List}
@@ -43,42 +43,42 @@ module _ (t : List ℕ) (slot p : ℕ) (u : Bool) (is : u ≡ usedOf t p) where
 
 -- ---- a live place: each test that fails, and all that pass
 
-module _ (t : List ℕ) (h : ℕ) (l : List ℕ) (root count : ℕ) where
-  nothing : isLive t h l root count ≡ false → Nothing ≡ liveSlot t h l root count
+module _ (t : List ℕ) (h : ℕ) (l : List ℕ) (way : ℕ → ℕ) (count : ℕ) where
+  nothing : isLive t h l way count ≡ false → Nothing ≡ liveSlot t h l way count
   unfolding liveSlot
   nothing e = rw e
 
-  no-file : holdsFile l root count (slotOf t h) ≡ false → Nothing ≡ liveSlot t h l root count
+  no-file : holdsFile l way count (slotOf t h) ≡ false → Nothing ≡ liveSlot t h l way count
   unfolding isLive
   no-file e = nothing (rw (e, and-false (leb (accessOf t h) 2), and-false (usedOf t h), and-false (ltb h (placeCount t))))
 
-  pub not-counted : (n : ℕ) → n ≡ placeCount t → n ≤ h → Nothing ≡ liveSlot t h l root count
+  pub not-counted : (n : ℕ) → n ≡ placeCount t → n ≤ h → Nothing ≡ liveSlot t h l way count
   unfolding isLive
   not-counted n e k = nothing (rw (le-ltb h (placeCount t) (omega arith)))
 
-  pub not-used : (u : Bool) → u ≡ usedOf t h → not u ≡ true → Nothing ≡ liveSlot t h l root count
+  pub not-used : (u : Bool) → u ≡ usedOf t h → not u ≡ true → Nothing ≡ liveSlot t h l way count
   unfolding isLive
   not-used u e k = nothing (rw (← e, not-true u k, and-false (ltb h (placeCount t))))
 
-  pub not-accessed : (a : ℕ) → a ≡ accessOf t h → 2 < a → Nothing ≡ liveSlot t h l root count
+  pub not-accessed : (a : ℕ) → a ≡ accessOf t h → 2 < a → Nothing ≡ liveSlot t h l way count
   unfolding isLive
   not-accessed a e k = nothing (rw (lt-leb (accessOf t h) 2 (omega arith), and-false (usedOf t h), and-false (ltb h (placeCount t))))
 
   module _ (s : ℕ) (at : s ≡ slotOf t h) where
-    pub not-within : count ≤ s → Nothing ≡ liveSlot t h l root count
+    pub not-within : count ≤ s → Nothing ≡ liveSlot t h l way count
     not-within k = no-file (rw (le-ltb (slotOf t h) count (omega arith)))
 
-    module _ (b : Bool) (is : b ≡ isPlain (standingOf l (root + 32 * s))) where
-      pub not-plain : b ≡ false → Nothing ≡ liveSlot t h l root count
+    module _ (b : Bool) (is : b ≡ isPlain (standingOf l (way s))) where
+      pub not-plain : b ≡ false → Nothing ≡ liveSlot t h l way count
       not-plain k =
-          let z : isPlain (standingOf l (root + 32 * slotOf t h)) ≡ false = rw (← at) (sym is ∙ k) in
+          let z : isPlain (standingOf l (way (slotOf t h))) ≡ false = rw (← at) (sym is ∙ k) in
           no-file (rw (z, and-false (ltb (slotOf t h) count)))
 
       pub live : (n : ℕ) → n ≡ placeCount t → h < n → (u : Bool) → u ≡ usedOf t h → not u ≡ false
           → (a : ℕ) → a ≡ accessOf t h → a ≤ 2 → s < count → b ≡ true
-          → At s ≡ liveSlot t h l root count
+          → At s ≡ liveSlot t h l way count
       unfolding liveSlot isLive
       live n e k u f v a g w c d =
-          let z : isPlain (standingOf l (root + 32 * slotOf t h)) ≡ true = rw (← at) (sym is ∙ d) in
+          let z : isPlain (standingOf l (way (slotOf t h))) ≡ true = rw (← at) (sym is ∙ d) in
           rw (lt-ltb h (placeCount t) (omega arith), ← f, not-false u v, le-leb (accessOf t h) 2 (omega arith), lt-ltb (slotOf t h) count (omega arith), z)
           (ap At at)

@@ -12,7 +12,6 @@ use Rattle.search.specs.Laws.Answers.{below-answers}
 use Rattle.search.specs.declared.Found.{Found}
 use Rattle.search.specs.declared.Found.the-variants.{At, Nothing}
 use Rattle.directory.specs.Slots.{standingOf, isPlain}
-use Rattle.diskette.specs.Places.{slotFrom}
 use Rattle.directory.specs.Laws.Slots.{plain-is}
 use Rattle.opened.specs.Records.{placeCount, usedOf, slotOf, accessOf}
 use Rattle.opened.specs.Places.{LivePlace, isLive, NamesAt, isOpen, lowestUnused}
@@ -24,42 +23,42 @@ both false b e = absurd (let z : _≡_ {A = ℕ} 0 1 = cc in omega arith)
 
 -- ---- live places
 
-module _ (t : List ℕ) (h : ℕ) (l : List ℕ) (root count : ℕ) where
-  pub live-is : (isLive t h l root count ≡ true) ↔ LivePlace t h l root count
+module _ (t : List ℕ) (h : ℕ) (l : List ℕ) (way : ℕ → ℕ) (count : ℕ) where
+  pub live-is : (isLive t h l way count ≡ true) ↔ LivePlace t h l way count
   unfolding isLive
   live-is = (to, from)
     where
-      to : isLive t h l root count ≡ true → LivePlace t h l root count
+      to : isLive t h l way count ≡ true → LivePlace t h l way count
       to e =
-          let x = both (ltb h (placeCount t)) (usedOf t h && (leb (accessOf t h) 2 && holdsFile l root count (slotOf t h))) e in
-          let y = both (usedOf t h) (leb (accessOf t h) 2 && holdsFile l root count (slotOf t h)) (x .1) in
-          let z = both (leb (accessOf t h) 2) (holdsFile l root count (slotOf t h)) (y .1) in
-          let w = both (ltb (slotOf t h) count) (isPlain (standingOf l (slotFrom root (slotOf t h)))) (z .1) in
+          let x = both (ltb h (placeCount t)) (usedOf t h && (leb (accessOf t h) 2 && holdsFile l way count (slotOf t h))) e in
+          let y = both (usedOf t h) (leb (accessOf t h) 2 && holdsFile l way count (slotOf t h)) (x .1) in
+          let z = both (leb (accessOf t h) 2) (holdsFile l way count (slotOf t h)) (y .1) in
+          let w = both (ltb (slotOf t h) count) (isPlain (standingOf l (way (slotOf t h)))) (z .1) in
           record {
             counted = ltb-true h (placeCount t) (x .0);
             used = y .0;
             access = leb-true (accessOf t h) 2 (z .0);
             slot = ltb-true (slotOf t h) count (w .0);
-            plain = plain-is l (slotFrom root (slotOf t h)) .0 (w .1);
+            plain = plain-is l (way (slotOf t h)) .0 (w .1);
           }
 
-      from : LivePlace t h l root count → isLive t h l root count ≡ true
+      from : LivePlace t h l way count → isLive t h l way count ≡ true
       from v =
           rw (lt-ltb h (placeCount t) (v .counted), v .used, le-leb (accessOf t h) 2 (v .access), lt-ltb (slotOf t h) count (v .slot))
-          (plain-is l (slotFrom root (slotOf t h)) .1 (v .plain))
+          (plain-is l (way (slotOf t h)) .1 (v .plain))
 
-  by : (b : Bool) → isLive t h l root count ≡ b → liveSlot t h l root count ≡ cond b (At (slotOf t h)) Nothing
+  by : (b : Bool) → isLive t h l way count ≡ b → liveSlot t h l way count ≡ cond b (At (slotOf t h)) Nothing
   unfolding liveSlot
   by b e = rw e
 
   -- a handle reaches the slot that its place names, where the place is live
-  pub live-slot-at : LivePlace t h l root count → liveSlot t h l root count ≡ At (slotOf t h)
+  pub live-slot-at : LivePlace t h l way count → liveSlot t h l way count ≡ At (slotOf t h)
   live-slot-at v = by true (live-is .1 v)
 
-  pub live-slot-is : (s : ℕ) → liveSlot t h l root count ≡ At s → LivePlace t h l root count × (slotOf t h ≡ s)
-  live-slot-is s e = cases (isLive t h l root count) refl
+  pub live-slot-is : (s : ℕ) → liveSlot t h l way count ≡ At s → LivePlace t h l way count × (slotOf t h ≡ s)
+  live-slot-is s e = cases (isLive t h l way count) refl
     where
-      cases : (b : Bool) → isLive t h l root count ≡ b → LivePlace t h l root count × (slotOf t h ≡ s)
+      cases : (b : Bool) → isLive t h l way count ≡ b → LivePlace t h l way count × (slotOf t h ≡ s)
       cases true f = (live-is .0 f, same (sym (by true f) ∙ e))
         where
           same : At (slotOf t h) ≡ At s → slotOf t h ≡ s
@@ -67,13 +66,13 @@ module _ (t : List ℕ) (h : ℕ) (l : List ℕ) (root count : ℕ) where
       cases false f = absurd (let g = sym (by false f) ∙ e in let z : _≡_ {A = ℕ} 0 1 = cc in omega arith)
 
   -- and nothing where it is not
-  pub live-slot-none : (liveSlot t h l root count ≡ Nothing) ↔ ¬ LivePlace t h l root count
-  live-slot-none = (λ e v. clash (sym (live-slot-at v) ∙ e), λ n. cases n (isLive t h l root count) refl)
+  pub live-slot-none : (liveSlot t h l way count ≡ Nothing) ↔ ¬ LivePlace t h l way count
+  live-slot-none = (λ e v. clash (sym (live-slot-at v) ∙ e), λ n. cases n (isLive t h l way count) refl)
     where
       clash : At (slotOf t h) ≡ Nothing → ⊥
       clash e = let z : _≡_ {A = ℕ} 0 1 = cc in omega arith
 
-      cases : ¬ LivePlace t h l root count → (b : Bool) → isLive t h l root count ≡ b → liveSlot t h l root count ≡ Nothing
+      cases : ¬ LivePlace t h l way count → (b : Bool) → isLive t h l way count ≡ b → liveSlot t h l way count ≡ Nothing
       cases n true f = absurd (n (live-is .0 f))
       cases n false f = by false f
 

@@ -24,13 +24,13 @@ only-count p m t o = let e : length m ≡ length t = o .long in omega arith
 -- ---- one place
 
 module _ (m t : List ℕ) (count : placeCount m ≡ placeCount t) (h : ℕ) (same : SameUse m t h) where
-  pub same-live : (l : List ℕ) (root slots : ℕ) → isLive m h l root slots ≡ isLive t h l root slots
+  pub same-live : (l : List ℕ) (way : ℕ → ℕ) (slots : ℕ) → isLive m h l way slots ≡ isLive t h l way slots
   unfolding isLive
-  same-live l root slots = rw (count, same .used, same .access, same .slot)
+  same-live l way slots = rw (count, same .used, same .access, same .slot)
 
-  pub same-live-slot : (l : List ℕ) (root slots : ℕ) → liveSlot m h l root slots ≡ liveSlot t h l root slots
+  pub same-live-slot : (l : List ℕ) (way : ℕ → ℕ) (slots : ℕ) → liveSlot m h l way slots ≡ liveSlot t h l way slots
   unfolding liveSlot
-  same-live-slot l root slots = rw (same-live l root slots, same .slot)
+  same-live-slot l way slots = rw (same-live l way slots, same .slot)
 
 -- ---- all places
 
@@ -56,7 +56,7 @@ module _ (m t : List ℕ) (p : ℕ) (only : OnlyAt p m t) where
   pub other-use : (q : ℕ) → q ≢ p → SameUse m t q
   other-use q d = use-of m t q (pointerOf t q) (writtenOf t q) (only .others q d)
 
-  pub other-live : (q : ℕ) → q ≢ p → (l : List ℕ) (root slots : ℕ) → liveSlot m q l root slots ≡ liveSlot t q l root slots
+  pub other-live : (q : ℕ) → q ≢ p → (l : List ℕ) (way : ℕ → ℕ) (slots : ℕ) → liveSlot m q l way slots ≡ liveSlot t q l way slots
   other-live q d = same-live-slot m t (only-count p m t only) q (other-use q d)
 
   -- a slot that place p names neither before nor after

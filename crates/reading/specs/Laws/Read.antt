@@ -15,7 +15,7 @@ use Rattle.chains.specs.Laws.Content.{content-length}
 use Rattle.contents.specs.Laws.Chain.{chain-room}
 use Rattle.contents.specs.Aids.Contents.{chainFrom, fetched}
 use Rattle.contents.specs.Laws.Read.{fetched-content}
-use Rattle.diskette.specs.Places.{firstData, clusterBytes, lastCluster, rootAt, rootEntries, slotAt}
+use Rattle.diskette.specs.Places.{firstData, clusterBytes, lastCluster, rootEntries, slotAt}
 use Rattle.diskette.specs.declared.Kind.{Kind}
 use Rattle.search.specs.declared.Found.{Found}
 use Rattle.search.specs.declared.Found.the-variants.{At}
@@ -79,7 +79,7 @@ module _ (img t : List ℕ) (h : ℕ) (buf : List ℕ) (a : Answer) where
   unfolding readOutcome
   read-refused n x q = record { is = rw x (sym (stopped _ n q _ img t buf)) }
 
-  pub read-well : (k : Kind) → OnVolume img k → (f : Found) → f ≡ liveSlot t h img (rootAt k) (rootEntries k) → (slot : ℕ) → f ≡ At slot
+  pub read-well : (k : Kind) → OnVolume img k → (f : Found) → f ≡ liveSlot t h img (slotAt k) (rootEntries k) → (slot : ℕ) → f ≡ At slot
       → (access : ℕ) → access ≡ accessOf t h → access ≢ 1 → (pointer : ℕ) → pointer ≡ pointerOf t h
       → (e size : ℕ) → e ≡ slotAt k slot → size ≡ sizeOf img e → (n : ℕ) → n ≡ readCount (length buf) size pointer
       → (b m : List ℕ) → b ≡ stored buf 0 (part (fileBytes k img slot) pointer n) → m ≡ withPointer t h (pointer + n) → a ≡ answering n → Reads img t h buf a m b

@@ -2,7 +2,7 @@
 use Prim.Native.Nat.{ℕ}
 use mathlib.Core.List.{List, [], _∷_}
 use mathlib.Core.Path.{_≡_}
-use Rattle.diskette.specs.Places.{slotAt, rootAt, rootEntries}
+use Rattle.diskette.specs.Places.{slotAt, rootEntries}
 use Rattle.diskette.specs.declared.Kind.{Kind}
 use Rattle.search.specs.Search.{isFound}
 use Rattle.fields.specs.Fields.{withName}
@@ -17,7 +17,7 @@ abbrev pub lastRows : List ℕ → List ℕ → Kind → ℕ → List ℕ → Li
 lastRows img t k slot name =
     (isOpen t slot, accessDenied)
     ∷ (readOnly img slot, accessDenied)
-    ∷ (isFound (slotNamed img (rootAt k) (rootEntries k) name), accessDenied)
+    ∷ (isFound (slotNamed img (slotAt k) (rootEntries k) name), accessDenied)
     ∷ []
 
 pub record RenamesSlot (img t : List ℕ) (k : Kind) (slot : ℕ) (name : List ℕ) (r : Answer) (after : List ℕ) : Type 0 where

@@ -3,7 +3,7 @@ use Prim.Native.Nat.{ℕ}
 use mathlib.Core.Bool.{Bool, true, false, not}
 use mathlib.Core.List.{List, []}
 use mathlib.Core.Path.{_≡_, refl, sym, ap, _∙_}
-use Rattle.diskette.specs.Places.{rootAt, rootEntries, slotAt}
+use Rattle.diskette.specs.Places.{rootEntries, slotAt}
 use Rattle.diskette.specs.declared.Kind.{Kind}
 use Rattle.search.specs.Search.{isFound}
 use Rattle.search.specs.declared.Found.{Found}
@@ -47,7 +47,7 @@ module _ (img t s n : List ℕ) (a : Answer) where
       → FileNamed img s slot → Renames img t s n a m
   unfolding renameOutcome decided refusal
   rename-rest k v w new fits slot m y i =
-      let f = slotNamed img (rootAt k) (rootEntries k) (w .name) in
+      let f = slotNamed img (slotAt k) (rootEntries k) (w .name) in
       record { is = rw (i .known, i .sound, i .good, i .found, found-is img k v n w new f refl, twice (isFound f), ← new, fits, on-kind img k v) (y .is) }
 
 -- ---- the last three rows
@@ -57,7 +57,7 @@ module _ (img t : List ℕ) (k : Kind) (slot : ℕ) (name : List ℕ) (a : Answe
   last-refused number x q = record { is = rw x (sym (stopped _ number q _ img t [])) }
 
   pub rename-well : (o : Bool) → o ≡ isOpen t slot → o ≡ false → (b : Bool) → b ≡ readOnly img slot → b ≡ false
-      → (p : Bool) → p ≡ isFound (slotNamed img (rootAt k) (rootEntries k) name) → p ≡ false
+      → (p : Bool) → p ≡ isFound (slotNamed img (slotAt k) (rootEntries k) name) → p ≡ false
       → (m : List ℕ) → m ≡ withName img (slotAt k slot) name → a ≡ answering 0 → RenamesSlot img t k slot name a m
   unfolding decided refusal
   rename-well o used shut b kept free p taken new m j x = record { is = rw (x, j, ← used, shut, ← kept, free, ← taken, new) }

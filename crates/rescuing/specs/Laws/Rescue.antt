@@ -8,7 +8,7 @@ use lib.ListN.{length, take}
 use borrow.Author.Tests.{not-false}
 use Rattle.image.specs.Store.{stored}
 use Rattle.diskette.specs.Images.{kindOfImage}
-use Rattle.diskette.specs.Places.{rootAt, rootEntries, slotAt}
+use Rattle.diskette.specs.Places.{rootAt, rootEntries, slotAt, slotFrom}
 use Rattle.diskette.specs.declared.Kind.{Kind}
 use Rattle.diskette.specs.declared.WhichKind.{WhichKind}
 use Rattle.diskette.specs.declared.WhichKind.the-variants.{Known, Unknown}
@@ -69,7 +69,7 @@ module _ (img s out : List ℕ) where
 
     -- the search went over the root
     module _ (fits : not (g .fits) ≡ false) (root count : ℕ) (re : root ≡ rootAt k) (ce : count ≡ rootEntries k)
-        (f : Found) (found : f ≡ slotNamed img root count (g .name)) where
+        (f : Found) (found : f ≡ slotNamed img (slotFrom root) count (g .name)) where
       found-is : fileFound img s ≡ f
       unfolding fileFound
       found-is = rw (is-kind, ← given, found, re, ce)

@@ -10,7 +10,7 @@ use Rattle.image.specs.Bytes.{Bytes}
 use Rattle.image.specs.Store.{stored}
 use Rattle.image.specs.Laws.Numbers.{number-small}
 use Rattle.chains.specs.Laws.Tests.{true-says, by-test}
-use Rattle.diskette.specs.Places.{rootAt, rootEntries, slotAt}
+use Rattle.diskette.specs.Places.{rootEntries, slotAt}
 use Rattle.diskette.specs.declared.Kind.{Kind}
 use Rattle.fields.specs.Fields.{sizeOf}
 use Rattle.stamps.specs.declared.Stamp.{Stamp}
@@ -81,7 +81,7 @@ module _ (k : Kind) (img : List ℕ) (v : OnVolume img k) (name : List ℕ) wher
 
       live : notLive img T p ≡ false
       unfolding notLive
-      live = rw (on-kind img k v) (ap not (live-is T p img (rootAt k) (rootEntries k) .1 (record {
+      live = rw (on-kind img k v) (ap not (live-is T p img (slotAt k) (rootEntries k) .1 (record {
         counted = counts-then;
         used = taken .used;
         access = rw (taken .access) (omega arith);
@@ -129,7 +129,7 @@ module _ (k : Kind) (img : List ℕ) (v : OnVolume img k) (name : List ℕ) wher
           unfolding notLive
           still-live =
               let u = pointer-uses T p counts-then n small in
-              ap not (same-live U T (u .count) p (u .each p counts-then) img (rootAt (theKind img)) (rootEntries (theKind img))) ∙ live
+              ap not (same-live U T (u .count) p (u .each p counts-then) img (slotAt (theKind img)) (rootEntries (theKind img))) ∙ live
 
           not-written : writtenOf U p ≡ false
           not-written = pointer-holds T p counts-then n small .written ∙ taken .written

@@ -12,7 +12,7 @@ use Rattle.search.specs.declared.Found.the-variants.{At}
 use Rattle.chains.specs.Laws.Tests.{true-says}
 use Rattle.diskette.specs.Images.{kindOfImage}
 use Rattle.diskette.specs.Laws.Images.{image-of-kind, image-usable, image-has-area}
-use Rattle.diskette.specs.Places.{firstData, rootAt, rootEntries, slotAt, slotFrom}
+use Rattle.diskette.specs.Places.{firstData, rootEntries, slotAt}
 use Rattle.diskette.specs.declared.Kind.{Kind}
 use Rattle.diskette.specs.declared.WhichKind.the-variants.{Known}
 use Rattle.directory.specs.Search.{slotNamed}
@@ -38,22 +38,22 @@ module _ (m : List ℕ) (k : Kind) (e : kindOfImage m ≡ Known k) (s : ℕ) (f 
   is-kind : theKind m ≡ k
   is-kind = ap kindFound e
 
-  root-in : rootAt k + 32 * rootEntries k ≤ length m
-  root-in = let a : 512 * firstData k ≤ length m = image-has-area m k (image-of-kind m k .0 e) (image-usable m k e) in omega arith
+  slots-in : (t : ℕ) → t < rootEntries k → slotAt k t + 32 ≤ length m
+  slots-in t i = let a : 512 * firstData k ≤ length m = image-has-area m k (image-of-kind m k .0 e) (image-usable m k e) in omega arith
 
   spelled : nameOf m (slotAt k s) ≡ nameGiven name .name
   spelled = h .name ∙ sym (accepted name (f .name) .1 means .1)
 
   -- slot r holds a plain file of the name
   abbrev Named : ℕ → Type 0
-  Named r = (r < rootEntries k) × (PlainAt m (slotFrom (rootAt k) r) × (nameOf m (slotFrom (rootAt k) r) ≡ nameGiven name .name))
+  Named r = (r < rootEntries k) × (PlainAt m (slotAt k r) × (nameOf m (slotAt k r) ≡ nameGiven name .name))
 
   found : fileFound m name ≡ At s
   unfolding fileFound
   found =
       let n = nameGiven name .name in
-      rw is-kind (only-answer Named (slotNamed m (rootAt k) (rootEntries k) n) (At s)
-      (slot-named-answers m (rootAt k) (rootEntries k) root-in n (proper name (accepted name (f .name) .1 means .0) .long)) (
+      rw is-kind (only-answer Named (slotNamed m (slotAt k) (rootEntries k) n) (At s)
+      (slot-named-answers m (slotAt k) (rootEntries k) slots-in n (proper name (accepted name (f .name) .1 means .0) .long)) (
         (h .is-file .below, (h .is-file .plain, spelled)),
         λ q l x.
             let z : q ≡ s = alone q (record { below = x .0; plain = x .1 .0 }) (x .1 .1 ∙ sym spelled) in

@@ -8,7 +8,7 @@ use mir.Syntax.{w32}
 use mir.Val.{SFits, toZ, ofZ}
 use mir.Facts.{toZ-ofZ}
 use borrow.Author.Tests.{le-ltb, eq-eqb, ne-eqb}
-use Rattle.diskette.specs.Places.{rootAt, rootEntries, slotAt}
+use Rattle.diskette.specs.Places.{rootEntries, slotAt}
 use Rattle.diskette.specs.declared.Kind.{Kind}
 use Rattle.search.specs.declared.Found.{Found}
 use Rattle.search.specs.declared.Found.the-variants.{At}
@@ -71,7 +71,7 @@ module _ (img t : List ℕ) (h method : ℕ) (offset : ℤ) (base : ℕ) (from :
   pub beyond-stops : w ≡ Beyond → (rows : List Row) → Stops ((isBeyond (seekMoved img t h method offset), invalidFunction) ∷ rows) invalidFunction
   beyond-stops q rows = stops-at _ invalidFunction rows (rw (← leads, q)) refl
 
-  pub seek-well : (k : Kind) → OnVolume img k → method ≤ 2 → (f : Found) → f ≡ liveSlot t h img (rootAt k) (rootEntries k) → (slot : ℕ) → f ≡ At slot
+  pub seek-well : (k : Kind) → OnVolume img k → method ≤ 2 → (f : Found) → f ≡ liveSlot t h img (slotAt k) (rootEntries k) → (slot : ℕ) → f ≡ At slot
       → (p : ℕ) → w ≡ To p → (m : List ℕ) → m ≡ withPointer t h p → (a : Answer) → a ≡ answering p → Seeks img t h method offset a m
   unfolding seekOutcome decided refusal
   seek-well k v small f found slot at p q m e a x = record {

@@ -5,6 +5,7 @@ use Prim.Native.Nat.{_-_, _≤_}
 use lib.ListN.{length}
 use Rattle.search.specs.Search.{lowest}
 use Rattle.search.specs.Laws.Turns.{lowest-all, lowest-done}
+use Rattle.diskette.specs.Places.{slotFrom}
 use Rattle.slotcheck.specs.Aids.Slots.{anyBelow, neverUsedSlot, labelSlot, badSlotAt}
 use Rattle.slotcheck.specs.Aids.Checksums.{NamesMet}
 use Rattle.slotcheck.specs.Laws.Slots.{any-more, bad-found, bad-not-here}
@@ -12,7 +13,7 @@ use Rattle.slotcheck.proofs.first_bad_by.Statement.{statement}
 use Rattle.slotcheck.proofs.first_bad_by.Tie as tie
 
 abbrev Inv-loop : tie.InvT-loop
-Inv-loop img met₀ root count never₀ label₀ s₀ met never label s = (s ≤ count) × (never ≡ anyBelow (neverUsedSlot img root) s) × (label ≡ anyBelow (labelSlot img root) s) × (lowest (badSlotAt img root) s (count - s) ≡ lowest (badSlotAt img root) 0 count) × (length met ≡ length met₀) × NamesMet img root s met
+Inv-loop img met₀ root count never₀ label₀ s₀ met never label s = (s ≤ count) × (never ≡ anyBelow (neverUsedSlot img (slotFrom root)) s) × (label ≡ anyBelow (labelSlot img (slotFrom root)) s) × (lowest (badSlotAt img (slotFrom root)) s (count - s) ≡ lowest (badSlotAt img (slotFrom root)) 0 count) × (length met ≡ length met₀) × NamesMet img (slotFrom root) s met
 
 abbrev μ-loop : tie.MeasureT-loop
 μ-loop img met₀ root count never₀ label₀ s₀ met never label s = count - s

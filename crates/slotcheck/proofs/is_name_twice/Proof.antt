@@ -1,5 +1,5 @@
 -- Only a plain file has a name; a mark that is not set decides, and else the search below it.
-use Rattle.slotcheck.specs.Laws.Checksums.{told-other, told-new, told-met}
+use Rattle.slotcheck.specs.Laws.Checksums.{told-other, told-new, told-met, row-within}
 use borrow.Author.Needs.{needs}
 use Rattle.slotcheck.proofs.is_name_twice.Statement.{statement}
 use Rattle.slotcheck.proofs.is_name_twice.Tie as tie
@@ -32,7 +32,7 @@ same-length : tie.Need-same-length
 same-length c = search needs
 
 returns-2 : tie.Need-returns-2
-returns-2 c = search told-new
+returns-2 c = search (told-new, row-within)
 
 name-at-requires : tie.Need-name-at-requires
 name-at-requires c κs = search needs
@@ -44,7 +44,7 @@ has-found-requires : tie.Need-has-found-requires
 has-found-requires c κs = search needs
 
 returns-3 : tie.Need-returns-3
-returns-3 c = search told-met
+returns-3 c = search (told-met, row-within)
 
 pub is-name-twice-spec : {M : Type 1} → statement M
 is-name-twice-spec =

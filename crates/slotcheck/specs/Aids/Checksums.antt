@@ -6,7 +6,6 @@ use mathlib.Core.List.{List}
 use mathlib.Core.Logic.{_≢_}
 use mathlib.Core.Path.{_≡_}
 use lib.ListN.{length, getD}
-use Rattle.diskette.specs.Places.{slotFrom}
 use Rattle.fields.specs.Fields.{nameOf}
 use Rattle.directory.specs.Slots.{PlainAt}
 use Rattle.slotcheck.specs.Aids.Slots.{nameTwiceSlot, badSlotBy}
@@ -23,16 +22,16 @@ unfoldable pub checksum : List ℕ → ℕ
 checksum name = checksumFrom name 0 11 0
 
 -- the marks m: each plain file in a slot below s has the mark of its checksum set
-pub record NamesMet (l : List ℕ) (root s : ℕ) (m : List ℕ) : Type 0 where
+pub record NamesMet (l : List ℕ) (way : ℕ → ℕ) (s : ℕ) (m : List ℕ) : Type 0 where
   pub long : length m ≡ 256
-  pub marked : (t : ℕ) → t < s → PlainAt l (slotFrom root t) → getD m (checksum (nameOf l (slotFrom root t))) 0 ≢ 0
+  pub marked : (t : ℕ) → t < s → PlainAt l (way t) → getD m (checksum (nameOf l (way t))) 0 ≢ 0
 
 -- what the code promises of a slot's name: its answer r, and the marks with that of this slot
-pub record NameTold (l : List ℕ) (root s : ℕ) (r : Bool) (m : List ℕ) : Type 0 where
-  pub is : r ≡ nameTwiceSlot l root s
-  pub met : NamesMet l root (s + 1) m
+pub record NameTold (l : List ℕ) (way : ℕ → ℕ) (s : ℕ) (r : Bool) (m : List ℕ) : Type 0 where
+  pub is : r ≡ nameTwiceSlot l way s
+  pub met : NamesMet l way (s + 1) m
 
 -- what it promises of a slot: its answer r, and unless the slot is bad the marks
-pub record SlotTold (l : List ℕ) (root s : ℕ) (never label r : Bool) (m : List ℕ) : Type 0 where
-  pub is : r ≡ badSlotBy l root s never label
-  pub met : r ≡ false → NamesMet l root (s + 1) m
+pub record SlotTold (l : List ℕ) (way : ℕ → ℕ) (s : ℕ) (never label r : Bool) (m : List ℕ) : Type 0 where
+  pub is : r ≡ badSlotBy l way s never label
+  pub met : r ≡ false → NamesMet l way (s + 1) m

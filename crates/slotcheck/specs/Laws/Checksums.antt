@@ -42,8 +42,8 @@ module _ (l : List ℕ) (a i sum : ℕ) (inv : checksumFrom (nameOf l a) i (11 -
 
 -- ---- the marks
 
-pub none-met : (l : List ℕ) (root : ℕ) → NamesMet l root 0 (replicate 256 0)
-none-met l root = record {
+pub none-met : (l : List ℕ) (way : ℕ → ℕ) → NamesMet l way 0 (replicate 256 0)
+none-met l way = record {
   long = length-replicate {A = ℕ} 256 0;
   marked = λ t h p. absurd (omega arith);
 }
@@ -54,9 +54,9 @@ set-marked m i h j else = elim (ℕ-discrete j i) [
   | no n ↦ λ z. else n (sym (getD-set-other m i j 1 0 n) ∙ z)
 ]
 
-module _ (l : List ℕ) (root s : ℕ) (m : List ℕ) (met : NamesMet l root s m) where
+module _ (l : List ℕ) (way : ℕ → ℕ) (s : ℕ) (m : List ℕ) (met : NamesMet l way s m) where
   -- the marks after slot s, where its own file, if it is one, has its mark set
-  met-more : (PlainAt l (slotFrom root s) → getD m (checksum (nameOf l (slotFrom root s))) 0 ≢ 0) → NamesMet l root (s + 1) m
+  met-more : (PlainAt l (way s) → getD m (checksum (nameOf l (way s))) 0 ≢ 0) → NamesMet l way (s + 1) m
   met-more here = record {
     long = met .long;
     marked = λ t h p. elim (ℕ-discrete t s) [
@@ -65,30 +65,30 @@ module _ (l : List ℕ) (root s : ℕ) (m : List ℕ) (met : NamesMet l root s m
     ];
   }
 
-  module _ (plain : Bool) (is : plain ≡ isPlain (standingOf l (slotFrom root s))) where
-    pub told-other : not plain ≡ true → NameTold l root s false m
+  module _ (plain : Bool) (is : plain ≡ isPlain (standingOf l (way s))) where
+    pub told-other : not plain ≡ true → NameTold l way s false m
     told-other x = let f = not-true plain x in record {
-      is = twice-other l root s plain is f;
-      met = met-more (λ p. absurd (clash (plain-is l (slotFrom root s) .1 p) (sym is ∙ f)));
+      is = twice-other l way s plain is f;
+      met = met-more (λ p. absurd (clash (plain-is l (way s) .1 p) (sym is ∙ f)));
     }
 
-    module _ (x : not plain ≡ false) (long : root + 32 * s + 32 ≤ length l) (sum : ℕ) (sums : sum ≡ checksum (nameOf l (slotFrom root s))) (small : sum < 256) where
+    module _ (x : not plain ≡ false) (long : (t : ℕ) → t < s + 1 → way t + 32 ≤ length l) (sum : ℕ) (sums : sum ≡ checksum (nameOf l (way s))) (small : sum < 256) where
       -- no file below has the name: its mark would be set
-      unmet : getD m sum 0 ≡ 0 → isFound (slotNamed l root s (nameOf l (slotFrom root s))) ≡ false
+      unmet : getD m sum 0 ≡ 0 → isFound (slotNamed l way s (nameOf l (way s))) ≡ false
       unmet zeros =
-          let name = nameOf l (slotFrom root s) in
-          elim (says-found (λ t. (t < s) × (PlainAt l (slotFrom root t) × (nameOf l (slotFrom root t) ≡ name))) (slotNamed l root s name)
-          (slot-named-answers l root s (omega arith) name (length-part l (slotFrom root s) 11 (omega arith)))) [
+          let name = nameOf l (way s) in
+          elim (says-found (λ t. (t < s) × (PlainAt l (way t) × (nameOf l (way t) ≡ name))) (slotNamed l way s name)
+          (slot-named-answers l way s (λ t h. long t (omega arith)) name (length-part l (way s) 11 (omega (arith, long s (omega arith)))))) [
             | aye y f ↦ absurd (met .marked (f .0) (f .1 .0) (f .1 .1 .0) (ap (λ (n : List ℕ). getD m (checksum n) 0) (f .1 .1 .1) ∙ (rw (sums) at zeros)))
             | nay f n ↦ f
           ]
 
-      pub told-new : getD m sum 0 ≡ 0 → NameTold l root s false (set m sum 1)
+      pub told-new : getD m sum 0 ≡ 0 → NameTold l way s false (set m sum 1)
       told-new zeros = record {
-        is = twice-plain l root s plain is (not-false plain x) (nameOf l (slotFrom root s)) refl (slotNamed l root s (nameOf l (slotFrom root s))) refl false (sym (unmet zeros));
+        is = twice-plain l way s plain is (not-false plain x) (nameOf l (way s)) refl (slotNamed l way s (nameOf l (way s))) refl false (sym (unmet zeros));
         met = record {
           long = length-set m sum 1 ∙ met .long;
-          marked = λ t h p. set-marked m sum (omega (arith, met .long)) (checksum (nameOf l (slotFrom root t)))
+          marked = λ t h p. set-marked m sum (omega (arith, met .long)) (checksum (nameOf l (way t)))
               (λ other. elim (ℕ-discrete t s) [
                 | yes e ↦ absurd (other (rw e (sym (sums))))
                 | no n ↦ met .marked t (omega arith) p
@@ -96,17 +96,22 @@ module _ (l : List ℕ) (root s : ℕ) (m : List ℕ) (met : NamesMet l root s m
         };
       }
 
-      pub told-met : getD m sum 0 ≢ 0 → (name : List ℕ) → name ≡ nameOf l (slotFrom root s) → (f : Found) → f ≡ slotNamed l root s name
-          → (r : Bool) → r ≡ isFound f → NameTold l root s r m
+      pub told-met : getD m sum 0 ≢ 0 → (name : List ℕ) → name ≡ nameOf l (way s) → (f : Found) → f ≡ slotNamed l way s name
+          → (r : Bool) → r ≡ isFound f → NameTold l way s r m
       told-met marked name e f q r p = record {
-        is = twice-plain l root s plain is (not-false plain x) name e f q r p;
+        is = twice-plain l way s plain is (not-false plain x) name e f q r p;
         met = met-more (λ u. rw (← sums) marked);
       }
 
 -- ---- a slot by the four tests
 
-pub told-bad : (l : List ℕ) (root s : ℕ) (never label : Bool) (m : List ℕ) → true ≡ badSlotBy l root s never label → SlotTold l root s never label true m
-told-bad l root s never label m e = record { is = e; met = λ f. absurd (clash refl f) }
+pub told-bad : (l : List ℕ) (way : ℕ → ℕ) (s : ℕ) (never label : Bool) (m : List ℕ) → true ≡ badSlotBy l way s never label → SlotTold l way s never label true m
+told-bad l way s never label m e = record { is = e; met = λ f. absurd (clash refl f) }
 
-pub told-last : (l : List ℕ) (root s : ℕ) (never label r : Bool) (m : List ℕ) → NameTold l root s r m → r ≡ badSlotBy l root s never label → SlotTold l root s never label r m
-told-last l root s never label r m told e = record { is = e; met = λ f. told .met }
+pub told-last : (l : List ℕ) (way : ℕ → ℕ) (s : ℕ) (never label r : Bool) (m : List ℕ) → NameTold l way s r m → r ≡ badSlotBy l way s never label → SlotTold l way s never label r m
+told-last l way s never label r m told e = record { is = e; met = λ f. told .met }
+
+-- ---- entries that stand one after the other lie in the image where the last does
+
+pub row-within : (l : List ℕ) (root s : ℕ) → root + 32 * s + 32 ≤ length l → (t : ℕ) → t < s + 1 → slotFrom root t + 32 ≤ length l
+row-within l root s h t k = omega arith

@@ -11,7 +11,6 @@ use Rattle.chains.specs.Aids.Tests.{Says, aye, nay}
 use Rattle.fields.specs.Fields.{nameOf, attrOf}
 use Rattle.directory.specs.Slots.{hasBit, standingOf, isPlain}
 use Rattle.directory.specs.Search.{slotNamed}
-use Rattle.diskette.specs.Places.{slotFrom}
 use Rattle.directory.specs.declared.Standing.{Standing}
 use Rattle.search.specs.Search.{lowest, Answers, isFound}
 use Rattle.search.specs.Laws.Turns.{lowest-hit, lowest-miss}
@@ -40,48 +39,48 @@ module _ (first attr : ℕ) where
       unfolding strange
       strange-80 e b80 is80 = rw (ne-eqb first 0x2E other, ← is10, not10, ← is40, e, is80)
 
--- ---- slot s of a directory that stands at byte root
+-- ---- slot s of a directory
 
-module _ (l : List ℕ) (root s : ℕ) where
-  pub label-tested : (st : Standing) → st ≡ standingOf l (slotFrom root s) → (r : Bool) → r ≡ isLabel st → r ≡ labelSlot l root s
+module _ (l : List ℕ) (way : ℕ → ℕ) (s : ℕ) where
+  pub label-tested : (st : Standing) → st ≡ standingOf l (way s) → (r : Bool) → r ≡ isLabel st → r ≡ labelSlot l way s
   unfolding labelSlot
   label-tested st e r p = p ∙ ap isLabel e
 
-  module _ (st : Standing) (is : st ≡ standingOf l (slotFrom root s)) (live : Bool) (lives : live ≡ isLiveEntry st) where
-    pub strange-open : live ≡ false → false ≡ strangeSlot l root s
+  module _ (st : Standing) (is : st ≡ standingOf l (way s)) (live : Bool) (lives : live ≡ isLiveEntry st) where
+    pub strange-open : live ≡ false → false ≡ strangeSlot l way s
     unfolding strangeSlot
     strange-open f = rw (← is, ← lives, f)
 
-    pub strange-live : live ≡ true → (v : ℕ) → v ≡ attrOf l (slotFrom root s) → (r : Bool) → r ≡ strange (getD l (slotFrom root s) 0) v → r ≡ strangeSlot l root s
+    pub strange-live : live ≡ true → (v : ℕ) → v ≡ attrOf l (way s) → (r : Bool) → r ≡ strange (getD l (way s) 0) v → r ≡ strangeSlot l way s
     unfolding strangeSlot
     strange-live t v e r p = rw (← is, ← lives, t, ← e) p
 
-  module _ (plain : Bool) (is : plain ≡ isPlain (standingOf l (slotFrom root s))) where
-    pub twice-other : plain ≡ false → false ≡ nameTwiceSlot l root s
+  module _ (plain : Bool) (is : plain ≡ isPlain (standingOf l (way s))) where
+    pub twice-other : plain ≡ false → false ≡ nameTwiceSlot l way s
     unfolding nameTwiceSlot
     twice-other f = rw (← is, f)
 
-    pub twice-plain : plain ≡ true → (name : List ℕ) → name ≡ nameOf l (slotFrom root s) → (f : Found) → f ≡ slotNamed l root s name
-        → (r : Bool) → r ≡ isFound f → r ≡ nameTwiceSlot l root s
+    pub twice-plain : plain ≡ true → (name : List ℕ) → name ≡ nameOf l (way s) → (f : Found) → f ≡ slotNamed l way s name
+        → (r : Bool) → r ≡ isFound f → r ≡ nameTwiceSlot l way s
     unfolding nameTwiceSlot
     twice-plain t name e f q r p = rw (← is, t, ← e, ← q) p
 
-  module _ (never label unused : Bool) (is : unused ≡ neverUsedSlot l root s) (after : Bool) (afters : after ≡ (not unused && never)) where
-    pub bad-after : after ≡ true → true ≡ badSlotBy l root s never label
+  module _ (never label unused : Bool) (is : unused ≡ neverUsedSlot l way s) (after : Bool) (afters : after ≡ (not unused && never)) where
+    pub bad-after : after ≡ true → true ≡ badSlotBy l way s never label
     unfolding badSlotBy
     bad-after t = rw (← is, ← afters, t)
 
-    module _ (before : after ≡ false) (odd : Bool) (odds : odd ≡ strangeSlot l root s) where
-      pub bad-strange : odd ≡ true → true ≡ badSlotBy l root s never label
+    module _ (before : after ≡ false) (odd : Bool) (odds : odd ≡ strangeSlot l way s) where
+      pub bad-strange : odd ≡ true → true ≡ badSlotBy l way s never label
       unfolding badSlotBy
       bad-strange t = rw (← is, ← afters, before, ← odds, t)
 
-      module _ (even : odd ≡ false) (labels : Bool) (isl : labels ≡ labelSlot l root s) (second : Bool) (seconds : second ≡ (labels && label)) where
-        pub bad-label : second ≡ true → true ≡ badSlotBy l root s never label
+      module _ (even : odd ≡ false) (labels : Bool) (isl : labels ≡ labelSlot l way s) (second : Bool) (seconds : second ≡ (labels && label)) where
+        pub bad-label : second ≡ true → true ≡ badSlotBy l way s never label
         unfolding badSlotBy
         bad-label t = rw (← is, ← afters, before, ← odds, even, ← isl, ← seconds, t)
 
-        pub bad-name : second ≡ false → (r : Bool) → r ≡ nameTwiceSlot l root s → r ≡ badSlotBy l root s never label
+        pub bad-name : second ≡ false → (r : Bool) → r ≡ nameTwiceSlot l way s → r ≡ badSlotBy l way s never label
         unfolding badSlotBy
         bad-name f r p = rw (← is, ← afters, before, ← odds, even, ← isl, ← seconds, f) p
 
@@ -92,18 +91,18 @@ pub any-more : (p : ℕ → Bool) (s : ℕ) (seen here r : Bool) → r ≡ (seen
 unfolding anyBelow
 any-more p s seen here r q e g = let z : s + 1 ≡ suc s = omega arith in rw (z, anyBelow, ← e, ← g) q
 
-module _ (l : List ℕ) (root s : ℕ) (never label r : Bool) (is : r ≡ badSlotBy l root s never label)
-    (nevers : never ≡ anyBelow (neverUsedSlot l root) s) (labels : label ≡ anyBelow (labelSlot l root) s) where
-  here : r ≡ badSlotAt l root s
+module _ (l : List ℕ) (way : ℕ → ℕ) (s : ℕ) (never label r : Bool) (is : r ≡ badSlotBy l way s never label)
+    (nevers : never ≡ anyBelow (neverUsedSlot l way) s) (labels : label ≡ anyBelow (labelSlot l way) s) where
+  here : r ≡ badSlotAt l way s
   unfolding badSlotAt
   here = is ∙ rw (nevers, labels)
 
-  module _ (count : ℕ) (whole : Found) (left : s < count) (inv : lowest (badSlotAt l root) s (count - s) ≡ whole) where
+  module _ (count : ℕ) (whole : Found) (left : s < count) (inv : lowest (badSlotAt l way) s (count - s) ≡ whole) where
     pub bad-found : r ≡ true → At s ≡ whole
-    bad-found = lowest-hit (badSlotAt l root) s count whole inv left r here
+    bad-found = lowest-hit (badSlotAt l way) s count whole inv left r here
 
-    pub bad-not-here : r ≡ false → lowest (badSlotAt l root) (s + 1) (count - (s + 1)) ≡ whole
-    bad-not-here = lowest-miss (badSlotAt l root) s count whole inv left r here
+    pub bad-not-here : r ≡ false → lowest (badSlotAt l way) (s + 1) (count - (s + 1)) ≡ whole
+    bad-not-here = lowest-miss (badSlotAt l way) s count whole inv left r here
 
 -- ---- a search
 

@@ -7,18 +7,18 @@ use Rattle.chains.specs.Aids.Check.{chainOf}
 use Rattle.chains.specs.Aids.Holders.{Holder, nobody}
 use Rattle.chains.specs.Aids.Lists.{occ}
 use Rattle.chains.specs.Aids.Rows.{rows}
-use Rattle.diskette.specs.Places.{clusterBytes, lastCluster, rootEntries, rootAt, slotFrom}
+use Rattle.diskette.specs.Places.{clusterBytes, lastCluster, rootEntries, slotAt}
 use Rattle.diskette.specs.declared.Kind.{Kind}
 use Rattle.chaincheck.specs.Aids.Entries.{holderAt, entriesOf}
 use Rattle.sound.specs.Files.{valueOf}
 
 -- the addresses of the root's entries
 abbrev pub rootList : Kind → List ℕ
-rootList k = entriesOf (rootAt k) (rootEntries k)
+rootList k = entriesOf (slotAt k) (rootEntries k)
 
 -- the same with their slots
 abbrev pub rootRows : Kind → List (ℕ × ℕ)
-rootRows k = rows (slotFrom (rootAt k)) 0 (rootEntries k)
+rootRows k = rows (slotAt k) 0 (rootEntries k)
 
 -- the holders of the list alone, nobody elsewhere
 unfoldable pub onlyAmong : List ℕ → (ℕ → Holder) → ℕ → Holder

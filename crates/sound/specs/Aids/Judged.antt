@@ -6,7 +6,7 @@ use Rattle.chains.specs.Aids.Check.{chainMarks, inTwo, lost, badValue, checkCha
 use Rattle.chains.specs.Aids.Findings.{Voice}
 use Rattle.chains.specs.Aids.Verdict.{orElse, optional}
 use Rattle.search.specs.Search.{lowest}
-use Rattle.diskette.specs.Places.{lastCluster, clusterBytes, rootAt, rootEntries, copyTwo}
+use Rattle.diskette.specs.Places.{lastCluster, clusterBytes, slotAt, rootEntries, copyTwo}
 use Rattle.diskette.specs.declared.Kind.{Kind}
 use Rattle.diskette.specs.declared.WhichKind.{WhichKind}
 use Rattle.diskette.specs.declared.WhichKind.the-variants.{Known, Unknown}
@@ -20,7 +20,7 @@ use Rattle.sound.specs.declared.Verdict.the-variants.{Finding, Sound}
 
 -- the marks of all chains of the root, in a buffer that has room for any volume's clusters
 unfoldable pub marksOfFiles : Kind → List ℕ → List ℕ
-marksOfFiles k l = chainMarks 4080 (lastCluster k) (valueOf k l) (holderAt (clusterBytes k) l) (entriesOf (rootAt k) (rootEntries k))
+marksOfFiles k l = chainMarks 4080 (lastCluster k) (valueOf k l) (holderAt (clusterBytes k) l) (entriesOf (slotAt k) (rootEntries k))
 
 -- how the answer is said
 abbrev pub voice : Kind → List ℕ → Voice ℕ Verdict
@@ -40,7 +40,7 @@ marksJudged last f m fine =
 -- findings 5 to 7, as the code goes
 unfoldable pub chainsJudged : Kind → List ℕ → ℕ → ℕ → Verdict
 chainsJudged k l free aside =
-    orElse (Finding 5) (optional (lowest (badChainSlot (lastCluster k) (clusterBytes k) l (rootAt k)) 0 (rootEntries k)))
+    orElse (Finding 5) (optional (lowest (badChainSlot (lastCluster k) (clusterBytes k) l (slotAt k)) 0 (rootEntries k)))
     (marksJudged (lastCluster k) (valueOf k l) (marksOfFiles k l) (Sound (fileCount k l) free (heldOf k l) aside))
 
 -- all findings but the first
@@ -48,9 +48,9 @@ unfoldable pub judged : Kind → List ℕ → Verdict
 judged k l =
     orElse (Finding 2) (optional (lowest (differsAt (copyTwo k) l) 0 (512 * k .fat)))
     (orElse (Finding 3) (optional (lowest (badValue (lastCluster k) (valueOf k l)) 2 (lastCluster k - 1)))
-    (orElse (Finding 4) (optional (lowest (badSlotAt l (rootAt k)) 0 (rootEntries k)))
+    (orElse (Finding 4) (optional (lowest (badSlotAt l (slotAt k)) 0 (rootEntries k)))
     (checkChains (lastCluster k) (valueOf k l) (marksOfFiles k l) (voice k l)
-    (optional (lowest (badChainSlot (lastCluster k) (clusterBytes k) l (rootAt k)) 0 (rootEntries k))))))
+    (optional (lowest (badChainSlot (lastCluster k) (clusterBytes k) l (slotAt k)) 0 (rootEntries k))))))
 
 abbrev pub judgedBy : WhichKind → List ℕ → Verdict
 judgedBy (Known k) l = judged k l

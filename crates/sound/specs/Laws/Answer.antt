@@ -11,7 +11,7 @@ use Rattle.chains.specs.Laws.Rows.{found-bad-chain}
 use Rattle.chains.specs.Laws.Verdict.{or-else}
 use Rattle.diskette.specs.Images.{kindOfImage, kindOfArea}
 use Rattle.diskette.specs.Aids.Usable.{Usable}
-use Rattle.diskette.specs.Places.{clusterBytes, lastCluster, rootEntries, rootAt, slotAt, firstData, slotFrom}
+use Rattle.diskette.specs.Places.{clusterBytes, lastCluster, rootEntries, slotAt, firstData}
 use Rattle.diskette.specs.declared.Kind.{Kind}
 use Rattle.diskette.specs.declared.WhichKind.{WhichKind}
 use Rattle.diskette.specs.declared.WhichKind.the-variants.{Known, Unknown}
@@ -54,7 +54,7 @@ judged-answers k l u long =
     or-else ltb (TablesDiffer k l) (Finding 2) (FromValues k l) _ _ (found-difference k l) (λ n2.
     or-else ltb (BadValue k l) (Finding 3) (FromSlots k l) _ _ (found-bad-value G f) (λ n3.
     or-else ltb (BadSlot k l) (Finding 4) (FromChains k l) _ _ (found-bad-slot k l long) (λ n4.
-    chains-answer k u l _ (check-chains ltb G f h (rootRows k) (voice k l) 4080 (omega (arith, u .below-aside)) (slots-once k) _ _ (found-bad-chain G f h (slotFrom (rootAt k)) (rootEntries k)) (λ n5. refl)))))
+    chains-answer k u l _ (check-chains ltb G f h (rootRows k) (voice k l) 4080 (omega (arith, u .below-aside)) (slots-once k) _ _ (found-bad-chain G f h (slotAt k) (rootEntries k)) (λ n5. refl)))))
 
 -- ---- an image, and a system area alone
 

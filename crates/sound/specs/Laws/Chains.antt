@@ -12,7 +12,7 @@ use Rattle.chains.specs.Laws.Holders.{nobody-owns, owns-nobody}
 use Rattle.chains.specs.Laws.Rows.{rows-in, in-rows}
 use Rattle.chains.specs.Laws.Tests.{by-test, clash}
 use Rattle.diskette.specs.Aids.Usable.{Usable}
-use Rattle.diskette.specs.Places.{clusterBytes, lastCluster, rootEntries, rootAt, slotAt, slotFrom}
+use Rattle.diskette.specs.Places.{clusterBytes, lastCluster, rootEntries, slotAt}
 use Rattle.diskette.specs.declared.Kind.{Kind}
 use Rattle.fields.specs.Fields.{startOf, sizeOf}
 use Rattle.directory.specs.Slots.{PlainAt, standingOf, isPlain}
@@ -57,11 +57,11 @@ module _ (k : Kind) (u : Usable k) (l : List ℕ) (h : ℕ → Holder) (at : (s 
   bad-chain-as s = (to, from)
     where
       to : BadChain k l s → Theory.BadChain last f h (rootRows k) s
-      to b = (slotAt k s, in-rows (slotFrom (rootAt k)) 0 (rootEntries k) s (omega arith) (omega (arith, b .0 .below)), λ cs o. b .1 cs (file-owns-chain s cs (b .0) .0 o))
+      to b = (slotAt k s, in-rows (slotAt k) 0 (rootEntries k) s (omega arith) (omega (arith, b .0 .below)), λ cs o. b .1 cs (file-owns-chain s cs (b .0) .0 o))
 
       from : Theory.BadChain last f h (rootRows k) s → BadChain k l s
       from b =
-          let r = rows-in (slotFrom (rootAt k)) 0 (rootEntries k) s (b .0) (b .1) in
+          let r = rows-in (slotAt k) 0 (rootEntries k) s (b .0) (b .1) in
           let i : s < rootEntries k = omega (arith, r .1) in
           let none : (cs : List ℕ) → ¬ Owns last f (h (slotAt k s)) cs = subst (λ (a : ℕ). (cs : List ℕ) → ¬ Owns last f (h a) cs) (r .2) (b .2) in
           elim (dec-plain l (slotAt k s)) [

@@ -9,7 +9,7 @@ use Rattle.chains.specs.Lists.{_∈_}
 use Rattle.chains.specs.Aids.Lists.{occ, Once}
 use Rattle.chains.specs.Laws.Lists.{mem-occ, occ-not, dec-mem}
 use Rattle.chains.specs.Laws.Rows.{row-holder, holder-row, rows-once}
-use Rattle.diskette.specs.Places.{clusterBytes, rootEntries, rootAt, slotAt, slotFrom}
+use Rattle.diskette.specs.Places.{clusterBytes, rootEntries, slotAt}
 use Rattle.diskette.specs.declared.Kind.{Kind}
 use Rattle.directory.specs.Aids.Entries.{SameFields}
 use Rattle.fields.specs.Fields.{startOf, sizeOf}
@@ -49,16 +49,16 @@ module _ (is : List ℕ) (h : ℕ → Holder) (a : ℕ) where
 
 -- its addresses are those of its slots, each once
 pub listed-slot : (k : Kind) (a : ℕ) → a ∈ rootList k → (s : ℕ) × (s < rootEntries k) × (a ≡ slotAt k s)
-listed-slot k a m = let r = row-holder (slotFrom (rootAt k)) 0 (rootEntries k) a m in (r .0, omega (arith, r .2), r .3)
+listed-slot k a m = let r = row-holder (slotAt k) 0 (rootEntries k) a m in (r .0, omega (arith, r .2), r .3)
 
 pub slot-listed : (k : Kind) (s : ℕ) → s < rootEntries k → slotAt k s ∈ rootList k
-slot-listed k s h = holder-row (slotFrom (rootAt k)) 0 (rootEntries k) s (omega arith) (omega arith)
+slot-listed k s h = holder-row (slotAt k) 0 (rootEntries k) s (omega arith) (omega arith)
 
 pub slot-same : (k : Kind) (s t : ℕ) → slotAt k s ≡ slotAt k t → s ≡ t
 slot-same k s t e = omega arith
 
 pub slots-once : (k : Kind) → Once (rootList k)
-slots-once k = rows-once (slotFrom (rootAt k)) (slot-same k) 0 (rootEntries k)
+slots-once k = rows-once (slotAt k) (slot-same k) 0 (rootEntries k)
 
 module _ (k : Kind) (l : List ℕ) where
   pub root-listed : (a : ℕ) → a ∈ rootList k → rootHolders k l a ≡ holderAt (clusterBytes k) l a

@@ -8,7 +8,7 @@ use Rattle.chains.specs.Aids.Check.{badValue, inTwo, lost, checkLost, checkTwo,
 use Rattle.search.specs.Search.{lowest}
 use Rattle.search.specs.declared.Found.{Found}
 use Rattle.search.specs.declared.Found.the-variants.{At, Nothing}
-use Rattle.diskette.specs.Places.{clusterBytes, lastCluster, rootEntries, rootAt, copyTwo}
+use Rattle.diskette.specs.Places.{clusterBytes, lastCluster, rootEntries, rootAt, copyTwo, slotAt, slotFrom}
 use Rattle.diskette.specs.declared.Kind.{Kind}
 use Rattle.table.specs.Entries.{tableOf}
 use Rattle.tablecheck.specs.Aids.Copies.{differsAt}
@@ -61,7 +61,7 @@ unfolding orElse optional
 chains-say Nothing files held r e rest = rw e
 chains-say (At s) files held r e rest = rw e
 
-module _ (k : Kind) (l : List ℕ) (free aside : ℕ) (r : Chains) (e : r ≡ chainsFound (lastCluster k) (clusterBytes k) l (rootAt k) (rootEntries k)) where
+module _ (k : Kind) (l : List ℕ) (free aside : ℕ) (r : Chains) (e : r ≡ chainsFound (lastCluster k) (clusterBytes k) l (slotAt k) (rootEntries k)) where
   said : (elim r as (λ _. Verdict) [ BadChain s ↦ Finding 5 s | Held a b ↦ marksJudged (lastCluster k) (valueOf k l) (marksOfFiles k l) (Sound a free b aside) ]) ≡ chainsJudged k l free aside
   unfolding chainsFound chainsJudged plainSlot heldSlot isFile heldBy
   said = chains-say _ _ _ r e (λ a b. marksJudged (lastCluster k) (valueOf k l) (marksOfFiles k l) (Sound a free b aside))
@@ -74,8 +74,8 @@ module _ (k : Kind) (l : List ℕ) (free aside : ℕ) (r : Chains) (e : r ≡ ch
 
 -- the kind's numbers as the code has them, each in a variable, and what the visit of all files promised
 module _ (k : Kind) (l : List ℕ) (free aside last root count cb : ℕ) (a : last ≡ lastCluster k) (b : root ≡ rootAt k) (c : count ≡ rootEntries k) (d : cb ≡ clusterBytes k)
-    (r : Chains) (after : List ℕ) (v : FilesVisited last cb l root count (replicate 4080 0) r after) where
-  visited : FilesVisited (lastCluster k) (clusterBytes k) l (rootAt k) (rootEntries k) (replicate 4080 0) r after
+    (r : Chains) (after : List ℕ) (v : FilesVisited last cb l (slotFrom root) count (replicate 4080 0) r after) where
+  visited : FilesVisited (lastCluster k) (clusterBytes k) l (slotAt k) (rootEntries k) (replicate 4080 0) r after
   visited = rw (a, b, c, d) at v
 
   pub visited-bad : (s : ℕ) → r ≡ BadChain s → Finding 5 s ≡ chainsJudged k l free aside
@@ -94,12 +94,12 @@ census-says (At c) free aside r e rest = rw e
 
 module _ (k : Kind) (l : List ℕ) where
   -- findings 5 to 7 as the theory of chains has them
-  chains-as : chainsJudged k l (freeOf k l) (asideOf k l) ≡ checkChains (lastCluster k) (valueOf k l) (marksOfFiles k l) (voice k l) (optional (lowest (badChainSlot (lastCluster k) (clusterBytes k) l (rootAt k)) 0 (rootEntries k)))
+  chains-as : chainsJudged k l (freeOf k l) (asideOf k l) ≡ checkChains (lastCluster k) (valueOf k l) (marksOfFiles k l) (voice k l) (optional (lowest (badChainSlot (lastCluster k) (clusterBytes k) l (slotAt k)) 0 (rootEntries k)))
   unfolding chainsJudged marksJudged checkChains checkTwo checkLost
   chains-as = refl
 
   from-slots : ℕ → ℕ → Verdict
-  from-slots free aside = orElse (Finding 4) (optional (lowest (badSlotAt l (rootAt k)) 0 (rootEntries k))) (chainsJudged k l free aside)
+  from-slots free aside = orElse (Finding 4) (optional (lowest (badSlotAt l (slotAt k)) 0 (rootEntries k))) (chainsJudged k l free aside)
 
   judged-as : judged k l ≡ orElse (Finding 2) (optional (lowest (differsAt (copyTwo k) l) 0 (512 * k .fat))) (orElse (Finding 3) (optional (lowest (badValue (lastCluster k) (valueOf k l)) 2 (lastCluster k - 1))) (from-slots (freeOf k l) (asideOf k l)))
   unfolding judged from-slots
@@ -120,11 +120,11 @@ module _ (k : Kind) (l : List ℕ) where
       pub judged-values : (c : ℕ) → s ≡ BadValue c → Finding 3 c ≡ judged k l
       judged-values c p = rw p at after-tables
 
-      module _ (free aside : ℕ) (p : s ≡ Values free aside) (root count : ℕ) (w : root ≡ rootAt k) (z : count ≡ rootEntries k) (t : Found) (h : t ≡ lowest (badSlotAt l root) 0 count) where
+      module _ (free aside : ℕ) (p : s ≡ Values free aside) (root count : ℕ) (w : root ≡ rootAt k) (z : count ≡ rootEntries k) (t : Found) (h : t ≡ lowest (badSlotAt l (slotFrom root)) 0 count) where
         after-values : from-slots free aside ≡ judged k l
         after-values = rw p at after-tables
 
-        slots-say : t ≡ lowest (badSlotAt l (rootAt k)) 0 (rootEntries k)
+        slots-say : t ≡ lowest (badSlotAt l (slotAt k)) 0 (rootEntries k)
         slots-say = rw (w, z) at h
 
         pub judged-slots : (n : ℕ) → t ≡ At n → Finding 4 n ≡ judged k l

@@ -14,7 +14,7 @@ use Rattle.chains.specs.Laws.Sizes.{clusters-zero}
 use Rattle.chains.specs.Laws.Sums.{sum-cong}
 use Rattle.chains.specs.Laws.Tests.{clash}
 use Rattle.diskette.specs.Aids.Usable.{Usable}
-use Rattle.diskette.specs.Places.{clusterBytes, clusters, lastCluster, rootEntries, rootAt, slotFrom}
+use Rattle.diskette.specs.Places.{clusterBytes, clusters, lastCluster, rootEntries, slotAt}
 use Rattle.diskette.specs.declared.Kind.{Kind}
 use Rattle.fields.specs.Fields.{startOf, sizeOf}
 use Rattle.directory.specs.Slots.{standingOf, isPlain}
@@ -43,11 +43,11 @@ module _ (k : Kind) (u : Usable k) (l : List ℕ) where
       go true p = file-exact cb (startOf l a) (sizeOf l a) (rootHolders k l a) (root-listed k l a m ∙ plain-holder cb l a (plain-is l a .0 p)) n e
       go false p = nobody-exact cb (geometry k u .wide) (rootHolders k l a) (root-listed k l a m ∙ no-holder cb l a (λ q. clash (plain-is l a .1 q) p)) n e
 
-  held-slot : (s : ℕ) → clustersFor cb (bytesAt l (slotFrom (rootAt k) s)) ≡ heldBy k l s
+  held-slot : (s : ℕ) → clustersFor cb (bytesAt l (slotAt k s)) ≡ heldBy k l s
   unfolding heldBy isFile
-  held-slot s = go (isPlain (standingOf l (slotFrom (rootAt k) s)))
+  held-slot s = go (isPlain (standingOf l (slotAt k s)))
     where
-      go : (b : Bool) → clustersFor cb (cond b (sizeOf l (slotFrom (rootAt k) s)) 0) ≡ cond b (clustersFor cb (sizeOf l (slotFrom (rootAt k) s))) 0
+      go : (b : Bool) → clustersFor cb (cond b (sizeOf l (slotAt k s)) 0) ≡ cond b (clustersFor cb (sizeOf l (slotAt k s))) 0
       go true = refl
       go false = clusters-zero cb (geometry k u .wide)
 
@@ -55,8 +55,8 @@ module _ (k : Kind) (u : Usable k) (l : List ℕ) where
   pub held-chains : Sound k l → sumOver (rootList k) (λ a. length (rootChains k l a)) ≡ heldOf k l
   held-chains v =
       held-sizes (lastCluster k) cb (valueOf k l) (rootHolders k l) (rootChains k l) (sound-theory k u l (v .0) (v .1)) (bytesAt l) (rootList k) exact
-      ∙ rows-sum (slotFrom (rootAt k)) (λ a. clustersFor cb (bytesAt l a)) 0 (rootEntries k)
-      ∙ sum-cong (rootEntries k) _ _ (λ s i. ap (λ (x : ℕ). clustersFor cb (bytesAt l (slotFrom (rootAt k) x))) (zero-more s) ∙ held-slot s)
+      ∙ rows-sum (slotAt k) (λ a. clustersFor cb (bytesAt l a)) 0 (rootEntries k)
+      ∙ sum-cong (rootEntries k) _ _ (λ s i. ap (λ (x : ℕ). clustersFor cb (bytesAt l (slotAt k x))) (zero-more s) ∙ held-slot s)
     where
       zero-more : (s : ℕ) → s + 0 ≡ s
       zero-more s = omega arith

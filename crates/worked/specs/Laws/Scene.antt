@@ -10,7 +10,7 @@ use Rattle.image.specs.Bytes.{Bytes}
 use Rattle.image.specs.Numbers.{number, digits}
 use Rattle.diskette.specs.Kinds.{named, kindFE}
 use Rattle.diskette.specs.Aids.Usable.{Usable}
-use Rattle.diskette.specs.Places.{rootAt, rootEntries, slotAt}
+use Rattle.diskette.specs.Places.{rootEntries, slotAt}
 use Rattle.diskette.specs.Laws.Kinds.{named-usable}
 use Rattle.search.specs.declared.Found.the-variants.{At, Nothing}
 use Rattle.fields.specs.Fields.{withEntry}
@@ -59,14 +59,14 @@ may : badAttr 0 ≡ false
 unfolding badAttr
 may = refl
 
-missing : slotNamed (blank kindFE) (rootAt kindFE) (rootEntries kindFE) (nameGiven given .name) ≡ Nothing
+missing : slotNamed (blank kindFE) (slotAt kindFE) (rootEntries kindFE) (nameGiven given .name) ≡ Nothing
 unfolding fileFound
 missing = rw (on-kind (blank kindFE) kindFE on-blank) at (none-of-name kindFE (blank kindFE) on-blank (λ s. none) (blank-no-file kindFE usable) given (fits .1) no-other)
   where
     no-other : (t : ℕ) (f : File) → none ≡ some f → f .name ≡ nameGiven given .name → ⊥
     no-other t f e q = let z : _≡_ {A = ℕ} 0 1 = cc (e) in omega arith
 
-vacant : lowestVacant (blank kindFE) (rootAt kindFE) (rootEntries kindFE) ≡ At 0
+vacant : lowestVacant (blank kindFE) (slotAt kindFE) (rootEntries kindFE) ≡ At 0
 unfolding slotForNew
 vacant = rw (on-kind (blank kindFE) kindFE on-blank) at
     (lowest-vacant kindFE (blank kindFE) on-blank (λ s. none) (blank-no-file kindFE usable) 0 (omega arith) (λ t h. absurd (omega arith)) (blank-slot kindFE usable 0 (omega arith)))
@@ -85,7 +85,7 @@ made = new-holds kindFE (blank kindFE) on-blank bytes given (fits .0) 0 may 0 0 
 abbrev table : List ℕ
 table = recordBytes true 2 0 10 false
 
-live : LivePlace table 0 image (rootAt kindFE) (rootEntries kindFE)
+live : LivePlace table 0 image (slotAt kindFE) (rootEntries kindFE)
 unfolding usedOf accessOf slotOf recordBytes number digits
 live = record { counted = omega arith; used = refl; access = omega arith; slot = omega arith; plain = made .is-file .plain }
 

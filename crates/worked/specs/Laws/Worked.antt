@@ -9,7 +9,7 @@ use Rattle.chains.specs.Content.{clusterBegin}
 use Rattle.chains.specs.Sizes.{clustersFor}
 use Rattle.chains.specs.Laws.Tests.{true-says}
 use Rattle.diskette.specs.Images.{kindOfImage}
-use Rattle.diskette.specs.Places.{rootAt, rootEntries}
+use Rattle.diskette.specs.Places.{slotAt, rootEntries}
 use Rattle.diskette.specs.Laws.Images.{image-of-kind}
 use Rattle.diskette.specs.declared.WhichKind.the-variants.{Known}
 use Rattle.values.specs.Bits.{taken, kept}
@@ -43,8 +43,8 @@ module _ (x : Scene) where
 
   reached : notLive (x .image) (x .table) (x .handle) ≡ false
   reached =
-      let at = live-slot-at (x .table) (x .handle) (x .image) (rootAt (x .kind)) (rootEntries (x .kind)) (x .live) in
-      live-passed (x .image) (x .kind) (x .table) (x .handle) (liveSlot (x .table) (x .handle) (x .image) (rootAt (x .kind)) (rootEntries (x .kind))) refl
+      let at = live-slot-at (x .table) (x .handle) (x .image) (slotAt (x .kind)) (rootEntries (x .kind)) (x .live) in
+      live-passed (x .image) (x .kind) (x .table) (x .handle) (liveSlot (x .table) (x .handle) (x .image) (slotAt (x .kind)) (rootEntries (x .kind))) refl
       (slotOf (x .table) (x .handle)) at on
 
   close-refused : (s : Stamp) → packed s ≡ OutOfRange → closeAnswer x s ≡ refused outOfRange

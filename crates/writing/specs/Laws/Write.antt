@@ -7,7 +7,7 @@ use mathlib.Core.Path.{_≡_, refl, sym, ap, _∙_}
 use lib.Dec.{eqb}
 use lib.ListN.{length, take}
 use borrow.Author.Tests.{eq-eqb, ne-eqb}
-use Rattle.diskette.specs.Places.{clusterBytes, rootAt, rootEntries}
+use Rattle.diskette.specs.Places.{clusterBytes, slotAt, rootEntries}
 use Rattle.diskette.specs.declared.Kind.{Kind}
 use Rattle.search.specs.declared.Found.{Found}
 use Rattle.search.specs.declared.Found.the-variants.{At}
@@ -94,7 +94,7 @@ module _ (img t : List ℕ) (h : ℕ) (bs : List ℕ) (a : Answer) where
   unfolding writeOutcome
   write-refused n x q = record { is = rw x (sym (stopped _ n q _ img t [])) }
 
-  pub write-well : (k : Kind) → OnVolume img k → (f : Found) → f ≡ liveSlot t h img (rootAt k) (rootEntries k) → (slot : ℕ) → f ≡ At slot
+  pub write-well : (k : Kind) → OnVolume img k → (f : Found) → f ≡ liveSlot t h img (slotAt k) (rootEntries k) → (slot : ℕ) → f ≡ At slot
       → (access : ℕ) → access ≡ accessOf t h → access ≢ 0 → (l m : List ℕ) → WritesAt k img t slot h bs a l m → Writes img t h bs a l m
   unfolding writeOutcome writeEffect writeAt decided refusal
   write-well k v f found slot at access has may l m y = record {

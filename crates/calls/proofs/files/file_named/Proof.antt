@@ -1,6 +1,6 @@
 -- The root of a ready volume stands within its image.
 use Rattle.calls.specs.Laws.Ready.{on-usable}
-use Rattle.calls.specs.Laws.Files.{root-within}
+use Rattle.calls.specs.Laws.Files.{root-within, named-in-root}
 use Rattle.calls.proofs.files.file_named.Statement.{statement}
 use Rattle.calls.proofs.files.file_named.Tie as tie
 
@@ -14,7 +14,7 @@ slot-named-requires : tie.Need-slot-named-requires
 slot-named-requires c κs = search root-within
 
 returns : tie.Need-returns
-returns c = cc
+returns c = search named-in-root
 
 pub file-named-spec : {M : Type 1} → statement M
 file-named-spec =

@@ -1,6 +1,6 @@
 -- The root of a ready volume stands within its image.
 use Rattle.calls.specs.Laws.Ready.{on-usable}
-use Rattle.calls.specs.Laws.Files.{root-within}
+use Rattle.calls.specs.Laws.Files.{root-within, live-in-root}
 use Rattle.calls.proofs.files.file_open.Statement.{statement}
 use Rattle.calls.proofs.files.file_open.Tie as tie
 
@@ -14,7 +14,7 @@ live-slot-requires : tie.Need-live-slot-requires
 live-slot-requires c κs = search root-within
 
 returns : tie.Need-returns
-returns c = cc
+returns c = search live-in-root
 
 pub file-open-spec : {M : Type 1} → statement M
 file-open-spec =

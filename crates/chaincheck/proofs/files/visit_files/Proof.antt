@@ -4,13 +4,14 @@ use Prim.Native.Nat.{_-_}
 use mathlib.Core.Logic.{⊎-elim}
 use mathlib.Core.Path.{_≡_}
 use lib.ListN.{length}
+use Rattle.diskette.specs.Places.{slotFrom}
 use Rattle.chaincheck.specs.Aids.Visits.{Underway}
 use Rattle.chaincheck.specs.Laws.FileTurns.{files-begin, files-done, files-bad, files-skip, files-add, held-fits}
 use Rattle.chaincheck.proofs.files.visit_files.Statement.{statement}
 use Rattle.chaincheck.proofs.files.visit_files.Tie as tie
 
 abbrev Inv-loop : tie.InvT-loop
-Inv-loop img marks₀ left₀ root count last cb files₀ held₀ s₀ marks left files held s = (length left ≡ length left₀) × Underway last cb img root count marks₀ s files held marks left
+Inv-loop img marks₀ left₀ root count last cb files₀ held₀ s₀ marks left files held s = (length left ≡ length left₀) × Underway last cb img (slotFrom root) count marks₀ s files held marks left
 
 abbrev μ-loop : tie.MeasureT-loop
 μ-loop img marks₀ left₀ root count last cb files₀ held₀ s₀ marks left files held s = count - s

@@ -1,6 +1,6 @@
 -- The root of a ready volume stands within its image.
 use Rattle.calls.specs.Laws.Ready.{on-usable}
-use Rattle.calls.specs.Laws.Files.{root-within}
+use Rattle.calls.specs.Laws.Files.{root-within, vacant-in-root}
 use Rattle.creating.proofs.create.slot_for_new.Statement.{statement}
 use Rattle.creating.proofs.create.slot_for_new.Tie as tie
 
@@ -14,7 +14,7 @@ lowest-vacant-requires : tie.Need-lowest-vacant-requires
 lowest-vacant-requires c κs = search root-within
 
 returns : tie.Need-returns
-returns c = cc
+returns c = search vacant-in-root
 
 pub slot-for-new-spec : {M : Type 1} → statement M
 slot-for-new-spec =

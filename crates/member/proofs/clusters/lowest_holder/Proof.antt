@@ -3,13 +3,14 @@ use Prim.Native.Nat.{_-_}
 use mathlib.Core.Path.{_≡_}
 use Rattle.search.specs.Search.{lowest}
 use Rattle.search.specs.Laws.Turns.{lowest-hit, lowest-miss, lowest-done}
+use Rattle.diskette.specs.Places.{slotFrom}
 use Rattle.member.specs.Clusters.{slotHolds}
 use borrow.Author.Needs.{needs}
 use Rattle.member.proofs.clusters.lowest_holder.Statement.{statement}
 use Rattle.member.proofs.clusters.lowest_holder.Tie as tie
 
 abbrev Inv-loop : tie.InvT-loop
-Inv-loop img last n root count c from slot₀ slot = lowest (slotHolds last n img root c) slot (count - slot) ≡ lowest (slotHolds last n img root c) from (count - from)
+Inv-loop img last n root count c from slot₀ slot = lowest (slotHolds last n img (slotFrom root) c) slot (count - slot) ≡ lowest (slotHolds last n img (slotFrom root) c) from (count - from)
 
 abbrev μ-loop : tie.MeasureT-loop
 μ-loop img last n root count c from slot₀ slot = count - slot
