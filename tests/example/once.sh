@@ -1,4 +1,4 @@
-# Sourced by run: a weighing that is stored is never called not stored, and never stored twice.
+# Sourced by run: a weighing that is stored is never called not stored, never stored twice, and is a line of its own.
 # shellcheck shell=bash disable=SC2154
 
 # once TIME GRAMS: the last weighing is on the disk, and given again it is not stored again.
