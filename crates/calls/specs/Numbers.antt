@@ -1,4 +1,4 @@
--- The refusal numbers of document 01, "in order of test", and of document 02: each once, by a name that the rows of the calls use.
+-- The refusal numbers of documents 01 and 02: each once, by a name that the rows of the calls use. The rows have the order of test.
 use Prim.Native.Nat.{ℕ}
 
 -- ---- "Numbers 1 to 12 have the meaning of its Error Return Table"
@@ -43,7 +43,7 @@ ofNoKind = 40
 abbrev pub unsound : ℕ
 unsound = 41
 
--- a name breaks the rules
+-- a name breaks the rules; a bad pattern
 abbrev pub breaksRules : ℕ
 breaksRules = 42
 

@@ -18,7 +18,7 @@ pub const NO_MORE_FILES: u32 = 18;
 pub const OF_NO_KIND: u32 = 40;
 // Volume not sound.
 pub const UNSOUND: u32 = 41;
-// A name breaks the rules.
+// A name breaks the rules; a bad pattern.
 pub const BREAKS_RULES: u32 = 42;
 // A stamp out of its ranges.
 pub const OUT_OF_RANGE: u32 = 43;

@@ -1,4 +1,4 @@
--- The first finding in order, at its lowest place. Places may differ from finding to finding.
+-- The first finding in order, at its lowest place. What a place is may differ from finding to finding.
 use mathlib.Core.Path.{_≡_}
 use mathlib.Core.Logic.{_⊎_}
 use mathlib.Core.Bool.{Bool}

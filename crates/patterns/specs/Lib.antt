@@ -1,4 +1,4 @@
--- Patterns given by callers. Read Patterns; the laws are for the proofs.
+-- Patterns given by callers. Read Patterns; aids and laws are for the proofs.
 pub mod Patterns
 pub mod Aids
 pub mod Laws

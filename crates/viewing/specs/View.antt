@@ -18,7 +18,7 @@ use Rattle.holding.specs.Holding.{fileChain}
 abbrev pub viewCount : ℕ → ℕ → ℕ → ℕ
 viewCount cb size offset = min (cb - offset % cb) (size - offset)
 
--- the part of the image, from where that byte of the file in a slot lies
+-- the part of the image, from where byte offset of the file in a slot lies
 unfoldable pub viewPart : Kind → List ℕ → ℕ → ℕ → List ℕ
 viewPart k img slot offset =
     let at = byteAt (512 * firstData k) (clusterBytes k) (fileChain k img slot) offset in
