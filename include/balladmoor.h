@@ -29,7 +29,7 @@ extern "C" {
 #endif
 
 /* The version of header and archive, also in the file VERSION. */
-#define BM_VERSION "1.0.0"
+#define BM_VERSION "1.1.0"
 
 /* The two halves of an answer. */
 #define BM_NUMBER(answer) ((uint32_t)((uint64_t)(answer) >> 32))
@@ -109,16 +109,17 @@ extern "C" {
 #define BM_LABEL 0x08u /* the label's: no caller may give it */
 #define BM_ARCHIVE 0x20u
 
-/* Refusal numbers: 1 to 12 as in the DOS manual's error return table, then this code's own. */
+/* Refusal numbers: 1 to 18 as in the DOS manual's error return table, then this code's own. */
 #define BM_INVALID_FUNCTION 1u /* no such seek method or mode function; a seek that leads below 0 or too far */
 #define BM_FILE_NOT_FOUND 2u   /* no such plain file */
 #define BM_TOO_MANY_OPEN 4u    /* no unused place */
 #define BM_ACCESS_DENIED 5u    /* see each call */
 #define BM_INVALID_HANDLE 6u   /* the handle is not live: not used, or it names no file of this volume */
 #define BM_INVALID_ACCESS 12u  /* no such access */
+#define BM_NO_MORE_FILES 18u   /* no file at or after the slot matches */
 #define BM_NOT_OF_A_KIND 40u   /* the image is of no kind */
 #define BM_NOT_SOUND 41u       /* bm_check finds something */
-#define BM_BAD_NAME 42u        /* a name breaks the rules */
+#define BM_BAD_NAME 42u        /* a name or a pattern breaks the rules */
 #define BM_BAD_STAMP 43u       /* a time or date out of its ranges */
 
 /* Makes a blank volume.
@@ -171,6 +172,26 @@ uint64_t bm_entry(const uint8_t *image, size_t image_length, uint32_t slot, uint
  * A name is its characters, without a byte 0 at the end: 1 to 8, then optionally a dot and 0 to 3 more; letters (small
  * ones become capitals), digits and $ & # @ ! % ' ( ) - { } _. A stamp is six numbers: hour 0-23, minute 0-59, step (of
  * two seconds) 0-29, year (from 1980) 0-119, month 1-12, day 1-31. */
+
+/* Finds a file by a pattern: the first at or after a slot that matches. bm_entry tells more of it.
+ *
+ * A pattern is spelled as a name is, and may have ? and * too. ? matches any one byte of the 11 that a name has, padding
+ * included; * stands last in its part, counts as one of its 8 or 3 characters, and matches all the rest of the part. So
+ * DAY???.LOG matches DAY1.LOG, *.* matches every name, and * alone only names without an extension. A pattern without ?
+ * and * matches the file of that name. A hidden or a system file matches only if mask has BM_HIDDEN or BM_SYSTEM, and one
+ * that is both only if it has both; the other bits of mask don't matter. The label is never found. All matches, once each:
+ *
+ *     answer = bm_find(image, length, pattern, pattern_length, 0, mask);
+ *     while (BM_NUMBER(answer) == 0) {
+ *         .. the file in slot BM_VALUE(answer) ..
+ *         answer = bm_find(image, length, pattern, pattern_length, BM_VALUE(answer) + 1, mask);
+ *     }
+ *
+ * Value: the slot.
+ * Refusals: 40, 41; 42; 18 if no file at or after slot matches, and for a slot that is out of range. The image is only
+ * read. */
+uint64_t bm_find(const uint8_t *image, size_t image_length, const uint8_t *pattern, size_t pattern_length,
+                 uint32_t slot, uint32_t mask);
 
 /* Opens a file, hidden and system ones too, with the pointer at 0. It takes the lowest unused place.
  *

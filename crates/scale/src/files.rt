@@ -1,7 +1,8 @@
-// The calls over an open table, view's number and rescue: a file's name and the table are byte slices too.
+// The calls over an open table, find, view's number and rescue: a name, a pattern and the table are byte slices too.
 ghost use mathlib.Core.List.{[]};
 ghost use Rattle.closing.specs.Close.{closeOutcome};
 ghost use Rattle.marking.specs.Mode.{modeOutcome};
+ghost use Rattle.matching.specs.Find.{findOutcome};
 ghost use Rattle.opening.specs.Open.{openOutcome};
 ghost use Rattle.renaming.specs.Rename.{renameOutcome};
 ghost use Rattle.seeking.specs.Seek.{seekOutcome};
@@ -12,6 +13,14 @@ ghost use Rattle.rescuing.specs.Rescue.{rescueOutcome};
 ghost use Rattle.writing.specs.Write.{writeOutcome};
 ghost use Rattle.packing.specs.Stamps.{stampOf};
 ghost use Rattle.scale.specs.Calls.{Leaves, viewNumberCall};
+
+// Finds the first file at or after a slot that matches a pattern: the value is its slot.
+#[no_mangle]
+pub extern "C" fn bm_find(img: &[u8], pattern: &[u8], slot: u32, mask: u32) -> u64
+    ensures { λ r. ⌜ Leaves (findOutcome (now (img .entry)) (now (pattern .entry)) slot mask) r (now (img .entry)) [] [] ⌝ }
+{
+    packing::answer::hand(matching::find::find(img, pattern, slot, mask))
+}
 
 // Opens a file: the value is its handle.
 #[no_mangle]
