@@ -5,6 +5,7 @@ use mathlib.Core.List.{List, [], _∷_}
 use lib.IntN.{ℤ}
 use Rattle.stamps.specs.declared.Stamp.{Stamp}
 use Rattle.calls.specs.Outcome.{Outcome, outcome}
+use Rattle.matching.specs.Find.{findOutcome}
 use Rattle.opening.specs.Open.{openOutcome}
 use Rattle.seeking.specs.Seek.{seekOutcome}
 use Rattle.closing.specs.Close.{closeOutcome}
@@ -32,6 +33,7 @@ pub data Look : Type 0 where
   check : Look
   countFree : Look
   tellEntry : ℕ → Look
+  find : List ℕ → ℕ → ℕ → Look
   view : List ℕ → ℕ → Look
   rescue : List ℕ → List ℕ → Look
 
@@ -69,6 +71,7 @@ abbrev pub lookOutcome : Look → List ℕ → Outcome
 lookOutcome check img = checkCall img []
 lookOutcome countFree img = freeSpaceCall img []
 lookOutcome (tellEntry slot) img = entryCall img slot []
+lookOutcome (find pattern slot mask) img = findOutcome img pattern slot mask
 lookOutcome (view name offset) img = viewOutcome img name offset
 lookOutcome (rescue name out) img = rescueOutcome img name out
 
