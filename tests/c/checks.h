@@ -58,6 +58,7 @@ void lay_out_listing(uint8_t *image);
 /* ---- The tests ---- */
 
 void try_volumes(void);
+void try_find(void);
 void try_files(void);
 void try_contents(void);
 

@@ -220,12 +220,6 @@ static void rescues(struct desk *d, const char *name, size_t length, size_t coun
     free(out.all);
 }
 
-/* Changes a byte of the image, and what it must be. */
-static void spoil(struct desk *d, size_t at, uint8_t byte)
-{
-    d->image.bytes[at] = d->wanted_image.bytes[at] = byte;
-}
-
 static void try_rescue(void)
 {
     struct desk d = new_desk(lay_out_scattered, 0);

@@ -68,10 +68,20 @@ uint8_t *wanted_slot(struct desk *desk, unsigned slot)
     return desk->wanted_image.bytes + ROOT + 32 * slot;
 }
 
+void spoil(struct desk *desk, size_t at, uint8_t byte)
+{
+    desk->image.bytes[at] = desk->wanted_image.bytes[at] = byte;
+}
+
 const struct stamp morning = {6, 40, 0, 3, 9, 1};
 const struct stamp evening = {18, 5, 29, 3, 9, 1};
 
 #define STAMP stamp->hour, stamp->minute, stamp->step, stamp->year, stamp->month, stamp->day
+
+uint64_t find_file(struct desk *desk, const char *pattern, uint32_t slot, uint32_t mask)
+{
+    return bm_find(IMAGE, NAME(pattern), slot, mask);
+}
 
 uint64_t open_file(struct desk *desk, const char *name, uint32_t access)
 {

@@ -28,7 +28,10 @@ void set_record(struct desk *desk, unsigned place, uint8_t access, uint8_t writt
 
 uint8_t *wanted_slot(struct desk *desk, unsigned slot);
 
-/* ---- The calls on a desk, with names as C strings ---- */
+/* Changes a byte of the image, and what it must be. */
+void spoil(struct desk *desk, size_t at, uint8_t byte);
+
+/* ---- The calls on a desk, with names and patterns as C strings ---- */
 
 struct stamp {
     uint32_t hour, minute, step, year, month, day;
@@ -41,6 +44,7 @@ extern const struct stamp evening; /* 1983-09-01 18:05:58 is 90BD and 0721 */
 #define TABLE desk->table.bytes, desk->table.length
 #define NAME(name) (const uint8_t *)(name), strlen(name)
 
+uint64_t find_file(struct desk *desk, const char *pattern, uint32_t slot, uint32_t mask);
 uint64_t open_file(struct desk *desk, const char *name, uint32_t access);
 uint64_t create_file(struct desk *desk, const char *name, uint32_t attribute, const struct stamp *stamp);
 uint64_t read_file(struct desk *desk, uint32_t handle, uint8_t *buffer, size_t length);

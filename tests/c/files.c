@@ -1,5 +1,5 @@
 /* The calls on the files of a volume: open, create, close, delete, rename and file mode; and volumes that every call
- * over an open table refuses. After each call the whole image and the whole table are compared with what they must be.
+ * on files but rescue refuses. After each call the whole image and the whole table are compared with what they must be.
  */
 #include "desk.h"
 
@@ -246,7 +246,7 @@ static void try_mode(void)
     put_away(&d);
 }
 
-/* ---- Volumes that every call refuses ---- */
+/* ---- Volumes that every call but rescue refuses ---- */
 
 /* What else came in would be refused too, by a number that is tested later. */
 static void refuse_all(struct desk *d, uint32_t number, const char *what)
@@ -254,6 +254,7 @@ static void refuse_all(struct desk *d, uint32_t number, const char *what)
     static const struct stamp bad = {24, 0, 0, 0, 0, 0};
     struct block buffer = new_block(8);
     printf("-- %s\n", what);
+    leaves(d, find_file(d, "**", 64, 0), number, 0, "find");
     leaves(d, open_file(d, "*", 3), number, 0, "open");
     leaves(d, create_file(d, "*", 0xFF, &bad), number, 0, "create");
     leaves(d, read_file(d, 99, buffer.bytes, 8), number, 0, "read");
@@ -271,9 +272,9 @@ static void refuse_all(struct desk *d, uint32_t number, const char *what)
 static void try_refused_volumes(void)
 {
     struct desk d = new_desk(lay_out_scattered, BM_TABLE_SIZE(2));
-    d.image.bytes[COPY_2 + 400] = d.wanted_image.bytes[COPY_2 + 400] = 1;
+    spoil(&d, COPY_2 + 400, 1);
     refuse_all(&d, BM_NOT_SOUND, "a volume that is not sound: 41");
-    d.image.bytes[COPY_1] = d.wanted_image.bytes[COPY_1] = 0xFD;
+    spoil(&d, COPY_1, 0xFD);
     refuse_all(&d, BM_NOT_OF_A_KIND, "an image of no kind: 40");
     put_away(&d);
 }
@@ -284,6 +285,8 @@ static void try_null_runs(void)
     const struct desk *desk = &d;
     puts("-- NULL with length 0");
     set_record(&d, 0, 2, 0, DAY, 7);
+    leaves(&d, bm_find(NULL, 0, NAME("TARE.KEY"), 0, 0), BM_NOT_OF_A_KIND, 0, "find without an image: 40");
+    leaves(&d, bm_find(IMAGE, NULL, 0, 0, 0), BM_BAD_NAME, 0, "find without a pattern: 42");
     leaves(&d, bm_open(NULL, 0, TABLE, NAME("TARE.KEY"), 0), BM_NOT_OF_A_KIND, 0, "open without an image: 40");
     leaves(&d, bm_open(IMAGE, NULL, 0, NAME("TARE.KEY"), 0), BM_TOO_MANY_OPEN, 0, "open without a table: 4");
     leaves(&d, bm_open(IMAGE, TABLE, NULL, 0, 0), BM_BAD_NAME, 0, "open without a name: 42");

@@ -219,40 +219,51 @@ static void any_name(uint8_t *name)
         name[--n] = ' ';
 }
 
-/* Opens the one file of a volume, whose stored name is this, by its text. The answer's number, or 99 for another file. */
-static uint32_t opened_by_text(const uint8_t *name, char *text)
+static uint8_t volume[BM_IMAGE_SIZE_FE];
+
+/* The volume has the file of this stored name in slot 1. */
+static void lay_out_name(const uint8_t *name)
 {
-    static uint8_t image[BM_IMAGE_SIZE_FE];
+    lay_out_blank(&kinds[0], volume);
+    put_entry(volume + ROOT, "ANOTHER    ", 0, 0, 0, 0);
+    put_entry(volume + ROOT + 32, (const char *)name, 0, 0, 0, 0);
+}
+
+/* Opens that file by its text. The answer's number, or 99 for another file. */
+static uint32_t opened_by_text(const char *text)
+{
     uint8_t table[BM_TABLE_SIZE(1)] = {0};
-    uint64_t answer;
-    lay_out_blank(&kinds[0], image);
-    put_entry(image + ROOT, "ANOTHER    ", 0, 0, 0, 0);
-    put_entry(image + ROOT + 32, (const char *)name, 0, 0, 0, 0);
-    bm_name_text(name, text);
-    answer = bm_open(image, sizeof image, table, sizeof table, NAME(text), BM_READ);
+    uint64_t answer = bm_open(volume, sizeof volume, table, sizeof table, NAME(text), BM_READ);
     return BM_NUMBER(answer) == 0 && table[BM_RECORD_SLOT] != 1 ? 99 : BM_NUMBER(answer);
 }
 
-/* A text without ? finds its file. Any other is refused by 42, and so is one with nothing before the extension. */
+/* A text without ? opens its file. Any other is refused by 42, and so is one with nothing before the extension. With
+ * something before it, a text is a pattern that matches its file. */
 static void try_names_opened(void)
 {
-    int n, found = 0, refused = 0;
+    int n, found = 0, refused = 0, matched = 0;
     srand(1);
     for (n = 0; n < 2000; n++) {
         uint8_t name[11];
         char text[13];
         uint32_t number;
+        int begins;
         any_name(name);
         if (name[0] == '.')
             continue;
-        number = opened_by_text(name, text);
-        if (strchr(text, '?') == NULL && text[0] != '.' && text[0] != '\0')
+        lay_out_name(name);
+        bm_name_text(name, text);
+        begins = text[0] != '.' && text[0] != '\0';
+        number = opened_by_text(text);
+        matched += answers(bm_find(volume, sizeof volume, NAME(text), 1, 0), 0, 1) == begins ? 1 : -2000;
+        if (strchr(text, '?') == NULL && begins)
             found += number == 0 ? 1 : -2000;
         else
             refused += number == BM_BAD_NAME ? 1 : -2000;
     }
     expect(found > 500, "a text without ? opens its file");
     expect(refused > 500, "any other is refused by 42");
+    expect(matched > 1000, "each is a pattern for its file, if something stands before the dot");
 }
 
 /* ---- Sentences ---- */
@@ -265,6 +276,7 @@ static const uint32_t numbers[] = {
     BM_ACCESS_DENIED,
     BM_INVALID_HANDLE,
     BM_INVALID_ACCESS,
+    BM_NO_MORE_FILES,
     BM_NOT_OF_A_KIND,
     BM_NOT_SOUND,
     BM_BAD_NAME,

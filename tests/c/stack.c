@@ -71,6 +71,7 @@ static const char *name;
     CALL(bm_check_system, (IMAGE, buffer, BM_COUNTS_SIZE))            \
     CALL(bm_free_space, (IMAGE, buffer, BM_SPACE_SIZE))               \
     CALL(bm_entry, (IMAGE, 0, buffer, BM_ENTRY_SIZE))                 \
+    CALL(bm_find, (IMAGE, NAME(name), 0, BM_HIDDEN))                  \
     CALL(bm_open, (IMAGE, TABLE, NAME(name), BM_READ))                \
     CALL(bm_create, (IMAGE, TABLE, NAME(name), 0, STAMP))             \
     CALL(bm_read, (IMAGE, TABLE, 0, buffer, sizeof buffer))           \
@@ -135,18 +136,20 @@ static void lay_out(int volume, uint8_t slot, unsigned pointer)
     put16(table + BM_RECORD_POINTER, pointer);
 }
 
-/* The deepest of all volumes, names, pointers and paints; *well is whether the call ended well at least once. */
+/* The deepest of all volumes, names, pointers and paints; *well is whether the call ended well at least once. The last
+ * two names are none: as patterns one is good, one bad. */
 static size_t deepest(void (*make)(void), int *well)
 {
-    static const char *const names[] = {"F0", "F2", "MISSING", "A?"};
+    static const char *const names[] = {"F0", "F2", "MISSING", "?1*", "**"};
+    enum { NAMES = sizeof names / sizeof names[0], NAMED = VOLUMES * NAMES };
     size_t most = 0;
     int n;
     *well = 0;
-    for (n = 0; n < VOLUMES * 4 * 2 * 2 * 2; n++) {
+    for (n = 0; n < NAMED * 2 * 2 * 2; n++) {
         size_t depth;
-        name = names[n / VOLUMES % 4];
-        lay_out(n % VOLUMES, (uint8_t)(n / (VOLUMES * 4) % 2 * 3), n / (VOLUMES * 8) % 2 * 60000u);
-        depth = depth_of(make, n / (VOLUMES * 16) == 0 ? 0xA5 : 0x5A);
+        name = names[n / VOLUMES % NAMES];
+        lay_out(n % VOLUMES, (uint8_t)(n / NAMED % 2 * 3), n / (NAMED * 2) % 2 * 60000u);
+        depth = depth_of(make, n / (NAMED * 4) == 0 ? 0xA5 : 0x5A);
         most = depth > most ? depth : most;
         *well = *well || BM_NUMBER(answer) == 0;
     }
