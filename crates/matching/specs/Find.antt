@@ -22,12 +22,12 @@ abbrev pub bitShows : ℕ → ℕ → ℕ → Bool
 bitShows mask attr b = not (hasBit attr b) || hasBit mask b
 
 -- "Hidden and system files show only if the mask has their bits; read-only and archive never matter"
-unfoldable pub shown : ℕ → ℕ → Bool
-shown mask attr = bitShows mask attr 0x02 && bitShows mask attr 0x04
+unfoldable pub shownBy : ℕ → ℕ → Bool
+shownBy mask attr = bitShows mask attr 0x02 && bitShows mask attr 0x04
 
 -- the entry at byte a is a plain file that shows and whose name matches
 unfoldable pub isMatch : List ℕ → ℕ → List ℕ → ℕ → Bool
-isMatch l a pattern mask = isPlain (standingOf l a) && (shown mask (attrOf l a) && matches pattern (nameOf l a))
+isMatch l a pattern mask = isPlain (standingOf l a) && (shownBy mask (attrOf l a) && matches pattern (nameOf l a))
 
 -- the same in words
 pub record MatchAt (l : List ℕ) (a : ℕ) (pattern : List ℕ) (mask : ℕ) : Type 0 where

@@ -10,7 +10,7 @@ ghost use mathlib.Core.Path.{_≡_};
 ghost use lib.ListN.{length};
 ghost use Rattle.diskette.specs.Places.{rootEntries, slotAt};
 ghost use Rattle.calls.specs.Aids.Ready.{OnVolume};
-ghost use Rattle.matching.specs.Find.{bitShows, shown, isMatch, matchFrom, Finds};
+ghost use Rattle.matching.specs.Find.{bitShows, shownBy, isMatch, matchFrom, Finds};
 
 // Whether the bit of worth b, a power of two, is no bit of the file or one of the mask.
 fn bit_shows(mask: u32, attr: u8, b: u8) -> bool
@@ -25,7 +25,7 @@ fn bit_shows(mask: u32, attr: u8, b: u8) -> bool
 
 // Whether the mask has what hidden and system files need to show.
 fn is_shown(mask: u32, attr: u8) -> bool
-    ensures { λ r. ⌜ r ≡ shown mask attr ⌝ }
+    ensures { λ r. ⌜ r ≡ shownBy mask attr ⌝ }
 {
     if !bit_shows(mask, attr, 0x02) {
         return false;

@@ -24,7 +24,7 @@ use Rattle.calls.specs.Laws.Ready.{on-kind, on-usable, known-passed, sound-pass
 use Rattle.calls.specs.Laws.Files.{slot-within}
 use Rattle.calls.specs.Laws.Rows.{Stops, stops-at, stops-past, stopped}
 use Rattle.calls.specs.declared.Answer.{Answer}
-use Rattle.matching.specs.Find.{bitShows, shown, isMatch, matchFrom, badPattern, matchFound, noMatch, findRows, findOutcome, Finds}
+use Rattle.matching.specs.Find.{bitShows, shownBy, isMatch, matchFrom, badPattern, matchFound, noMatch, findRows, findOutcome, Finds}
 use Rattle.matching.specs.Aids.Search.{matchSlot}
 
 pub finds-only : {img s : List ℕ} {from mask : ℕ} {r r′ : Answer} → Finds img s from mask r → Finds img s from mask r′
@@ -43,12 +43,12 @@ module _ (mask attr b : ℕ) (h : Bool) (is : h ≡ hasBit attr b) where
   bit-not-there e = rw (← is, e)
 
 module _ (mask attr : ℕ) (hidden : Bool) (is : hidden ≡ bitShows mask attr 0x02) where
-  pub shown-not : not hidden ≡ true → false ≡ shown mask attr
-  unfolding shown
+  pub shown-not : not hidden ≡ true → false ≡ shownBy mask attr
+  unfolding shownBy
   shown-not e = rw (← is, not-true hidden e)
 
-  pub shown-rest : not hidden ≡ false → (r : Bool) → r ≡ bitShows mask attr 0x04 → r ≡ shown mask attr
-  unfolding shown
+  pub shown-rest : not hidden ≡ false → (r : Bool) → r ≡ bitShows mask attr 0x04 → r ≡ shownBy mask attr
+  unfolding shownBy
   shown-rest e r q = q ∙ rw (← is, not-false hidden e)
 
 module _ (l : List ℕ) (a : ℕ) (pattern : List ℕ) (mask : ℕ) (plain : Bool) (is : plain ≡ isPlain (standingOf l a)) where
@@ -56,7 +56,7 @@ module _ (l : List ℕ) (a : ℕ) (pattern : List ℕ) (mask : ℕ) (plain : Boo
   unfolding isMatch
   match-not-plain e = rw (← is, not-true plain e)
 
-  module _ (some : not plain ≡ false) (attr : ℕ) (at : attr ≡ attrOf l a) (shows : Bool) (say : shows ≡ shown mask attr) where
+  module _ (some : not plain ≡ false) (attr : ℕ) (at : attr ≡ attrOf l a) (shows : Bool) (say : shows ≡ shownBy mask attr) where
     pub match-not-shown : not shows ≡ true → false ≡ isMatch l a pattern mask
     unfolding isMatch
     match-not-shown e = rw (← is, not-false plain some, ← at, ← say, not-true shows e)

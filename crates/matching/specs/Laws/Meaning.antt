@@ -21,7 +21,7 @@ use Rattle.calls.specs.Outcome.{Outcome, outcome, refusal, decided}
 use Rattle.calls.specs.Numbers.{ofNoKind, unsound, breaksRules, noMoreFiles}
 use Rattle.calls.specs.Refusals.{theKind, notOfKind, notSound, placeFound}
 use Rattle.calls.specs.declared.Answer.{Answer}
-use Rattle.matching.specs.Find.{bitShows, shown, isMatch, MatchAt, matchFrom, badPattern, matchFound, findOutcome, Finds}
+use Rattle.matching.specs.Find.{bitShows, shownBy, isMatch, MatchAt, matchFrom, badPattern, matchFound, findOutcome, Finds}
 use Rattle.matching.specs.Aids.Search.{matchSlot}
 
 -- ---- an entry that matches
@@ -35,18 +35,18 @@ bit-there true y e h = e
 bit-there false y e h = absurd (let z : _≡_ {A = ℕ} 0 1 = cc in omega arith)
 
 pub match-is : (l : List ℕ) (a : ℕ) (pattern : List ℕ) (mask : ℕ) → (isMatch l a pattern mask ≡ true) ↔ MatchAt l a pattern mask
-unfolding isMatch shown
+unfolding isMatch shownBy
 match-is l a pattern mask = (there, back)
   where
     there : isMatch l a pattern mask ≡ true → MatchAt l a pattern mask
     there e =
         let rest = and-right (isPlain (standingOf l a)) _ e in
-        let bits = and-left (shown mask (attrOf l a)) (matches pattern (nameOf l a)) rest in
+        let bits = and-left (shownBy mask (attrOf l a)) (matches pattern (nameOf l a)) rest in
         record {
           plain = plain-is l a .0 (and-left (isPlain (standingOf l a)) _ e);
           hidden = bit-there (hasBit (attrOf l a) 0x02) (hasBit mask 0x02) (and-left (bitShows mask (attrOf l a) 0x02) (bitShows mask (attrOf l a) 0x04) bits);
           system = bit-there (hasBit (attrOf l a) 0x04) (hasBit mask 0x04) (and-right (bitShows mask (attrOf l a) 0x02) (bitShows mask (attrOf l a) 0x04) bits);
-          name = and-right (shown mask (attrOf l a)) (matches pattern (nameOf l a)) rest;
+          name = and-right (shownBy mask (attrOf l a)) (matches pattern (nameOf l a)) rest;
         }
 
     back : MatchAt l a pattern mask → isMatch l a pattern mask ≡ true
