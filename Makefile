@@ -33,7 +33,8 @@ CFLAGS = -O2
 COMPILE = tests/x86.sh --cc $(CFLAGS) -Wall -Wextra -Werror -std=c11 -pedantic -Iinclude -Itools
 SHARED = tools/imagefile.c tools/savefile.c tools/say.c tools/standard.c tools/wholefile.c
 COMMAND = tools/balladmoor.c tools/changing.c tools/entries.c tools/finding.c tools/getting.c tools/help.c tools/json.c \
-	tools/map.c tools/marks.c tools/print.c tools/putting.c tools/reading.c tools/refusal.c tools/stamp.c
+	tools/map.c tools/marks.c tools/matching.c tools/print.c tools/putting.c tools/reading.c tools/refusal.c \
+	tools/stamp.c
 ARCHIVE = target/staticlib/libscale.a
 MEMBER = target/staticlib/libmember.a
 OUT = target/c

@@ -89,7 +89,7 @@ struct bm_entry_fields {
     uint8_t stored[BM_ENTRY_SIZE]; /* all of it, as bm_entry put it: for a name that has ? above */
 };
 
-/* A byte of a stored name as text. Those that no caller may give are ?, and so no call finds such a name. */
+/* A byte of a stored name as text. Those that no caller may give are ?, and so no call opens such a name. */
 static inline char bm_name_sign(uint8_t byte)
 {
     const char *sign = "ABCDEFGHIJKLMNOPQRSTUVWXYZ0123456789$&#@!%'()-{}_";
@@ -191,13 +191,15 @@ static inline const char *bm_sentence(uint32_t number)
         return "The file is not open. That is a mistake in this program: please report it.";
     case BM_INVALID_ACCESS:
         return "There is no such access. That is a mistake in this program: please report it.";
+    case BM_NO_MORE_FILES:
+        return "No file matches the pattern, or no further one. Look at the list.";
     case BM_NOT_OF_A_KIND:
         return "This is no whole image of a diskette of 160, 180, 320 or 360 KB. See that it is the right file.";
     case BM_NOT_SOUND:
         return "The disk is broken. Keep a copy of it as it is, and take it to the service bench.";
     case BM_BAD_NAME:
-        return "A name has 1 to 8 letters, digits or $&#@!%'()-{}_, then perhaps a dot and up to 3 more. Take such a "
-               "name.";
+        return "A name has 1 to 8 letters, digits or $&#@!%'()-{}_, then perhaps a dot and up to 3 more; ? and * are "
+               "for patterns alone, with * last in its part. Spell it so.";
     case BM_BAD_STAMP:
         return "The date or the time is out of range, or not in the years 1980 to 2099. See that it is right.";
     default:

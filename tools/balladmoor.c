@@ -23,7 +23,7 @@ static const struct verb {
 } verbs[] = {
     {"format", 2, 2, 0, format, &help_format},
     {"check", 1, 1, AS_JSON, check, &help_check},
-    {"list", 1, 1, AS_NAMES | AS_JSON, list, &help_list},
+    {"list", 1, 2, AS_NAMES | AS_JSON, list, &help_list},
     {"map", 1, 1, 0, show_map, &help_map},
     {"free", 1, 1, 0, show_free, &help_free},
     {"get", 2, INT_MAX, KEEP_DATES | RESCUE, get, &help_get},

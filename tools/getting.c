@@ -4,6 +4,7 @@
 #include "verbs.h"
 
 #include "entries.h"
+#include "matching.h"
 #include "refusal.h"
 #include "say.h"
 #include "wholefile.h"
@@ -16,7 +17,9 @@
 /* The files, and where they go. */
 struct copies {
     const struct bytes *image;
-    char **names;
+    char **words; /* names and patterns */
+    int word_count;
+    struct chosen *files; /* what the words ask for */
     int count;
     const char *to; /* NULL: each to its own name here */
     bool to_folder, dated;
@@ -89,7 +92,7 @@ static enum status save(const struct copies *copies, const char *name)
 static void undo(const struct copies *copies, int count)
 {
     while (count-- > 0) {
-        char *path = path_of(copies, copies->names[count]);
+        char *path = path_of(copies, copies->files[count].name);
         unlink(path);
         free(path);
     }
@@ -100,7 +103,7 @@ static enum status save_all(const struct copies *copies)
     enum status status = DONE;
     int n;
     for (n = 0; n < copies->count; n++) {
-        enum status one = save(copies, copies->names[n]);
+        enum status one = save(copies, copies->files[n].name);
         if (one == NOT_DONE) {
             undo(copies, n);
             return NOT_DONE;
@@ -118,14 +121,76 @@ static enum status print_all(const struct copies *copies)
     struct bytes contents;
     int n;
     for (n = 0; n < copies->count; n++) {
-        fetch(copies, copies->names[n], &contents);
+        fetch(copies, copies->files[n].name, &contents);
         fwrite(contents.at, 1, contents.length, stdout);
         free(contents.at);
     }
     return DONE;
 }
 
+/* ---- The words ---- */
+
+/* IMAGE NAME, IMAGE NAME TO or IMAGE NAME NAME.. FOLDER, with patterns for names. */
+static void take_words(const struct order *order, struct copies *copies)
+{
+    bool has_to = order->count > 2;
+    copies->words = order->words + 1;
+    copies->word_count = order->count - (has_to ? 2 : 1);
+    copies->to = has_to ? order->words[order->count - 1] : NULL;
+    copies->to_folder = copies->to != NULL && is_folder(copies->to);
+    copies->dated = (order->options & KEEP_DATES) != 0;
+    copies->rescued = (order->options & RESCUE) != 0;
+}
+
+/* The first word that is a pattern, or NULL. */
+static const char *first_pattern(const struct copies *copies)
+{
+    int n;
+    for (n = 0; n < copies->word_count; n++)
+        if (is_pattern(copies->words[n]))
+            return copies->words[n];
+    return NULL;
+}
+
+/* Whether TO, which is given, must be a folder: a script can't tell how many files a pattern finds. A TO that could be
+ * a pattern is taken for one whose folder was forgotten, not for the name of a copy. */
+static bool needs_folder(const struct copies *copies)
+{
+    return copies->word_count > 1 || first_pattern(copies) != NULL ||
+           (is_pattern(copies->to) && strchr(copies->to, '/') == NULL);
+}
+
+/* Whether the words are used well; says why not. */
+static bool are_good(const struct copies *copies)
+{
+    bool prints = copies->to != NULL && is_standard(copies->to);
+    if (copies->rescued && first_pattern(copies) != NULL)
+        say("%s: A pattern wants a sound disk, and --rescue takes names alone. See them by list without a pattern, and "
+            "name each file.",
+            first_pattern(copies));
+    else if (copies->to != NULL && !copies->to_folder && !prints && needs_folder(copies))
+        say("%s: This is no folder. Several files, or those of a pattern in quotes, go to a folder that is there, such "
+            "as . or to -.",
+            copies->to);
+    else if (copies->dated && prints)
+        say("-: Standard output has no date. Leave --keep-dates out.");
+    else if (copies->dated && copies->rescued)
+        say("--rescue: It brings off a file's bytes alone. Leave --keep-dates out.");
+    else
+        return true;
+    return false;
+}
+
 /* ---- The verb ---- */
+
+static bool choose(struct copies *copies, const char *path)
+{
+    struct choice choice;
+    bool chosen = choose_files(path, copies->image, copies->words, copies->word_count, &choice);
+    copies->files = choice.files;
+    copies->count = choice.count;
+    return chosen;
+}
 
 /* Whether all of them can be read; says of the first that can't why. */
 static bool can_read(const struct copies *copies, const char *path)
@@ -133,37 +198,13 @@ static bool can_read(const struct copies *copies, const char *path)
     struct bytes contents;
     int n;
     for (n = 0; n < copies->count; n++) {
-        uint32_t number = fetch(copies, copies->names[n], &contents);
+        const char *name = copies->files[n].name;
+        uint32_t number = fetch(copies, name, &contents);
         free(contents.at);
         if (number != 0) {
-            say_refusal(copies->rescued ? RESCUING : READING, path, copies->names[n], number, copies->image);
+            say_refusal(copies->rescued ? RESCUING : READING, path, name, number, copies->image);
             return false;
         }
-    }
-    return true;
-}
-
-/* IMAGE NAME, IMAGE NAME TO or IMAGE NAME NAME.. FOLDER. */
-static bool take_words(const struct order *order, struct copies *copies)
-{
-    bool has_to = order->count > 2;
-    copies->names = order->words + 1;
-    copies->count = order->count - (has_to ? 2 : 1);
-    copies->to = has_to ? order->words[order->count - 1] : NULL;
-    copies->to_folder = copies->to != NULL && is_folder(copies->to);
-    copies->dated = (order->options & KEEP_DATES) != 0;
-    copies->rescued = (order->options & RESCUE) != 0;
-    if (copies->count > 1 && !copies->to_folder && !is_standard(copies->to)) {
-        say("%s: This is no folder. Several files go to a folder, such as . or to -.", copies->to);
-        return false;
-    }
-    if (copies->dated && copies->to != NULL && is_standard(copies->to)) {
-        say("-: Standard output has no date. Leave --keep-dates out.");
-        return false;
-    }
-    if (copies->dated && copies->rescued) {
-        say("--rescue: It brings off a file's bytes alone. Leave --keep-dates out.");
-        return false;
     }
     return true;
 }
@@ -175,7 +216,7 @@ static void say_rescued(const struct copies *copies, const char *path)
     char words[FINDING_ROOM];
     if (BM_NUMBER(checked) != 0)
         say("%s: The disk is not sound: %s was read by its own chain. Look whether the bytes are right. (%s)", path,
-            copies->count == 1 ? copies->names[0] : "each file", finding_words(checked, words));
+            copies->count == 1 ? copies->files[0].name : "each file", finding_words(checked, words));
 }
 
 enum status get(const struct order *order)
@@ -183,15 +224,17 @@ enum status get(const struct order *order)
     struct copies copies;
     struct bytes image;
     enum status status = NOT_DONE;
-    if (!take_words(order, &copies))
+    take_words(order, &copies);
+    if (!are_good(&copies))
         return USED_WRONGLY;
     if (!read_whole(order->words[0], &image))
         return NOT_DONE;
     copies.image = &image;
-    if (can_read(&copies, order->words[0]))
+    if (choose(&copies, order->words[0]) && can_read(&copies, order->words[0]))
         status = copies.to != NULL && is_standard(copies.to) ? print_all(&copies) : save_all(&copies);
     if (copies.rescued && status != NOT_DONE)
         say_rescued(&copies, order->words[0]);
+    free(copies.files);
     free(image.at);
     return status;
 }

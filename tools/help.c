@@ -5,7 +5,7 @@ const char help_text[] =
     "\n"
     "  format KIND IMAGE            makes a blank image of 160, 180, 320 or 360 KB\n"
     "  check [--json] IMAGE         says whether it is sound, or what is wrong\n"
-    "  list [--names|--json] IMAGE  lists its files\n"
+    "  list IMAGE [PATTERN]         lists its files; --names and --json for programs\n"
     "  map IMAGE                    shows which file has which clusters\n"
     "  free IMAGE                   says how much room is left\n"
     "  get IMAGE NAME [TO]          copies files from it, --rescue off a broken one\n"
@@ -19,10 +19,19 @@ const char help_text[] =
     "-h and --help print this, --version prints the version. An image that is\n"
     "changed is replaced whole, and only if all went well; hard links to it are not\n"
     "kept. - is standard input for a file that is read, and standard output for one\n"
-    "that is made. An image that is changed must be a file.\n"
+    "that is made. An image that is changed must be a file. list and get take\n"
+    "patterns, in quotes: 'DAY???.LOG', or '*.*' for all files.\n"
     "\n"
     "Exit status: 0 done; 1 not done, and nothing changed; 2 used wrongly; 3 done,\n"
     "but a cut of power may still undo it; 4 (check) the disk is not sound.\n";
+
+/* What list and get say of patterns. */
+#define PATTERNS \
+    "In a pattern ? stands for any one sign, or at the end of a part for none, and *\n" \
+    "for the rest of a part: of the name, or of the extension. *.* finds every file,\n" \
+    "* alone those without an extension; hidden and system files are found too. Put\n" \
+    "it in quotes, as 'DAY???.LOG', or the shell may take it for files that are here.\n" \
+    "The disk must be sound.\n"
 
 const struct help help_format = {
     "KIND IMAGE",
@@ -49,11 +58,16 @@ const struct help help_check = {
 };
 
 const struct help help_list = {
-    "[--names|--json] IMAGE",
+    "[--names|--json] IMAGE [PATTERN]",
     "Lists the files with size, date, time and the marks R read-only, H hidden, S\n"
     "system and A archive. Of a disk that is not sound it lists them too, and ends\n"
     "with status 1. Other systems' directories come as <DIR>, a part of one of their\n"
     "long names as (long name).\n"
+    "\n"
+    "With a PATTERN only the files that match are listed, and counted below. If there\n"
+    "is none, nothing is printed, and the status is 1.\n"
+    "\n"
+    PATTERNS
     "\n"
     "--names prints the names of files alone, one a line, as get takes them.\n"
     "--json prints one object; free is in bytes, null of a disk that is not sound,\n"
@@ -84,13 +98,18 @@ const struct help help_get = {
     "to a folder. None of these may be there yet. - prints. If one can't be copied,\n"
     "none is.\n"
     "\n"
+    "A NAME with ? or * is a pattern: each file that matches is copied, once, to here\n"
+    "or to a folder. If there is none, nothing is copied, and the status is 1.\n"
+    "\n"
+    PATTERNS
+    "\n"
     "--keep-dates gives each copy the file's date and time, in local time. One that\n"
     "has none that is in range gets the present time.\n"
     "\n"
     "--rescue brings a file off a disk that is not sound, such as a reset in the\n"
     "middle of a save leaves it. The file is read by its own chain of clusters,\n"
     "whatever else is wrong, and a sentence on standard error says so. A file whose\n"
-    "chain does not fit its size is refused.\n",
+    "chain does not fit its size is refused. It takes no patterns.\n",
 };
 
 const struct help help_put = {

@@ -4,6 +4,7 @@
 #include "finding.h"
 #include "map.h"
 #include "marks.h"
+#include "matching.h"
 #include "print.h"
 
 #include <stdio.h>
@@ -97,11 +98,11 @@ static void print_label(const struct bytes *image)
     printf("null");
 }
 
-static void print_files(const struct bytes *image)
+static void print_files(const struct bytes *image, const char *pattern)
 {
     struct entry entry;
     const char *between = "";
-    for (entry.slot = 0; next_entry(image, &entry); entry.slot++)
+    for (entry.slot = 0; next_match(image, pattern, &entry); entry.slot++)
         if (is_file(&entry)) {
             printf("%s", between);
             print_file(&entry);
@@ -109,7 +110,7 @@ static void print_files(const struct bytes *image)
         }
 }
 
-uint32_t print_list_json(const struct bytes *image)
+uint32_t print_list_json(const struct bytes *image, const char *pattern)
 {
     uint8_t out[BM_SPACE_SIZE];
     uint32_t number = BM_NUMBER(bm_free_space(IMAGE, out, sizeof out));
@@ -122,7 +123,7 @@ uint32_t print_list_json(const struct bytes *image)
     else
         printf(",\"free\":null");
     printf(",\"files\":[");
-    print_files(image);
+    print_files(image, pattern);
     printf("]}\n");
     return number;
 }

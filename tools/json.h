@@ -9,6 +9,6 @@
 void print_check_json(const struct bytes *image, uint64_t checked, struct bm_counts counts);
 
 /* Answers 0, or the number of the refusal: as print_list. */
-uint32_t print_list_json(const struct bytes *image);
+uint32_t print_list_json(const struct bytes *image, const char *pattern);
 
 #endif

@@ -2,6 +2,7 @@
 
 #include "entries.h"
 #include "marks.h"
+#include "matching.h"
 #include "say.h"
 
 #include <stdio.h>
@@ -84,12 +85,12 @@ static int group(unsigned long number, char *digits)
     return length + sprintf(digits + length, length == 0 ? "%lu" : " %03lu", number % 1000);
 }
 
-static void print_files(const struct bytes *image)
+static void print_files(const struct bytes *image, const char *pattern)
 {
     unsigned long files = 0, bytes = 0;
     char digits[DIGITS_ROOM];
     struct entry entry;
-    for (entry.slot = 0; next_entry(image, &entry); entry.slot++)
+    for (entry.slot = 0; next_match(image, pattern, &entry); entry.slot++)
         if (is_file(&entry)) {
             print_file(&entry);
             files++;
@@ -103,7 +104,7 @@ static void print_files(const struct bytes *image)
         printf("%9lu file%s%20s bytes\n", files, files == 1 ? " " : "s", digits);
 }
 
-uint32_t print_list(const char *path, const struct bytes *image)
+uint32_t print_list(const char *path, const struct bytes *image, const char *pattern)
 {
     uint8_t out[BM_SPACE_SIZE];
     uint64_t answer = bm_free_space(image->at, image->length, out, sizeof out);
@@ -111,7 +112,7 @@ uint32_t print_list(const char *path, const struct bytes *image)
     if (BM_NUMBER(answer) == BM_NOT_OF_A_KIND)
         return BM_NUMBER(answer);
     print_label(path, image);
-    print_files(image);
+    print_files(image, pattern);
     if (BM_NUMBER(answer) == 0) {
         group(free_bytes(bm_space_of(out)), digits);
         printf("%35s bytes free\n", digits);
@@ -119,11 +120,11 @@ uint32_t print_list(const char *path, const struct bytes *image)
     return BM_NUMBER(answer);
 }
 
-uint32_t print_names(const struct bytes *image)
+uint32_t print_names(const struct bytes *image, const char *pattern)
 {
     struct entry entry;
     char name[NAME_ROOM];
-    for (entry.slot = 0; next_entry(image, &entry); entry.slot++)
+    for (entry.slot = 0; next_match(image, pattern, &entry); entry.slot++)
         if (entry.what == MEMBER_FILE)
             printf("%s\n", spell_name(&entry, name));
     return BM_NUMBER(bm_free_space(image->at, image->length, NULL, 0));

@@ -8,12 +8,13 @@
 /* A text of the user's, as a path: bytes that a terminal would obey come as ?. */
 void print_text(const char *text);
 
-/* The files as mdir shows them, with their marks. Answers 0, or the number of the refusal; the files of a volume that
- * is not sound are printed too, without the free space. */
-uint32_t print_list(const char *path, const struct bytes *image);
+/* The files as mdir shows them, with their marks: those that the pattern finds, or all where it is NULL. Answers 0, or
+ * the number of the refusal; without a pattern the files of a volume that is not sound are printed too, without the
+ * free space. */
+uint32_t print_list(const char *path, const struct bytes *image, const char *pattern);
 
 /* The same, as names alone, one a line. */
-uint32_t print_names(const struct bytes *image);
+uint32_t print_names(const struct bytes *image, const char *pattern);
 
 /* What check counts on a sound volume. */
 void print_counts(const char *path, struct bm_counts counts);

@@ -4,6 +4,7 @@
 #include "finding.h"
 #include "json.h"
 #include "map.h"
+#include "matching.h"
 #include "print.h"
 #include "refusal.h"
 #include "wholefile.h"
@@ -29,30 +30,39 @@ enum status check(const struct order *order)
 }
 
 /* The end of the others: frees the image, and says what was refused. */
-static enum status end(char **words, uint32_t number, struct bytes *image)
+static enum status end(enum task task, char **words, uint32_t number, struct bytes *image)
 {
     enum status status = DONE;
     if (number != 0) {
-        say_refusal(READING, words[0], words[1], number, image);
+        say_refusal(task, words[0], words[1], number, image);
         status = NOT_DONE;
     }
     free(image->at);
     return status;
 }
 
+/* Prints the files, or those that the pattern finds. Answers 0, or the number of the refusal. */
+static uint32_t print_by(unsigned options, const char *path, const struct bytes *image, const char *pattern)
+{
+    if (options & AS_JSON)
+        return print_list_json(image, pattern);
+    if (options & AS_NAMES)
+        return print_names(image, pattern);
+    return print_list(path, image, pattern);
+}
+
 enum status list(const struct order *order)
 {
+    const char *pattern = order->words[1]; /* NULL where there is none */
     struct bytes image;
-    uint32_t number;
+    uint32_t number = 0;
     if (!read_whole(order->words[0], &image))
         return NOT_DONE;
-    if (order->options & AS_JSON)
-        number = print_list_json(&image);
-    else if (order->options & AS_NAMES)
-        number = print_names(&image);
-    else
-        number = print_list(order->words[0], &image);
-    return end(order->words, number, &image);
+    if (pattern != NULL)
+        number = match_number(&image, pattern);
+    if (number == 0)
+        number = print_by(order->options, order->words[0], &image, pattern);
+    return end(pattern == NULL ? READING : MATCHING, order->words, number, &image);
 }
 
 enum status show_map(const struct order *order)
@@ -60,7 +70,7 @@ enum status show_map(const struct order *order)
     struct bytes image;
     if (!read_whole(order->words[0], &image))
         return NOT_DONE;
-    return end(order->words, print_map(&image), &image);
+    return end(READING, order->words, print_map(&image), &image);
 }
 
 enum status show_free(const struct order *order)
@@ -73,7 +83,7 @@ enum status show_free(const struct order *order)
     answer = bm_free_space(IMAGE, out, sizeof out);
     if (BM_NUMBER(answer) == 0)
         print_space(bm_space_of(out));
-    return end(order->words, BM_NUMBER(answer), &image);
+    return end(READING, order->words, BM_NUMBER(answer), &image);
 }
 
 enum status show(const struct order *order)
@@ -86,7 +96,7 @@ enum status show(const struct order *order)
     if (number == 0)
         print_bytes(&contents);
     free(contents.at);
-    return end(order->words, number, &image);
+    return end(READING, order->words, number, &image);
 }
 
 enum status ask_mode(const struct order *order)
@@ -98,5 +108,5 @@ enum status ask_mode(const struct order *order)
     answer = bm_mode(IMAGE, NO_TABLE, NAME(order->words[1]), BM_MODE_ASK, 0);
     if (BM_NUMBER(answer) == 0)
         print_attribute(BM_VALUE(answer));
-    return end(order->words, BM_NUMBER(answer), &image);
+    return end(READING, order->words, BM_NUMBER(answer), &image);
 }

@@ -10,6 +10,7 @@ static const char *const denied[TASKS] = {
     [READING] = "The file was not opened for reading. That is a mistake in this program: please report it.",
     [RESCUING] = "The file's chain of clusters does not fit its size, so its bytes can't be told. Take the disk to the "
                  "service bench.",
+    [MATCHING] = "No file is opened while others are found. That is a mistake in this program: please report it.",
     [MAKING] = "The directory has no room for another name. Delete a file first, or take another disk.",
     [REPLACING] = "A file of that name is read-only. If it may be replaced, take that mark away first (mode -r).",
     [DELETING] = "The file is read-only. If it may go, take that mark away first (mode -r).",
@@ -19,9 +20,29 @@ static const char *const denied[TASKS] = {
                      "ones wanted.",
 };
 
+/* What is said otherwise of a pattern than of a name. */
+static const char *pattern_sentence(uint32_t number)
+{
+    switch (number) {
+    case BM_NO_MORE_FILES:
+        return "No file on the disk matches this pattern. Look at the list without a pattern; *.* matches every file.";
+    case BM_NOT_SOUND:
+        return "The disk is broken, and a pattern wants a sound one. Keep a copy of it as it is, and take it to the "
+               "service bench. Without a pattern list shows its files all the same, and get --rescue copies one by "
+               "its name.";
+    case BM_BAD_NAME:
+        return "A pattern has 1 to 8 letters, digits, ? or $&#@!%'()-{}_, then perhaps a dot and up to 3 more; * may "
+               "be the last of the 8 or of the 3. Take one such as DAY???.LOG or *.KEY.";
+    default:
+        return bm_sentence(number);
+    }
+}
+
 const char *refusal_sentence(enum task task, uint32_t number)
 {
-    return number == BM_ACCESS_DENIED ? denied[task] : bm_sentence(number);
+    if (number == BM_ACCESS_DENIED)
+        return denied[task];
+    return task == MATCHING ? pattern_sentence(number) : bm_sentence(number);
 }
 
 /* What each finding is, and what its place counts. */
@@ -48,12 +69,20 @@ const char *finding_words(uint64_t checked, char *words)
     return words;
 }
 
+/* Whom the sentence is about. */
+static const char *subject(enum task task, const char *path, const char *name, uint32_t number)
+{
+    if (number == BM_NOT_OF_A_KIND || number == BM_NOT_SOUND)
+        return path;
+    return task == MATCHING && *name == '\0' ? "(an empty pattern)" : spoken(name);
+}
+
 int say_refusal(enum task task, const char *path, const char *name, uint32_t number, const struct bytes *image)
 {
-    const char *sentence = refusal_sentence(task, number);
+    const char *sentence = refusal_sentence(task, number), *whom = subject(task, path, name, number);
     char words[FINDING_ROOM];
     if (number == BM_NOT_SOUND)
-        return say("%s: %s (refusal 41; %s)", path, sentence,
+        return say("%s: %s (refusal 41; %s)", whom, sentence,
                    finding_words(bm_check(image->at, image->length, NULL, 0), words));
-    return say("%s: %s (refusal %u)", number == BM_NOT_OF_A_KIND ? path : spoken(name), sentence, (unsigned)number);
+    return say("%s: %s (refusal %u)", whom, sentence, (unsigned)number);
 }

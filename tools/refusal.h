@@ -4,8 +4,9 @@
 
 #include "imagefile.h"
 
-/* What the program was about to do. Number 5 means something else for each; the others don't. */
-enum task { READING, RESCUING, MAKING, REPLACING, DELETING, RENAMING, TAKING_NAME, SETTING_MODE, TASKS };
+/* What the program was about to do. Number 5 means something else for each. The others don't, but for MATCHING: there
+ * the name in hand is a pattern. */
+enum task { READING, RESCUING, MATCHING, MAKING, REPLACING, DELETING, RENAMING, TAKING_NAME, SETTING_MODE, TASKS };
 
 /* The sentence for a refusal number. */
 const char *refusal_sentence(enum task task, uint32_t number);

@@ -9,8 +9,8 @@
 const char *const program_name = "sentences";
 
 static const uint32_t numbers[] = {
-    BM_INVALID_FUNCTION, BM_FILE_NOT_FOUND, BM_TOO_MANY_OPEN, BM_ACCESS_DENIED, BM_INVALID_HANDLE,
-    BM_INVALID_ACCESS,   BM_NOT_OF_A_KIND,  BM_NOT_SOUND,     BM_BAD_NAME,      BM_BAD_STAMP,
+    BM_INVALID_FUNCTION, BM_FILE_NOT_FOUND, BM_TOO_MANY_OPEN, BM_ACCESS_DENIED, BM_INVALID_HANDLE, BM_INVALID_ACCESS,
+    BM_NO_MORE_FILES,    BM_NOT_OF_A_KIND,  BM_NOT_SOUND,     BM_BAD_NAME,      BM_BAD_STAMP,
 };
 
 enum { NUMBERS = sizeof numbers / sizeof numbers[0] };

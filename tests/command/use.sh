@@ -5,7 +5,7 @@ echo "-- usage"
 ends 0 "--help" balladmoor --help
 check ".. fits 24 lines" [ "$(wc -l <"$made/out")" -le 24 ]
 check ".. of 80" [ "$(wc -L <"$made/out")" -le 80 ]
-for words in "" "nothing" "format 160" "format 160 a b" "format 170 a.img" "format fe a.img" "check" "list a b" \
+for words in "" "nothing" "format 160" "format 160 a b" "format 170 a.img" "format fe a.img" "check" "list a b c" \
   "free" "get a" "get a b c d" "put a b" "put a b c d" "show a" "delete a" "rename a b" "mode a" "mode a b 1 2" \
   "mode a b 021" "mode a b 2x" "--help list"; do
   # shellcheck disable=SC2086
@@ -87,7 +87,7 @@ done <<'END'
 2|DAY002.LOG: No file of that name|rename disk.img DAY002.LOG A
 42|toolongname: A name has 1 to 8|put disk.img toolongname day
 42|A.LONG: A name has 1 to 8|put disk.img A.LONG day
-42|A*B: A name has 1 to 8|get disk.img A*B back
+42|A*B: A name has 1 to 8|show disk.img A*B
 42|A/B: A name has 1 to 8|rename disk.img DAY001.LOG A/B
 42|A*B: A name has 1 to 8|rename disk.img A*B C
 42|A*B: A name has 1 to 8|rename disk.img A*B A/B

@@ -40,4 +40,5 @@ balladmoor format 160 real.img
 balladmoor put real.img TARE.KEY tare.txt
 balladmoor put real.img 19830901.LOG tare.txt
 completes "balladmoor get real.img " TARE.KEY 19830901.LOG
+completes "balladmoor list real.img 1" 19830901.LOG
 cd "$root" || exit 1

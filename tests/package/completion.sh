@@ -39,6 +39,9 @@ completes "balladmoor check " hive.img hours tare.txt
 completes "balladmoor check --" --json
 completes "balladmoor list --" --names --json
 completes "balladmoor list --names hi" hive.img
+completes "balladmoor list hive.img TA" TARE.KEY
+completes "balladmoor list --json hive.img 1983" 19830901.LOG 19830902.LOG
+completes "balladmoor list hive.img TARE.KEY " ""
 completes "balladmoor map hi" hive.img
 completes "balladmoor get --" --keep-dates --rescue
 completes "balladmoor get --rescue hive.img TA" TARE.KEY
