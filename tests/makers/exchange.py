@@ -2,11 +2,12 @@
 
 import os
 import random
+import re
 import tempfile
 
 from as_mdir import files_of
 from counts import expect
-from volume import ended
+from volume import COMMAND, ended
 
 SCALE = ["tests/x86.sh", "target/c/scale"]
 
@@ -21,6 +22,15 @@ SIZES = {
     "GONE.BIN": 5000,
     "ONE.513": 513,
     "LONG.BIN": 40001,
+}
+
+# Patterns, and which names each matches, as regular expressions.
+MATCHES = {
+    "*.LOG": r".*\.LOG",
+    "one.51?": r"ONE\.51.?",
+    "????.*": r".{1,4}(\..*)?",
+    "*": r"[^.]*",
+    "*.*": r".*",
 }
 
 
@@ -61,6 +71,19 @@ def read_by_us(volume, files, what):
     differ = [name for name, told in zip(files, got) if told != (0, files[name], "")]
     expect(differ, [], f"{what}: the bytes of all files by our get")
     expect(volume.bytes() == before, True, f"{what}: reading alters nothing")
+
+
+def found_by_us(volume, files):
+    """The files that match, in mdir's order, by our list; their bytes one after the other, by our get."""
+    what = f"{volume.title}, the maker's files"
+    order = [name for name, _ in files_of(volume.mdir())]
+    wanted = [[name for name in order if re.fullmatch(names, name)] for names in MATCHES.values()]
+    lines = ["".join(f"{name}\n" for name in names).encode() for names in wanted]
+    listed = ended(*([*COMMAND, "list", "--names", volume.path, pattern] for pattern in MATCHES))
+    expect(listed, [(0, names, "") for names in lines], f"{what}: those that match patterns, by our list")
+    joined = [b"".join(files[name] for name in names) for names in wanted]
+    got = ended(*(volume.command("get", pattern, "-") for pattern in MATCHES))
+    expect(got == [(0, data, "") for data in joined], True, f"{what}: the bytes of those, by our get")
 
 
 def read_by_mtools(volume, files, what):
@@ -132,6 +155,7 @@ def exchange(volume, files, fsck=True):
     boot_sector = volume.bytes()[:512]
     agreed(volume, files, "the maker's files", fsck)
     read_by_us(volume, files, f"{volume.title}, the maker's files")
+    found_by_us(volume, files)
     change_by_us(volume, files)
     agreed(volume, files, "changed by our command", fsck)
     fill_by_us(volume, files)
