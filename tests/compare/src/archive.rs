@@ -64,6 +64,7 @@ call!(bm_check check (image: &[u8], out: &mut [u8],));
 call!(bm_check_system check_system (area: &[u8], out: &mut [u8],));
 call!(bm_free_space free_space (image: &[u8], out: &mut [u8],));
 call!(bm_entry entry (image: &[u8], slot: u32, out: &mut [u8],));
+call!(bm_find find (image: &[u8], pattern: &[u8], slot: u32, mask: u32,));
 call!(bm_open open (image: &[u8], table: &mut [u8], name: &[u8], access: u32,));
 call!(bm_create create (
     image: &mut [u8], table: &mut [u8], name: &[u8], attribute: u32,

@@ -2,16 +2,20 @@
 //! fault of one that is not.
 
 use std::sync::atomic::{AtomicU64, Ordering::Relaxed};
+use std::sync::OnceLock;
 
 use compare::comparison::files::{After, Files};
 use compare::comparison::guarded::{Guarded, GUARD};
 use compare::comparison::lines::{allows, LINES};
+use compare::comparison::search::compare_search;
 use compare::comparison::seeds::over_seeds;
 use compare::comparison::tally::{rows, Tally};
 use compare::comparison::{compare_seed, history, singles, Library, CALLS_OF_A_SEED};
 use compare::volume::answer::number;
+use compare::volume::find;
 use compare::volume::kind::Kind;
 use compare::volumes::calls::{perform, Call, Scene};
+use compare::volumes::finds::Search;
 use compare::volumes::random::Random;
 use compare::volumes::scenes::history_scene;
 use compare::volumes::texts::callers_form;
@@ -131,6 +135,177 @@ fn files_are_compared_by_reading() {
     }
 }
 
+/// The plain Rust's find, with its pattern, slot and mask altered before.
+fn find_altered(
+    call: &Call,
+    scene: &mut Scene<Guarded>,
+    alter: fn(&mut Vec<u8>, &mut u32, &mut u32),
+) -> u64 {
+    let mut call = call.clone();
+    if let Call::Find {
+        pattern,
+        slot,
+        mask,
+    } = &mut call
+    {
+        alter(pattern, slot, mask);
+    }
+    perform(&call, scene)
+}
+
+/// The plain Rust, but find takes the label for a file.
+fn find_with_label(call: &Call, scene: &mut Scene<Guarded>) -> u64 {
+    let (Call::Find { .. }, Some(kind)) = (call, Kind::of_image(&scene.image)) else {
+        return perform(call, scene);
+    };
+    let before = scene.image.to_vec();
+    let root = &mut scene.image[kind.root_at()..kind.system_bytes()];
+    for entry in root.chunks_exact_mut(32) {
+        if entry[11] & 0x08 != 0 && ![0x00, 0xE5].contains(&entry[0]) {
+            // A file of no bytes.
+            entry[11] &= !0x08;
+            entry[26..].fill(0);
+        }
+    }
+    let answer = perform(call, scene);
+    scene.image.copy_from_slice(&before);
+    answer
+}
+
+/// The plain Rust, but find passes over entries that are not to be seen.
+fn find_blind(call: &Call, scene: &mut Scene<Guarded>, is_unseen: fn(&[u8], &[u8]) -> bool) -> u64 {
+    let mut answer = perform(call, scene);
+    let Call::Find { pattern, mask, .. } = call else {
+        return answer;
+    };
+    while number(answer) == 0 {
+        let root = Kind::of_image(&scene.image).map_or(0, |kind| kind.root_at());
+        let entry = &scene.image[root + 32 * answer as usize..][..32];
+        if !is_unseen(pattern, entry) {
+            break;
+        }
+        answer = find(&scene.image, pattern, answer as u32 + 1, *mask);
+    }
+    answer
+}
+
+const FAULTS_OF_FIND: [(&str, Library); 12] = [
+    ("one slot late", |call, scene| {
+        find_altered(call, scene, |_, slot, _| *slot = slot.saturating_add(1))
+    }),
+    ("always from slot 0", |call, scene| {
+        find_altered(call, scene, |_, slot, _| *slot = 0)
+    }),
+    ("the slot's low byte alone", |call, scene| {
+        find_altered(call, scene, |_, slot, _| *slot &= 0xFF)
+    }),
+    ("one bit enough for both", |call, scene| {
+        find_altered(call, scene, |_, _, mask| {
+            if *mask & 0x06 != 0 {
+                *mask |= 0x06;
+            }
+        })
+    }),
+    ("other bits of the mask matter", |call, scene| {
+        find_altered(call, scene, |_, _, mask| {
+            if *mask > 0xFF {
+                *mask = 0;
+            }
+        })
+    }),
+    ("a star for the extension too", |call, scene| {
+        find_altered(call, scene, |pattern, _, _| {
+            if pattern.ends_with(b"*") && !pattern.contains(&b'.') {
+                pattern.extend(b".*");
+            }
+        })
+    }),
+    ("a star that is not counted", |call, scene| {
+        find_altered(call, scene, |pattern, _, _| {
+            if pattern.len() == 9 && pattern.ends_with(b"*") {
+                pattern.pop();
+            }
+        })
+    }),
+    ("no such file", |call, scene| match perform(call, scene) {
+        answer if number(answer) == 18 => 2 << 32,
+        answer => answer,
+    }),
+    ("the label shown", find_with_label),
+    ("padding is not any byte", |call, scene| {
+        find_blind(call, scene, |pattern, entry| {
+            let base = pattern.split(|&byte| byte == b'.').next().unwrap_or(b"");
+            base.iter().zip(entry).any(|pair| pair == (&b'?', &b' '))
+        })
+    }),
+    ("bytes from 80 on are not any byte", |call, scene| {
+        find_blind(call, scene, |_, entry| {
+            entry[..11].iter().any(|&byte| byte >= 0x80)
+        })
+    }),
+    ("read-only files do not show", |call, scene| {
+        find_blind(call, scene, |_, entry| entry[11] & 0x01 != 0)
+    }),
+];
+
+#[test]
+fn faults_of_find_are_told() {
+    for (fault, library) in FAULTS_OF_FIND {
+        let report = report(library);
+        assert!(report.contains("find '"), "{fault}: {report}");
+        assert!(report.contains("expected"), "{fault}: {report}");
+    }
+}
+
+/// Answers from a row, one find after the other.
+fn answering(answers: &[u64]) -> impl FnMut(&Call) -> u64 + '_ {
+    let mut answers = answers.iter();
+    move |_| *answers.next().expect("no more finds")
+}
+
+#[test]
+fn a_whole_search_tells_what_is_amiss() {
+    let search = Search {
+        pattern: b"*.*".to_vec(),
+        mask: 6,
+    };
+    let (slots, end, other_end) = ([2, 3, 7], 18 << 32, 2 << 32);
+    let compare = |answers: &[u64]| compare_search(&search, &slots, answering(answers));
+    assert_eq!(compare(&[2, 3, 7, end]), Ok(()));
+    for (answers, told) in [
+        (vec![3], "from slot 0 mask 0x6: 0/2 expected, 0/3 answered"),
+        (vec![2, 2], "from slot 3 mask 0x6: 0/3 expected, 0/2"),
+        (vec![2, 7], "from slot 3 mask 0x6: 0/3 expected, 0/7"),
+        (vec![2, 3, end], "from slot 4 mask 0x6: 0/7 expected, 18/0"),
+        (vec![2, 3, 7, 7], "from slot 8 mask 0x6: 18/0 expected, 0/7"),
+        (vec![2, 3, 7, other_end], "18/0 expected, 2/0 answered"),
+    ] {
+        let report = compare(&answers).expect_err(told);
+        assert!(report.contains(told), "{told}: {report}");
+    }
+}
+
+/// Where the history's own image lies.
+static IMAGE_AT: OnceLock<usize> = OnceLock::new();
+
+/// The plain Rust, but a find on a copy of the history's image is wrong.
+fn wrong_on_copies(call: &Call, scene: &mut Scene<Guarded>) -> u64 {
+    let at = scene.image.as_ptr() as usize;
+    let is_copy = at != *IMAGE_AT.get_or_init(|| at);
+    match call {
+        Call::Find { .. } if is_copy => 2 << 32,
+        _ => perform(call, scene),
+    }
+}
+
+#[test]
+fn a_history_ends_with_a_whole_search() {
+    let mut tally = Tally::default();
+    let report = history::compare(0, wrong_on_copies, GUARD, &mut tally).unwrap_err();
+    assert!(report.starts_with("history, whole search, "), "{report}");
+    assert_eq!(tally.calls(), history::CALLS);
+}
+
 #[test]
 fn a_seed_gives_the_same_calls_each_time() {
     let fault = FAULTS[0].1;
@@ -159,11 +334,11 @@ fn the_lowest_seed_is_reported() {
 #[test]
 fn pairs_that_are_not_met_or_not_allowed_are_faults() {
     let lines: usize = LINES.iter().map(|line| line.calls.len()).sum();
-    // 14 calls by 40, 11 by 41, and the rest of the table; rescue on torn disks
+    // 15 calls by 40, 12 by 41, and the rest of the table; rescue on torn disks
     // stands for a call of its own.
     assert_eq!(
         lines,
-        14 + 11 + 2 + 1 + 8 + 2 + 4 + 1 + 7 + 2 + 4 + 4 + 1 + 1 + 2 + 2 + 2
+        15 + 12 + 2 + 1 + 9 + 2 + 4 + 1 + 7 + 1 + 2 + 4 + 4 + 1 + 1 + 2 + 2 + 2
     );
     let mut tally = Tally::default();
     for line in &LINES {
@@ -221,6 +396,24 @@ fn the_history_tells_invented_answers() {
     let free = files.free();
     assert!(followed(&mut files, Call::FreeSpace, free + 1, &[]).is_err());
     assert!(followed(&mut files, Call::FreeSpace, free, &[]).is_ok());
+}
+
+#[test]
+fn the_history_tells_invented_slots() {
+    let (mut files, ..) = (0..SEEDS).find_map(opened_file).expect("such a file");
+    let find = |slot| Call::Find {
+        pattern: b"*.*".to_vec(),
+        slot,
+        mask: 0x06,
+    };
+    let mut from = 0;
+    for slot in files.listed(b"*.*", 0x06) {
+        assert!(followed(&mut files, find(from), slot + 1, &[]).is_err());
+        assert!(followed(&mut files, find(from), slot, &[]).is_ok());
+        from = slot + 1;
+    }
+    assert!(from > 0);
+    assert!(followed(&mut files, find(from), from, &[]).is_err());
 }
 
 /// How often there came up: a write of nothing, over a gap, a short one, one

@@ -82,7 +82,7 @@ fn histories_as_the_model_has_them() {
     }
     // Each refusal of a sound volume came up, and each call ended well.
     let numbers: Vec<u64> = tally.numbers.keys().copied().collect();
-    assert_eq!(numbers, [0, 1, 2, 4, 5, 6, 12, 40, 42, 43], "{tally:?}");
+    assert_eq!(numbers, [0, 1, 2, 4, 5, 6, 12, 18, 40, 42, 43], "{tally:?}");
     assert!(
         tally.numbers[&0] > HISTORIES * CALLS as u64 / 3,
         "{tally:?}"

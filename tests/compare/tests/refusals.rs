@@ -58,6 +58,23 @@ fn free_space_and_entry() {
 }
 
 #[test]
+fn find_in_order() {
+    let mut desk = desk();
+    short().refuses(40, |desk| desk.find(b"**", 64, 0));
+    sick().refuses(41, |desk| desk.find(b"**", 64, 0));
+    for slot in [0, 64, 256, u32::MAX] {
+        desk.refuses(42, |desk| desk.find(b"**", slot, 0));
+    }
+    for slot in [3, 63, 64, 65, 256, 0x8000_0000, u32::MAX] {
+        desk.refuses(18, |desk| desk.find(b"*.*", slot, 6));
+    }
+    // No such file is 18 too, never 2.
+    desk.refuses(18, |desk| desk.find(b"NONE", 0, 6));
+    assert_eq!(desk.find(b"*.*", 0, 0), (0, 0));
+    assert_eq!(desk.find(b"BUSY", 0, 0), (0, 2));
+}
+
+#[test]
 fn open_in_order() {
     let mut desk = desk();
     short().refuses(40, |desk| desk.open("*", 3));

@@ -17,6 +17,7 @@ type Stamped = fn(&mut [u8], &mut [u8], u32, u32, u32, u32, u32, u32, u32) -> u6
 /// The calls that are measured.
 struct Library {
     check: fn(&[u8], &mut [u8]) -> u64,
+    find: fn(&[u8], &[u8], u32, u32) -> u64,
     open: fn(&[u8], &mut [u8], &[u8], u32) -> u64,
     read: fn(&[u8], &mut [u8], u32, &mut [u8]) -> u64,
     write: fn(&mut [u8], &mut [u8], u32, &[u8]) -> u64,
@@ -25,6 +26,7 @@ struct Library {
 
 const ARCHIVE: Library = Library {
     check: archive::check,
+    find: archive::find,
     open: archive::open,
     read: archive::read,
     write: archive::write,
@@ -33,6 +35,7 @@ const ARCHIVE: Library = Library {
 
 const PLAIN: Library = Library {
     check: volume::check,
+    find: volume::find,
     open: volume::open,
     read: volume::read,
     write: volume::write,
@@ -148,6 +151,14 @@ fn open_read_close(library: &Library, scene: &mut Scene, times: u32) {
     }
 }
 
+/// The last of the 59 day files, by a pattern that nearly fits the others.
+fn find_last(library: &Library, scene: &mut Scene, times: u32) {
+    for _ in 0..times {
+        let answer = (library.find)(black_box(&scene.image), b"DAY???58.*", 0, 0);
+        assert_eq!(answer, 58);
+    }
+}
+
 fn fill_disk(library: &Library, scene: &mut Scene, times: u32) {
     let bytes = [0x37; WHOLE_DISK];
     for _ in 0..times {
@@ -156,7 +167,8 @@ fn fill_disk(library: &Library, scene: &mut Scene, times: u32) {
     }
 }
 
-fn works() -> [Work; 5] {
+#[rustfmt::skip]
+fn works() -> [Work; 6] {
     let work = |word, title, scene, rounds, times, act| Work {
         word,
         title,
@@ -167,46 +179,18 @@ fn works() -> [Work; 5] {
     };
     let blank = with_chains(std::iter::empty());
     [
-        work(
-            "half-full",
-            "check of a half-full FD",
-            half_full(),
-            2001,
-            20,
-            check_half_full,
-        ),
-        work(
-            "shared",
-            "check of an FD with one chain for 112 files",
-            shared(),
-            2001,
-            20,
-            check_shared,
-        ),
-        work(
-            "writes",
-            "a write of 32 bytes, a thousand in a row, half-full FD",
-            with_new_file(half_full()),
-            301,
-            1000,
-            write_weighings,
-        ),
-        work(
-            "read",
-            "open, read of 512 bytes and close, half-full FD",
-            half_full(),
-            2001,
-            20,
-            open_read_close,
-        ),
-        work(
-            "full",
-            "one write that fills a blank FD",
-            with_new_file(blank),
-            2001,
-            1,
-            fill_disk,
-        ),
+        work("half-full", "check of a half-full FD",
+            half_full(), 2001, 20, check_half_full),
+        work("shared", "check of an FD with one chain for 112 files",
+            shared(), 2001, 20, check_shared),
+        work("writes", "a write of 32 bytes, a thousand in a row, half-full FD",
+            with_new_file(half_full()), 301, 1000, write_weighings),
+        work("read", "open, read of 512 bytes and close, half-full FD",
+            half_full(), 2001, 20, open_read_close),
+        work("full", "one write that fills a blank FD",
+            with_new_file(blank), 2001, 1, fill_disk),
+        work("find", "find of the last of 59 files, half-full FD",
+            half_full(), 2001, 20, find_last),
     ]
 }
 
@@ -257,7 +241,7 @@ fn main() -> ExitCode {
             let work = works
                 .iter()
                 .find(|work| work.word == word)
-                .expect("half-full, shared, writes, read or full");
+                .expect("half-full, shared, writes, read, full or find");
             (work.act)(
                 &library,
                 &mut work.scene.clone(),
@@ -265,7 +249,7 @@ fn main() -> ExitCode {
             );
         }
         _ => {
-            eprintln!("bench [archive|plain half-full|shared|writes|read|full COUNT]");
+            eprintln!("bench [archive|plain half-full|shared|writes|read|full|find COUNT]");
             return ExitCode::from(2);
         }
     }

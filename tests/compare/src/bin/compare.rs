@@ -3,18 +3,22 @@
 //!
 //! Makes COUNT volumes from the seeds SEED (0), SEED + 1 and so on. On each,
 //! every such call is made on both libraries, format on one of sixteen. The
-//! seed picks lengths, slots and kinds among those that matter. Answers and
-//! all bytes of all buffers must agree, and so must the guard bytes around
-//! the buffers. The first difference is printed with its seed and ends the
-//! run.
+//! seed picks lengths, slots, names, patterns and kinds among those that
+//! matter. Answers and all bytes of all buffers must agree, and so must the
+//! guard bytes around the buffers. On each sound volume a whole search through
+//! the archive must list what a list made by hand has. The first difference is
+//! printed with its seed and ends the run.
 
 use std::process::ExitCode;
 
 use compare::comparison::both::halves;
 use compare::comparison::guarded::{Guarded, GUARD};
+use compare::comparison::search::{compare_search, listed};
 use compare::comparison::seeds::over_seeds;
 use compare::volume::answer::number;
 use compare::volume::kind::{Kind, KINDS, SECTOR};
+use compare::volumes::calls::{perform, perform_on_archive, Scene};
+use compare::volumes::finds::{random_find, Search};
 use compare::volumes::mixed::mixed_image;
 use compare::volumes::random::Random;
 use compare::volumes::random_calls::random_name;
@@ -24,9 +28,10 @@ use compare::{archive, volume};
 /// twenty volumes.
 const LEAST: u64 = 500;
 
-/// Each way in which rescue ends, on sound volumes and on others, must be met
-/// this often; in a short run, once in a thousand volumes.
-const LEAST_RESCUES: u64 = 20;
+/// Each way in which rescue ends, on sound volumes and on others, and each in
+/// which find ends must be met this often; in a short run, once in a thousand
+/// volumes.
+const LEAST_ENDINGS: u64 = 20;
 
 /// Calls that only read an image, or a part of it, and may fill `out`.
 type Reader = fn(&[u8], &mut [u8]) -> u64;
@@ -42,9 +47,14 @@ struct Trial {
     plain: Vec<u8>,
     archive: Guarded,
     random: Random,
+    /// What check finds; 0 is sound.
+    finding: u32,
     calls: u64,
-    /// How often rescue ended in each of its ways.
+    /// How often rescue and find ended in each of their ways.
     rescues: [u64; 5],
+    finds: [u64; 5],
+    /// Whole searches, and the slots that they listed.
+    searches: [u64; 2],
 }
 
 impl Trial {
@@ -52,10 +62,13 @@ impl Trial {
         let plain = mixed_image(seed);
         Trial {
             archive: Guarded::new(&plain, GUARD),
+            finding: number(volume::check(&plain, &mut [])),
             plain,
             random: Random::new(!seed),
             calls: 0,
             rescues: [0; 5],
+            finds: [0; 5],
+            searches: [0; 2],
         }
     }
 
@@ -65,6 +78,8 @@ impl Trial {
         self.read_parts()?;
         self.read_entries()?;
         self.rescue_files()?;
+        self.find_files()?;
+        self.search()?;
         self.archive
             .compare("image that was only read", &self.plain)?;
         // What format does depends on nothing of the volume but its length.
@@ -136,12 +151,16 @@ impl Trial {
         Ok(())
     }
 
+    /// The kind that byte 512 names, or any.
+    fn kind(&self) -> &'static Kind {
+        let byte = self.plain.get(SECTOR).copied().unwrap_or(0);
+        Kind::of_number(u32::from(byte)).unwrap_or(&KINDS[0])
+    }
+
     /// Rescue of three files by name.
     fn rescue_files(&mut self) -> Result<(), String> {
-        let byte = self.plain.get(SECTOR).copied().unwrap_or(0);
-        let kind = Kind::of_number(u32::from(byte)).unwrap_or(&KINDS[0]);
         for _ in 0..3 {
-            let name = random_name(kind, &self.plain, 8, &mut self.random);
+            let name = random_name(self.kind(), &self.plain, 8, &mut self.random);
             let out = *self.random.pick(&[0, 1, 511, 512, 600, 3000]);
             let mut theirs = Guarded::random(out, &mut self.random);
             let mut ours = theirs.to_vec();
@@ -150,11 +169,42 @@ impl Trial {
                 archive::rescue(&self.archive, &name, &mut theirs),
             ];
             self.calls += 1;
-            self.rescues[rescue_ending(answers[0])] += 1;
+            self.rescues[ending(&RESCUE_NUMBERS, answers[0])] += 1;
             same(answers, "out", &ours, &theirs)
                 .map_err(|what| format!("rescue '{}': {what}", name.escape_ascii()))?;
         }
         Ok(())
+    }
+
+    /// Three finds on a sound volume, one on another, which find can only refuse.
+    fn find_files(&mut self) -> Result<(), String> {
+        let times = if self.finding == 0 { 3 } else { 1 };
+        for _ in 0..times {
+            let find = random_find(self.kind(), &self.plain, 8, &mut self.random);
+            let answers = [
+                perform(&find, &mut image_alone(&mut self.plain)),
+                perform_on_archive(&find, &mut image_alone(&mut self.archive)),
+            ];
+            self.calls += 1;
+            self.finds[ending(&FIND_NUMBERS, answers[0])] += 1;
+            same_answers(answers).map_err(|what| format!("{find}: {what}"))?;
+        }
+        Ok(())
+    }
+
+    /// A whole search through the archive, on a sound volume.
+    fn search(&mut self) -> Result<(), String> {
+        if self.finding != 0 {
+            return Ok(());
+        }
+        let search = Search::random(self.kind(), &self.plain, &mut self.random);
+        let slots = listed(&search, self.kind(), &self.plain);
+        self.calls += slots.len() as u64 + 1;
+        self.searches[0] += 1;
+        self.searches[1] += slots.len() as u64;
+        compare_search(&search, &slots, |find| {
+            perform_on_archive(find, &mut image_alone(&mut self.archive))
+        })
     }
 
     /// Format with a number that is no kind, then with each kind.
@@ -177,48 +227,67 @@ impl Trial {
     }
 }
 
-/// Whether the answers agree, the plain Rust's and the archive's, and so the
-/// bytes.
-fn same(answers: [u64; 2], what: &str, plain: &[u8], archive: &Guarded) -> Result<(), String> {
-    let [expected, answered] = answers.map(halves);
-    if answers[0] != answers[1] {
-        return Err(format!("{expected} expected, {answered} answered"));
+/// An image without a table and a buffer.
+fn image_alone(image: &mut [u8]) -> Scene<&mut [u8]> {
+    Scene {
+        image,
+        table: &mut [],
+        buffer: &mut [],
     }
+}
+
+/// Whether the answers agree, the plain Rust's and the archive's.
+fn same_answers(answers: [u64; 2]) -> Result<(), String> {
+    let [expected, answered] = answers.map(halves);
+    match answers[0] == answers[1] {
+        true => Ok(()),
+        false => Err(format!("{expected} expected, {answered} answered")),
+    }
+}
+
+/// Whether the answers agree, and so the bytes.
+fn same(answers: [u64; 2], what: &str, plain: &[u8], archive: &Guarded) -> Result<(), String> {
+    same_answers(answers)?;
     archive
         .compare(what, plain)
-        .map_err(|what| format!("both answer {expected}, {what}"))
+        .map_err(|what| format!("both answer {}, {what}", halves(answers[0])))
 }
 
 /// How rescue ends: well, or by one of its refusals in their order.
 const RESCUE_NUMBERS: [u32; 5] = [0, 40, 42, 2, 5];
 
-/// The place of the answer's number among them; a number that is none of them
-/// stops the run.
-fn rescue_ending(answer: u64) -> usize {
-    let found = RESCUE_NUMBERS.iter().position(|&n| n == number(answer));
-    found.expect("rescue answers one of its numbers")
+/// The same of find.
+const FIND_NUMBERS: [u32; 5] = [0, 40, 41, 42, 18];
+
+/// The place of the answer's number among a call's numbers; a number that is
+/// none of them stops the run.
+fn ending(numbers: &[u32; 5], answer: u64) -> usize {
+    let found = numbers.iter().position(|&n| n == number(answer));
+    found.expect("a call answers one of its numbers")
 }
 
-/// What was met: volumes by their finding (0: sound), sound ones by kind, and
-/// how rescue ended on sound volumes and on others.
+/// What was met: volumes by their finding (0: sound), sound ones by kind, how
+/// rescue ended on sound volumes and on others, how find ended, and searches
+/// with the slots that they listed.
 #[derive(Default)]
 struct Met {
     findings: [u64; 8],
     sound: [u64; 4],
     rescues: [[u64; 5]; 2],
+    finds: [u64; 5],
+    searches: [u64; 2],
     calls: u64,
 }
 
 impl Met {
     /// What one volume is.
-    fn of(image: &[u8]) -> Met {
+    fn of(trial: &Trial) -> Met {
         let mut met = Met::default();
-        let finding = number(volume::check(image, &mut []));
-        met.findings[finding as usize] = 1;
+        met.findings[trial.finding as usize] = 1;
         let kind = KINDS
             .iter()
-            .position(|kind| Kind::of_image(image) == Some(kind));
-        if let (0, Some(kind)) = (finding, kind) {
+            .position(|kind| Kind::of_image(&trial.plain) == Some(kind));
+        if let (0, Some(kind)) = (trial.finding, kind) {
             met.sound[kind] = 1;
         }
         met
@@ -230,6 +299,8 @@ impl Met {
         };
         add(&mut self.findings, &other.findings);
         add(&mut self.sound, &other.sound);
+        add(&mut self.finds, &other.finds);
+        add(&mut self.searches, &other.searches);
         for (to, more) in self.rescues.iter_mut().zip(&other.rescues) {
             add(to, more);
         }
@@ -249,29 +320,38 @@ impl Met {
             "rescue by {RESCUE_NUMBERS:?}: sound {:?}, others {:?}",
             self.rescues[0], self.rescues[1]
         );
+        println!("find by {FIND_NUMBERS:?}: {:?}", self.finds);
+        let [searches, slots] = self.searches;
+        println!("{searches} whole searches: {slots} slots listed");
     }
 
     /// What was met fewer than so many times. Rescue refuses no sound volume by
     /// 40 or 5.
-    fn rare(&self, volumes: u64, rescues: u64) -> Option<String> {
+    fn rare(&self, volumes: u64, endings: u64) -> Option<String> {
         if let Some(finding) = self.findings.iter().position(|&times| times < volumes) {
             return Some(format!(
                 "finding {finding} (0: sound) was met fewer than {volumes} times"
             ));
         }
-        let [sound, others] = &self.rescues;
-        let wanted = [sound[0], sound[2], sound[3]].into_iter().chain(*others);
-        let few = wanted.into_iter().any(|times| times < rescues);
-        few.then(|| format!("rescue ended in some way fewer than {rescues} times"))
+        let [sound, others] = self.rescues;
+        let rescues = [&[sound[0], sound[2], sound[3]], &others[..]].concat();
+        let is_rare = |met: &[u64]| met.iter().any(|&times| times < endings);
+        let calls = [("rescue", &rescues[..]), ("find", &self.finds)];
+        let (call, _) = calls.into_iter().find(|(_, met)| is_rare(met))?;
+        Some(format!(
+            "{call} ended in some way fewer than {endings} times"
+        ))
     }
 }
 
 fn compare_volume(seed: u64) -> Result<Met, String> {
     let mut trial = Trial::new(seed);
-    let mut met = Met::of(&trial.plain);
+    let mut met = Met::of(&trial);
     trial.run()?;
     met.calls = trial.calls;
-    met.rescues[usize::from(met.findings[0] == 0)] = trial.rescues;
+    met.rescues[usize::from(trial.finding != 0)] = trial.rescues;
+    met.finds = trial.finds;
+    met.searches = trial.searches;
     Ok(met)
 }
 
@@ -289,7 +369,7 @@ fn compare(count: u64, first: u64) -> bool {
         "{count} volumes, {} calls on each library: all alike",
         met.calls
     );
-    let rare = met.rare(LEAST.min(count / 20), LEAST_RESCUES.min(count / 1000));
+    let rare = met.rare(LEAST.min(count / 20), LEAST_ENDINGS.min(count / 1000));
     if let Some(rare) = &rare {
         println!("{rare}");
     }

@@ -8,6 +8,7 @@
 
 use std::collections::BTreeMap;
 
+use super::search::lists;
 use crate::volume::kind::Kind;
 use crate::volumes::calls::Call;
 use crate::volumes::plan::Plan;
@@ -109,6 +110,11 @@ impl Files {
         match call {
             Call::Format { .. } => self.format(),
             Call::FreeSpace => expect("free clusters", self.free(), after.value),
+            Call::Find {
+                pattern,
+                slot,
+                mask,
+            } => self.find(pattern, *slot, *mask, after.value),
             Call::Open { name, access } => self.open(&stored(name), *access, after.value),
             Call::Create {
                 name, attribute, ..
@@ -132,6 +138,22 @@ impl Files {
             Call::Rescue { name } => self.rescue(&stored(name), after),
             Call::Check | Call::CheckSystem | Call::Entry { .. } => Ok(()),
         }
+    }
+
+    /// The slots that a search must list, in their order.
+    pub fn listed(&self, pattern: &[u8], mask: u32) -> Vec<u32> {
+        let files = self.files.iter();
+        let files = files.filter(|(name, file)| lists(pattern, mask, *name, file.attribute));
+        let mut slots: Vec<u32> = files.map(|(_, file)| file.slot).collect();
+        slots.sort_unstable();
+        slots
+    }
+
+    fn find(&self, pattern: &[u8], from: u32, mask: u32, answered: u32) -> Followed {
+        let mut slots = self.listed(pattern, mask).into_iter();
+        let slot = slots.find(|&slot| slot >= from);
+        let slot = slot.ok_or("the history has no file that matches")?;
+        expect("slot", slot, answered)
     }
 
     fn file(&mut self, name: &[u8; 11]) -> Result<&mut File, String> {

@@ -4,9 +4,11 @@
 use super::both::Both;
 use super::files::{After, Files};
 use super::read_back::compare_by_reading;
+use super::search::compare_search;
 use super::tally::Tally;
 use super::Library;
 use crate::volumes::calls::Call;
+use crate::volumes::finds::Search;
 use crate::volumes::random::Random;
 use crate::volumes::random_calls::{buffer_for, random_call};
 use crate::volumes::scenes::history_scene;
@@ -36,7 +38,7 @@ pub fn compare(seed: u64, library: Library, guard: usize, tally: &mut Tally) -> 
             compare_by_reading(&files, &both).map_err(at)?;
         }
     }
-    Ok(())
+    search_all(&files, &both, &mut random).map_err(|what| format!("history, {what}"))
 }
 
 fn follow(files: &mut Files, call: &Call, answer: u64, both: &Both) -> Result<(), String> {
@@ -47,4 +49,14 @@ fn follow(files: &mut Files, call: &Call, answer: u64, both: &Both) -> Result<()
     };
     let followed = files.follow(call, after);
     followed.map_err(|what| format!("{call}: {what}"))
+}
+
+/// A whole search through the library, on a copy, against the history's files.
+fn search_all(files: &Files, both: &Both, random: &mut Random) -> Result<(), String> {
+    let search = Search::random(files.kind, &both.plain.image, random);
+    let listed = files.listed(&search.pattern, search.mask);
+    let mut copy = both.other.clone();
+    compare_search(&search, &listed, |find| (both.library)(find, &mut copy))?;
+    let image = &copy.image;
+    image.compare("image that was only searched", &both.plain.image)
 }

@@ -22,19 +22,19 @@ const fn line(refusal: Refusal, word: &'static str, calls: &'static [&'static st
 /// In the table's order. All calls but check refuse by 40; of these all but
 /// format, entry and rescue by 41. A torn disk is of a kind.
 #[rustfmt::skip]
-pub const LINES: [Line; 17] = [
+pub const LINES: [Line; 18] = [
     line(NotOfAKind, "kind", &[
-        "format", "free_space", "entry", "open", "create", "read", "write", "seek", "close",
+        "format", "free_space", "entry", "find", "open", "create", "read", "write", "seek", "close",
         "delete", "rename", "mode", "view_number", "rescue",
     ]),
     line(NotSound, "sound", &[
-        "free_space", "open", "create", "read", "write", "seek", "close",
+        "free_space", "find", "open", "create", "read", "write", "seek", "close",
         "delete", "rename", "mode", "view_number",
     ]),
     line(BadFunction, "func", &["seek", "mode"]),
     line(BadAccess, "access", &["open"]),
     line(BadName, "name", &[
-        "open", "create", "delete", "rename", "mode", "view_number", "rescue", TORN,
+        "find", "open", "create", "delete", "rename", "mode", "view_number", "rescue", TORN,
     ]),
     line(BadStamp, "stamp", &["create", "close"]),
     line(NotLive, "live", &["read", "write", "seek", "close"]),
@@ -42,6 +42,7 @@ pub const LINES: [Line; 17] = [
     line(NoSuchFile, "file", &[
         "open", "delete", "rename", "mode", "view_number", "rescue", TORN,
     ]),
+    line(NoMoreFiles, "more", &["find"]),
     line(BadAttribute, "bits", &["create", "mode"]),
     line(FileOpen, "open", &["create", "delete", "rename", "mode"]),
     line(ReadOnly, "ronly", &["create", "delete", "rename", "open"]),

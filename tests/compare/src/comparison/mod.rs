@@ -4,7 +4,7 @@
 //! this package's tests the plain Rust with a fault. `both` makes one call on
 //! both and compares all that it can have touched; `singles`, `history` and
 //! `torn` choose the calls; `files` keeps the contents of all files beside a
-//! history.
+//! history; `search` lists by hand what a whole search must find.
 
 pub mod both;
 pub mod files;
@@ -12,6 +12,7 @@ pub mod guarded;
 pub mod history;
 pub mod lines;
 pub mod read_back;
+pub mod search;
 pub mod seeds;
 pub mod singles;
 pub mod tally;

@@ -8,12 +8,15 @@ pub enum Refusal {
     /// Seek method above 2, file mode function above 1.
     BadFunction,
     BadAccess,
+    /// A name or a pattern.
     BadName,
     BadStamp,
     NotLive,
     /// A seek's result outside 32 bits.
     OutOfRange,
     NoSuchFile,
+    /// Find: nothing matches from the slot on.
+    NoMoreFiles,
     BadAttribute,
     FileOpen,
     ReadOnly,
@@ -37,6 +40,7 @@ impl Refusal {
             Refusal::BadStamp => 43,
             Refusal::NotLive => 6,
             Refusal::NoSuchFile => 2,
+            Refusal::NoMoreFiles => 18,
             Refusal::BadAttribute
             | Refusal::FileOpen
             | Refusal::ReadOnly

@@ -8,6 +8,8 @@ pub const NEVER_USED: u8 = 0x00;
 pub const ERASED: u8 = 0xE5;
 
 pub const READ_ONLY: u8 = 0x01;
+pub const HIDDEN: u8 = 0x02;
+pub const SYSTEM: u8 = 0x04;
 pub const LABEL: u8 = 0x08;
 pub const ARCHIVE: u8 = 0x20;
 

@@ -21,13 +21,17 @@ fn store_part(place: &mut [u8], part: &[u8]) -> bool {
     place[..part.len()].iter().all(|&byte| is_name_byte(byte))
 }
 
+/// What a caller gives before the first dot and after it.
+pub fn parts(given: &[u8]) -> (&[u8], &[u8]) {
+    match given.iter().position(|&byte| byte == b'.') {
+        Some(dot) => (&given[..dot], &given[dot + 1..]),
+        None => (given, &[]),
+    }
+}
+
 /// The stored form of a caller's name, or 42.
 pub fn stored(given: &[u8]) -> Result<Name, Refusal> {
-    let dot = given.iter().position(|&byte| byte == b'.');
-    let (base, extension) = match dot {
-        Some(at) => (&given[..at], &given[at + 1..]),
-        None => (given, &given[..0]),
-    };
+    let (base, extension) = parts(given);
     let mut name = [b' '; 11];
     let (front, back) = name.split_at_mut(8);
     if !base.is_empty() && store_part(front, base) && store_part(back, extension) {

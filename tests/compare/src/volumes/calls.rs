@@ -28,6 +28,11 @@ pub enum Call {
     Entry {
         slot: u32,
     },
+    Find {
+        pattern: Vec<u8>,
+        slot: u32,
+        mask: u32,
+    },
     Open {
         name: Vec<u8>,
         access: u32,
@@ -75,12 +80,13 @@ pub enum Call {
 }
 
 /// The calls in the interface's order.
-pub const NAMES: [&str; 16] = [
+pub const NAMES: [&str; 17] = [
     "format",
     "check",
     "check_system",
     "free_space",
     "entry",
+    "find",
     "open",
     "create",
     "read",
@@ -102,17 +108,18 @@ impl Call {
             Call::CheckSystem => 2,
             Call::FreeSpace => 3,
             Call::Entry { .. } => 4,
-            Call::Open { .. } => 5,
-            Call::Create { .. } => 6,
-            Call::Read { .. } => 7,
-            Call::Write { .. } => 8,
-            Call::Seek { .. } => 9,
-            Call::Close { .. } => 10,
-            Call::Delete { .. } => 11,
-            Call::Rename { .. } => 12,
-            Call::Mode { .. } => 13,
-            Call::ViewNumber { .. } => 14,
-            Call::Rescue { .. } => 15,
+            Call::Find { .. } => 5,
+            Call::Open { .. } => 6,
+            Call::Create { .. } => 7,
+            Call::Read { .. } => 8,
+            Call::Write { .. } => 9,
+            Call::Seek { .. } => 10,
+            Call::Close { .. } => 11,
+            Call::Delete { .. } => 12,
+            Call::Rename { .. } => 13,
+            Call::Mode { .. } => 14,
+            Call::ViewNumber { .. } => 15,
+            Call::Rescue { .. } => 16,
         };
         NAMES[place]
     }
@@ -128,6 +135,9 @@ impl fmt::Display for Call {
             Call::Check | Call::CheckSystem | Call::FreeSpace => Ok(()),
             Call::Format { kind } => write!(f, " kind {kind:#X}"),
             Call::Entry { slot } => write!(f, " slot {slot}"),
+            Call::Find { pattern, slot, mask } => {
+                write!(f, " {} from slot {slot} mask {mask:#X}", text(pattern))
+            }
             Call::Open { name, access } => write!(f, " {} access {access}", text(name)),
             Call::Create { name, attribute, stamp } => {
                 write!(f, " {} attribute {attribute:#X} stamp {stamp:?}", text(name))
@@ -163,6 +173,7 @@ where
         Call::Format { kind } => outcomes::format(image, *kind),
         Call::FreeSpace => outcomes::free_space(image, buffer),
         Call::Entry { slot } => outcomes::entry(image, *slot, buffer),
+        Call::Find { pattern, slot, mask } => outcomes::find(image, pattern, *slot, *mask),
         Call::Open { name, access } => outcomes::open(image, table, name, *access),
         Call::Create { name, attribute, stamp } => {
             outcomes::create(image, table, name, *attribute, Stamp::from(*stamp))
@@ -209,6 +220,7 @@ where
         Call::CheckSystem => archive::check_system(image, buffer),
         Call::FreeSpace => archive::free_space(image, buffer),
         Call::Entry { slot } => archive::entry(image, *slot, buffer),
+        Call::Find { pattern, slot, mask } => archive::find(image, pattern, *slot, *mask),
         Call::Open { name, access } => archive::open(image, table, name, *access),
         Call::Create { name, attribute, stamp: [a, b, c, d, e, f] } => {
             archive::create(image, table, name, *attribute, *a, *b, *c, *d, *e, *f)

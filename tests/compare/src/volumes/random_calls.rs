@@ -1,9 +1,10 @@
 //! Random calls on a scene: such as may well end well, and odd ones.
 
 use super::calls::{Call, Scene};
+use super::finds::random_find;
 use super::random::Random;
 use super::texts::{callers_form, good_name, noise_name, stamp, varied};
-use super::word;
+use super::{root, word};
 use crate::volume::kind::{Kind, KINDS};
 use crate::volume::names::is_name_byte;
 
@@ -55,12 +56,6 @@ fn names_in_reach<'a>(
     let wanted = entries.filter(|(slot, entry)| wanted(*slot, entry));
     let names = wanted.map(|(_, entry)| &entry[..11]);
     names.filter(|name| name.iter().all(in_reach)).collect()
-}
-
-/// The root's bytes, where the image has them.
-fn root<'a>(kind: &Kind, image: &'a [u8]) -> &'a [u8] {
-    let root = kind.root_at()..kind.system_bytes();
-    image.get(root).unwrap_or(&[])
 }
 
 /// Bytes for the buffer of a call that takes one.
@@ -143,9 +138,9 @@ impl<'a> Caller<'a> {
         }
     }
 
-    /// A call on a file by its name.
+    /// A call on a file by its name, or by a pattern.
     fn name_call(&mut self) -> Call {
-        match self.random.below(5) {
+        match self.random.below(6) {
             0 => Call::Delete {
                 name: self.name_to_change(),
             },
@@ -161,6 +156,7 @@ impl<'a> Caller<'a> {
             3 => Call::Rescue {
                 name: self.some_name(),
             },
+            4 => random_find(self.kind, &self.scene.image, self.odds, self.random),
             _ => {
                 let offset = self.random.below(3000) as u32;
                 Call::ViewNumber {

@@ -2,7 +2,8 @@
 
 use super::random::Random;
 
-const GOOD: &[u8] = b"ABCDEFGHIJKLMNOPQRSTUVWXYZ0123456789$&#@!%'()-{}_";
+/// The characters of a name in capitals.
+pub const GOOD: &[u8] = b"ABCDEFGHIJKLMNOPQRSTUVWXYZ0123456789$&#@!%'()-{}_";
 
 /// Names that come up often, so that calls meet each other's files.
 const USUAL: [&str; 6] = [

@@ -44,6 +44,10 @@ impl Desk {
         Kind::of_image(&self.image).expect("an image of a kind")
     }
 
+    pub fn find(&self, pattern: &[u8], slot: u32, mask: u32) -> (u32, u32) {
+        halves(find(&self.image, pattern, slot, mask))
+    }
+
     pub fn open(&mut self, name: &str, access: u32) -> (u32, u32) {
         halves(open(&self.image, &mut self.table, name.as_bytes(), access))
     }

@@ -51,6 +51,24 @@ fn stored(name: &[u8]) -> Result<[u8; 11], u32> {
     Ok(stored)
 }
 
+/// A name that a caller's pattern stands for, or 42: `any` is put for each `?`
+/// and for all that `*` fills.
+fn instance(pattern: &[u8], any: u8) -> Result<[u8; 11], u32> {
+    let mut name = Vec::new();
+    let lengths = [8, 3].into_iter().chain(std::iter::repeat(0));
+    for (part, length) in pattern.split(|&byte| byte == b'.').zip(lengths) {
+        name.push(match part.strip_suffix(b"*") {
+            Some(front) if part.len() <= length => {
+                [front, &vec![b'?'; length - front.len()]].concat()
+            }
+            _ => part.to_vec(),
+        });
+    }
+    let name = name.join(&b'.');
+    let put_any = |&byte: &u8| if byte == b'?' { any } else { byte };
+    stored(&name.iter().map(put_any).collect::<Vec<u8>>())
+}
+
 /// Bytes 22 to 25 of a stamped entry, or 43.
 fn stamped(stamp: &[u32; 6]) -> Result<[u8; 4], u32> {
     let ranges = [0..24, 0..60, 0..30, 0..120, 1..13, 1..32];
@@ -94,6 +112,11 @@ impl Model {
             Call::Check | Call::CheckSystem => Ok(self.check()),
             Call::FreeSpace => Ok(self.free_space()),
             Call::Entry { slot } => Ok(self.entry(*slot)),
+            Call::Find {
+                pattern,
+                slot,
+                mask,
+            } => self.find_match(pattern, *slot, *mask),
             Call::Open { name, access } => self.open(name, *access),
             Call::Create {
                 name,
@@ -223,6 +246,20 @@ impl Model {
             }
             _ => 0,
         }
+    }
+
+    /// The bytes in which two names of a pattern differ may be any.
+    fn find_match(&self, pattern: &[u8], from: u32, mask: u32) -> Outcome {
+        let (one, other) = (instance(pattern, b'A')?, instance(pattern, b'B')?);
+        let is_match = |slot: &usize| {
+            let entry = &self.plan.slots[*slot];
+            let fits = |n| one[n] != other[n] || one[n] == entry[n];
+            let shows = |bit: u32| u32::from(entry[11]) & bit <= mask & bit;
+            (0..11).all(fits) && shows(0x02) && shows(0x04)
+        };
+        let slots = self.plan.files.iter().map(|file| file.slot);
+        let slots = slots.filter(|&slot| slot >= from as usize);
+        slots.filter(is_match).min().ok_or(18)
     }
 
     fn open(&mut self, name: &[u8], access: u32) -> Outcome {
