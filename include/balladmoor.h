@@ -175,11 +175,13 @@ uint64_t bm_entry(const uint8_t *image, size_t image_length, uint32_t slot, uint
 
 /* Finds a file by a pattern: the first at or after a slot that matches. bm_entry tells more of it.
  *
- * A pattern is spelled as a name is, and may have ? and * too. ? matches any one byte of the 11 that a name has, padding
- * included; * stands last in its part, counts as one of its 8 or 3 characters, and matches all the rest of the part. So
- * DAY???.LOG matches DAY1.LOG, *.* matches every name, and * alone only names without an extension. A pattern without ?
- * and * matches the file of that name. A hidden or a system file matches only if mask has BM_HIDDEN or BM_SYSTEM, and one
- * that is both only if it has both; the other bits of mask don't matter. The label is never found. All matches, once each:
+ * A pattern is spelled as a name is, and may have ? and * too. ? matches any one byte of the 11 that a name has, also
+ * padding; * stands last in its part, counts as one of its 8 or 3 characters, and matches all the rest of the part. So
+ * DAY???.LOG matches DAY1.LOG, *.* matches every name, and * alone only names without an extension. A pattern without
+ * ? and * matches the file of that name.
+ *
+ * A hidden file matches only if mask has BM_HIDDEN, a system file only if it has BM_SYSTEM, and one that is both only
+ * if it has both. The other bits of mask don't matter. The label is never found. All matches, once each:
  *
  *     answer = bm_find(image, length, pattern, pattern_length, 0, mask);
  *     while (BM_NUMBER(answer) == 0) {
