@@ -41,7 +41,7 @@ pub fn make_ready(img: &[u8]) -> Ready
 {
     match diskette::kind_of_image(img) {
         WhichKind::Known(k) => match sound::check(img) {
-            Verdict::Sound(_, free, _, _) => Ready::Volume(k, free),
+            Verdict::Sound(counts) => Ready::Volume(k, counts.free),
             Verdict::Finding(_, _) => Ready::Refused(numbers::UNSOUND),
         },
         WhichKind::Unknown => Ready::Refused(numbers::OF_NO_KIND),

@@ -39,7 +39,8 @@ fn is_lost(img: &[u8], marks: &[u8], last: usize, c: usize) -> bool
     match values::meaning_of(walks::chain::value_of(img, last, c), last) {
         Meaning::Free => false,
         Meaning::Next(_) => true,
-        Meaning::Aside => false,
+        Meaning::Bad => false,
+        Meaning::Reserved => false,
         Meaning::End => true,
         Meaning::NoneOfThese => false,
     }

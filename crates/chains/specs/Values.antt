@@ -14,9 +14,13 @@ Link last v = (2 ≤ v) × (v ≤ last)
 abbrev pub End : ℕ → Type 0
 End v = (0xff8 ≤ v) × (v ≤ 0xfff)
 
--- "FF0 to FF7 set aside"
-abbrev pub Aside : ℕ → Type 0
-Aside v = (0xff0 ≤ v) × (v ≤ 0xff7)
+-- "FF7, a bad cluster"
+abbrev pub Bad : ℕ → Type 0
+Bad v = v ≡ 0xff7
+
+-- "FF0 to FF6, reserved"
+abbrev pub Reserved : ℕ → Type 0
+Reserved v = (0xff0 ≤ v) × (v ≤ 0xff6)
 
 -- "a link or an end": the value of a cluster in a chain
 abbrev pub Used : ℕ → ℕ → Type 0
@@ -26,7 +30,8 @@ Used last v = Link last v ⊎ End v
 pub data Valid (last : ℕ) (v : ℕ) : Type 0 where
   free : v ≡ 0 → Valid last v
   used : Used last v → Valid last v
-  aside : Aside v → Valid last v
+  bad : Bad v → Valid last v
+  reserved : Reserved v → Valid last v
 
 -- ---- the same as tests
 
@@ -39,13 +44,12 @@ linkb last v = leb 2 v && leb v last
 unfoldable pub endb : ℕ → Bool
 endb v = leb 0xff8 v && leb v 0xfff
 
-abbrev pub asideb : ℕ → Bool
-asideb v = leb 0xff0 v && leb v 0xff7
+abbrev pub badb : ℕ → Bool
+badb v = eqb v 0xff7
 
--- ---- "free and aside are numbers of table values"
+abbrev pub reservedb : ℕ → Bool
+reservedb v = leb 0xff0 v && leb v 0xff6
 
-unfoldable pub freeCount : ℕ → (ℕ → ℕ) → ℕ
-freeCount last f = tally (λ c. freeb (f c)) (last - 1) 2
-
-unfoldable pub asideCount : ℕ → (ℕ → ℕ) → ℕ
-asideCount last f = tally (λ c. asideb (f c)) (last - 1) 2
+-- "numbers of table values": of how many clusters the value passes a test
+unfoldable pub valueCount : (ℕ → Bool) → ℕ → (ℕ → ℕ) → ℕ
+valueCount t last f = tally (λ c. t (f c)) (last - 1) 2

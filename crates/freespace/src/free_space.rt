@@ -41,7 +41,7 @@ pub fn free_space(img: &[u8]) -> FreeAnswer
 {
     match diskette::kind_of_image(img) {
         WhichKind::Known(k) => match sound::check(img) {
-            Verdict::Sound(_, free, _, _) => space_with(k, free),
+            Verdict::Sound(counts) => space_with(k, counts.free),
             Verdict::Finding(_, _) => without_space(numbers::UNSOUND),
         },
         WhichKind::Unknown => without_space(numbers::OF_NO_KIND),

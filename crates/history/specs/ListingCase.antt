@@ -68,8 +68,8 @@ answered w (c ∷ cs) = (ours c w .number, ours c w .value) ∷ answered (stepBy
 
 -- w is the world at first, u the one after the last close
 pub record ListingEnds (w u : World) (tare day : List ℕ) : Type 0 where
-  -- sound, with 2 files, 309 clusters free, 4 held and none set aside
-  pub verdict : checkOf (u .image) ≡ Sound 2 309 4 0
+  -- sound, with 2 files, 309 clusters free, 4 held, "0 and 0" bad and reserved
+  pub verdict : checkOf (u .image) ≡ Sound (record { files = 2; free = 309; held = 4; bad = 0; reserved = 0 })
   pub files : Shows kindFE (u .image) (listingFiles tare day)
   pub tare-stamp : HasStamp kindFE (u .image) 0 (timeThen 6 40 0)
   pub day-stamp : HasStamp kindFE (u .image) 1 (timeThen 18 5 29)

@@ -15,7 +15,7 @@ use Rattle.diskette.specs.Places.{clusters, rootEntries, slotAt}
 use Rattle.diskette.specs.declared.Kind.{Kind}
 use Rattle.directory.specs.Entries.{SameBytes}
 use Rattle.opened.specs.Records.{pointerOf}
-use Rattle.sound.specs.Counts.{freeOf, heldOf, asideOf}
+use Rattle.sound.specs.Counts.{freeOf, heldOf, badOf, reservedOf}
 use Rattle.sound.specs.Sound.{Sound}
 use Rattle.reading.specs.Read.{readCount}
 use Rattle.writing.specs.Write.{roomOf}
@@ -86,9 +86,9 @@ abbrev pub AltersNoOther : Library → Type 0
 AltersNoOther lib = AfterAnyRun lib (λ k w. (c : Call) → Given c → (s : ℕ) → s < rootEntries k → ¬ Names c k w s
     → SameFile k s (w .image) (stepBy lib w c .image))
 
--- "free + needed + set aside = total": needed by the sizes
+-- "The total in demand 3 has four parts": free, needed (by the sizes), bad, reserved
 abbrev pub TotalAfterEach : Library → Type 0
-TotalAfterEach lib = AfterAnyRun lib (λ k w. let l = w .image in freeOf k l + heldOf k l + asideOf k l ≡ clusters k)
+TotalAfterEach lib = AfterAnyRun lib (λ k w. let l = w .image in freeOf k l + heldOf k l + badOf k l + reservedOf k l ≡ clusters k)
 
 -- "a write falls short only where the file's own clusters and all free ones end before its last byte"; and then it fills them
 abbrev pub ShortOnlyWhereFull : Library → Type 0

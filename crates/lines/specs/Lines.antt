@@ -25,19 +25,23 @@ fileText name attr size start date time =
 
 -- ---- a sound volume, before its files
 
-unfoldable pub countsText : ℕ → ℕ → ℕ → ℕ → List ℕ
-countsText free held aside files =
+-- "`bad=` then `reserved=`"
+unfoldable pub outOfUseText : ℕ → ℕ → List ℕ
+outOfUseText bad reserved = line (ascii "bad=") (decimal bad) ++ line (ascii "reserved=") (decimal reserved)
+
+unfoldable pub countsText : ℕ → ℕ → ℕ → ℕ → ℕ → List ℕ
+countsText free held bad reserved files =
     line (ascii "free=") (decimal free)
     ++ (line (ascii "held=") (decimal held)
-    ++ (line (ascii "aside=") (decimal aside)
+    ++ (outOfUseText bad reserved
     ++ line (ascii "files=") (decimal files)))
 
-unfoldable pub soundText : ℕ → ℕ → ℕ → ℕ → ℕ → ℕ → List ℕ
-soundText kind clusters free held aside files =
+unfoldable pub soundText : ℕ → ℕ → ℕ → ℕ → ℕ → ℕ → ℕ → List ℕ
+soundText kind clusters free held bad reserved files =
     ascii "sound=yes\n"
     ++ (line (ascii "kind=") (hex kind)
     ++ (line (ascii "clusters=") (decimal clusters)
-    ++ countsText free held aside files))
+    ++ countsText free held bad reserved files))
 
 -- ---- If not sound: `sound=no`, `finding=`, `place=` only.
 

@@ -6,7 +6,7 @@ ghost use Rattle.text.specs.Digits.{decimal, hex};
 ghost use Rattle.text.specs.Names.{nameText};
 ghost use Rattle.text.specs.Aids.Puts.{PutsIn};
 ghost use Rattle.text.specs.Stamps.{dateText, timeText};
-ghost use Rattle.lines.specs.Lines.{line, stampText, fileText, countsText, soundText, unsoundText};
+ghost use Rattle.lines.specs.Lines.{line, stampText, fileText, outOfUseText, countsText, soundText, unsoundText};
 ghost use Rattle.lines.specs.Aids.Rooms.{fileRoom, soundRoom, unsoundRoom};
 
 // A line with a decimal number.
@@ -89,21 +89,31 @@ pub fn put_file(
     put_stamp(out, stamp, date, time)
 }
 
-// The lines of the four counts.
+// The lines of the clusters that no file may take.
+fn put_out_of_use(out: &mut [u8], at: usize, bad: usize, reserved: usize) -> usize
+    requires { ⌜ at + 55 ≤ length (now out) ⌝ }
+    ensures { λ r. ⌜ PutsIn 55 (outOfUseText bad reserved) (now (out .entry)) at r (now (out .exit)) ⌝ }
+{
+    let next = put_decimal_line(out, at, b"bad=", bad);
+    put_decimal_line(out, next, b"reserved=", reserved)
+}
+
+// The lines of the five counts.
 fn put_counts(
     out: &mut [u8],
     at: usize,
     free: usize,
     held: usize,
-    aside: usize,
+    bad: usize,
+    reserved: usize,
     files: usize,
 ) -> usize
-    requires { ⌜ at + 106 ≤ length (now out) ⌝ }
-    ensures { λ r. ⌜ PutsIn 106 (countsText free held aside files) (now (out .entry)) at r (now (out .exit)) ⌝ }
+    requires { ⌜ at + 134 ≤ length (now out) ⌝ }
+    ensures { λ r. ⌜ PutsIn 134 (countsText free held bad reserved files) (now (out .entry)) at r (now (out .exit)) ⌝ }
 {
     let second = put_decimal_line(out, at, b"free=", free);
     let third = put_decimal_line(out, second, b"held=", held);
-    let last = put_decimal_line(out, third, b"aside=", aside);
+    let last = put_out_of_use(out, third, bad, reserved);
     put_decimal_line(out, last, b"files=", files)
 }
 
@@ -115,16 +125,17 @@ pub fn put_sound(
     clusters: usize,
     free: usize,
     held: usize,
-    aside: usize,
+    bad: usize,
+    reserved: usize,
     files: usize,
 ) -> usize
     requires { ⌜ at + soundRoom ≤ length (now out) ⌝ }
-    ensures { λ r. ⌜ PutsIn soundRoom (soundText kind clusters free held aside files) (now (out .entry)) at r (now (out .exit)) ⌝ }
+    ensures { λ r. ⌜ PutsIn soundRoom (soundText kind clusters free held bad reserved files) (now (out .entry)) at r (now (out .exit)) ⌝ }
 {
     let second = text::put_bytes(out, at, b"sound=yes\n");
     let third = put_hex_line(out, second, b"kind=", kind);
     let counts = put_decimal_line(out, third, b"clusters=", clusters);
-    put_counts(out, counts, free, held, aside, files)
+    put_counts(out, counts, free, held, bad, reserved, files)
 }
 
 // The lines of a volume that is not sound: a finding and its place.

@@ -37,8 +37,8 @@ filesText l way s (suc n) = slotText l (way s) ++ filesText l way (s + 1) n
 
 -- of a volume of the kind k, by what check answers of it. If not sound: `sound=no`, `finding=`, `place=` only.
 unfoldable pub volumeText : Kind → List ℕ → Verdict → List ℕ
-volumeText k l (Sound files free held aside) =
-    soundText (k .byte) (clusters k) free held aside files ++ filesText l (slotAt k) 0 (rootEntries k)
+volumeText k l (Sound n) =
+    soundText (k .byte) (clusters k) (n .free) (n .held) (n .bad) (n .reserved) (n .files) ++ filesText l (slotAt k) 0 (rootEntries k)
 volumeText k l (Finding number place) = unsoundText number place
 
 -- finding 1: Not of a kind, or a system area that ends before the first data sector; place 0.

@@ -1,6 +1,7 @@
 // The listing of a system area, put into a buffer that the caller lends; for C too (tools/listing.h).
 use diskette::Kind;
 use diskette::WhichKind;
+use sound::Counts;
 use sound::Verdict;
 ghost use Prim.Native.Nat.{_+_, _*_, _≤_};
 ghost use lib.ListN.{length};
@@ -55,22 +56,25 @@ fn put_files(area: &[u8], root: usize, count: usize, out: &mut [u8], at: usize) 
 }
 
 // The lines of a sound volume of the kind k, and of its files.
-fn put_volume(
-    area: &[u8],
-    k: Kind,
-    out: &mut [u8],
-    files: usize,
-    free: usize,
-    held: usize,
-    aside: usize,
-) -> usize
+fn put_volume(area: &[u8], k: Kind, n: Counts, out: &mut [u8]) -> usize
     requires { ⌜ AreaOf (now area) k ⌝ }
     requires { ⌜ listingRoom ≤ length (now out) ⌝ }
-    ensures { λ r. ⌜ PutsIn listingRoom (volumeText k (now (area .entry)) (Sound files free held aside)) (now (out .entry)) 0 r (now (out .exit)) ⌝ }
+    ensures { λ r. ⌜ PutsIn listingRoom (volumeText k (now (area .entry)) (Sound n)) (now (out .entry)) 0 r (now (out .exit)) ⌝ }
 {
     let root = k.root_at();
     let count = k.root_entries();
-    let first = lines::put_sound(out, 0, k.byte, k.clusters(), free, held, aside, files);
+    let all = k.clusters();
+    let first = lines::put_sound(
+        out,
+        0,
+        k.byte,
+        all,
+        n.free,
+        n.held,
+        n.bad,
+        n.reserved,
+        n.files,
+    );
     put_files(area, root, count, out, first)
 }
 
@@ -81,9 +85,7 @@ fn list(area: &[u8], out: &mut [u8]) -> usize
 {
     match diskette::kind_of_area(area) {
         WhichKind::Known(k) => match sound::check_system(area) {
-            Verdict::Sound(files, free, held, aside) => {
-                put_volume(area, k, out, files, free, held, aside)
-            }
+            Verdict::Sound(counts) => put_volume(area, k, counts, out),
             Verdict::Finding(finding, place) => lines::put_unsound(out, 0, finding, place),
         },
         WhichKind::Unknown => lines::put_unsound(out, 0, 1, 0),

@@ -13,7 +13,7 @@ use Rattle.diskette.specs.declared.WhichKind.{WhichKind}
 use Rattle.diskette.specs.declared.WhichKind.the-variants.{Known, Unknown}
 use Rattle.values.specs.Values.{meaningOf}
 use Rattle.values.specs.declared.Meaning.{Meaning}
-use Rattle.values.specs.declared.Meaning.the-variants.{Free, Next, Aside, End, NoneOfThese}
+use Rattle.values.specs.declared.Meaning.the-variants.{Free, Next, Bad, Reserved, End, NoneOfThese}
 use Rattle.table.specs.Entries.{tableOf}
 use Rattle.fields.specs.Fields.{startOf}
 use Rattle.directory.specs.Slots.{standingOf, isPlain}
@@ -22,13 +22,14 @@ use Rattle.member.specs.Answers.{refusalAnswer}
 
 -- ---- what the value of a cluster means
 
--- 1: free, 2: set aside, 3: none of the values, 4: a link, 5: an end
+-- 1: free, 2: bad, 3: reserved, 4: none of the values, 5: a link, 6: an end
 unfoldable pub meaningTold : Meaning → ℕ
 meaningTold Free = 1
-meaningTold Aside = 2
-meaningTold NoneOfThese = 3
-meaningTold (Next n) = 4
-meaningTold End = 5
+meaningTold Bad = 2
+meaningTold Reserved = 3
+meaningTold NoneOfThese = 4
+meaningTold (Next n) = 5
+meaningTold End = 6
 
 -- 0: the kind has no such cluster; "40: image not of a kind"
 unfoldable pub clusterTold : WhichKind → List ℕ → ℕ → ℕ

@@ -21,10 +21,11 @@ fn meaning_told(meaning: Meaning) -> u64
 {
     match meaning {
         Meaning::Free => 1,
-        Meaning::Aside => 2,
-        Meaning::NoneOfThese => 3,
-        Meaning::Next(_) => 4,
-        Meaning::End => 5,
+        Meaning::Bad => 2,
+        Meaning::Reserved => 3,
+        Meaning::NoneOfThese => 4,
+        Meaning::Next(_) => 5,
+        Meaning::End => 6,
     }
 }
 

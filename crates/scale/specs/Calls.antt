@@ -23,9 +23,9 @@ pub record Leaves (o : Outcome) (answer : ℕ) (image table buffer : List ℕ) :
 -- ---- the calls that need no open table
 
 -- "check and check_system never refuse: there the upper half is the finding (0: sound) and the lower its place",
--- "if sound, 16 bytes: files, free, held, aside"; l is the image, or the system area
+-- "20 bytes into out: files, free, held, bad, reserved"; l is the image, or the system area
 unfoldable pub verdictTold : List ℕ → Verdict → List ℕ → Outcome
-verdictTold l (Sound files free held aside) out = outcome 0 0 l [] (putOut out (words (files ∷ free ∷ held ∷ aside ∷ [])))
+verdictTold l (Sound n) out = outcome 0 0 l [] (putOut out (words (n .files ∷ n .free ∷ n .held ∷ n .bad ∷ n .reserved ∷ [])))
 verdictTold l (Finding number place) out = outcome number place l [] out
 
 -- "bm_check: image, out"

@@ -26,8 +26,15 @@ fn tell_verdict(v: Verdict, out: &mut [u8]) -> u64
     ensures { λ r. ⌜ TellsVerdict v (now (out .entry)) r (now (out .exit)) ⌝ }
 {
     match v {
-        Verdict::Sound(files, free, held, aside) => {
-            put::four_words(out, files, free, held, aside);
+        Verdict::Sound(counts) => {
+            put::five_words(
+                out,
+                counts.files,
+                counts.free,
+                counts.held,
+                counts.bad,
+                counts.reserved,
+            );
             packing::answer::pack(0, 0)
         }
         Verdict::Finding(number, place) => {

@@ -24,6 +24,17 @@ fn word(out: &mut [u8], at: usize, n: usize)
     image::put32(out, at, (n % 4294967296) as u32);
 }
 
+// Stores four words from byte 0 on.
+fn first_four(out: &mut [u8], a: usize, b: usize, c: usize, d: usize)
+    requires { ⌜ 16 ≤ length (now out) ⌝ }
+    ensures { λ _. ⌜ now (out .exit) ≡ stored (now (out .entry)) 0 (words (a ∷ b ∷ c ∷ d ∷ [])) ⌝ }
+{
+    word(out, 0, a);
+    word(out, 4, b);
+    word(out, 8, c);
+    word(out, 12, d);
+}
+
 // Puts four words.
 pub fn four_words(out: &mut [u8], a: usize, b: usize, c: usize, d: usize)
     ensures { λ _. ⌜ now (out .exit) ≡ putOut (now (out .entry)) (words (a ∷ b ∷ c ∷ d ∷ [])) ⌝ }
@@ -31,10 +42,18 @@ pub fn four_words(out: &mut [u8], a: usize, b: usize, c: usize, d: usize)
     if out.len() < 16 {
         return;
     }
-    word(out, 0, a);
-    word(out, 4, b);
-    word(out, 8, c);
-    word(out, 12, d);
+    first_four(out, a, b, c, d);
+}
+
+// Puts five words.
+pub fn five_words(out: &mut [u8], a: usize, b: usize, c: usize, d: usize, e: usize)
+    ensures { λ _. ⌜ now (out .exit) ≡ putOut (now (out .entry)) (words (a ∷ b ∷ c ∷ d ∷ e ∷ [])) ⌝ }
+{
+    if out.len() < 20 {
+        return;
+    }
+    first_four(out, a, b, c, d);
+    word(out, 16, e);
 }
 
 // Stores time, date, start and size from byte 12 on.

@@ -8,8 +8,8 @@ use Rattle.diskette.specs.Images.{kindOfImage, kindOfArea}
 use Rattle.diskette.specs.declared.Kind.{Kind}
 use Rattle.diskette.specs.declared.WhichKind.{WhichKind}
 use Rattle.diskette.specs.declared.WhichKind.the-variants.{Known, Unknown}
-use Rattle.sound.specs.Findings.{TablesDiffer, BadValue, BadSlot, BadChain, InTwoChains, Lost}
-use Rattle.sound.specs.Counts.{fileCount, freeOf, heldOf, asideOf}
+use Rattle.sound.specs.Findings.{TablesDiffer, NoValue, BadSlot, BadChain, InTwoChains, Lost}
+use Rattle.sound.specs.Counts.{countsOf}
 use Rattle.sound.specs.declared.Verdict.{Verdict}
 use Rattle.sound.specs.declared.Verdict.the-variants.{Sound, Finding}
 
@@ -17,12 +17,12 @@ use Rattle.sound.specs.declared.Verdict.the-variants.{Sound, Finding}
 abbrev pub AnswersOf : Kind → List ℕ → Verdict → Type 0
 AnswersOf k l =
     OrElse ltb (TablesDiffer k l) (Finding 2)
-    (OrElse ltb (BadValue k l) (Finding 3)
+    (OrElse ltb (NoValue k l) (Finding 3)
     (OrElse ltb (BadSlot k l) (Finding 4)
     (OrElse ltb (BadChain k l) (Finding 5)
     (OrElse ltb (InTwoChains k l) (Finding 6)
     (OrElse ltb (Lost k l) (Finding 7)
-    (λ v. v ≡ Sound (fileCount k l) (freeOf k l) (heldOf k l) (asideOf k l)))))))
+    (λ v. v ≡ Sound (countsOf k l)))))))
 
 -- 1. Not of a kind, or a system area that ends before the first data sector; place 0.
 abbrev pub AnswersBy : WhichKind → List ℕ → Verdict → Type 0

@@ -21,8 +21,8 @@ TablesDiffer k l j =
     × ((((j ≡ 1) ⊎ (j ≡ 2)) × (getD l (copyOne + j) 0 ≢ 0xFF)) ⊎ (getD l (copyOne + j) 0 ≢ getD l (copyTwo k + j) 0))
 
 -- 3. An entry from 2 to the last cluster has none of the values above.
-abbrev pub BadValue : Kind → List ℕ → ℕ → Type 0
-BadValue k l c = Link (lastCluster k) c × (¬ Valid (lastCluster k) (valueOf k l c))
+abbrev pub NoValue : Kind → List ℕ → ℕ → Type 0
+NoValue k l c = Link (lastCluster k) c × (¬ Valid (lastCluster k) (valueOf k l c))
 
 -- 4. Directory: a slot after a 00 slot whose first byte is not 00;
 abbrev pub AfterNeverUsed : Kind → List ℕ → ℕ → Type 0

@@ -8,12 +8,12 @@ use Rattle.search.specs.Search.{None}
 use Rattle.diskette.specs.Places.{lastCluster}
 use Rattle.diskette.specs.declared.Kind.{Kind}
 use Rattle.sound.specs.Files.{valueOf, IsFile, ChainOf}
-use Rattle.sound.specs.Findings.{TablesDiffer, BadValue, BadSlot, BadChain, InTwoChains, Lost}
+use Rattle.sound.specs.Findings.{TablesDiffer, NoValue, BadSlot, BadChain, InTwoChains, Lost}
 
 -- lists s is the list of clusters of the file in slot s
 pub record SoundBy (k : Kind) (l : List ℕ) (lists : ℕ → List ℕ) : Type 0 where
   pub tables : None (TablesDiffer k l)
-  pub values : None (BadValue k l)
+  pub values : None (NoValue k l)
   pub slots : None (BadSlot k l)
   pub chains : (s : ℕ) → IsFile k l s → ChainOf k l s (lists s)
   pub apart : (s t c : ℕ) → IsFile k l s → IsFile k l t → c ∈ lists s → c ∈ lists t → s ≡ t
@@ -25,7 +25,7 @@ Sound k l = (lists : ℕ → List ℕ) × SoundBy k l lists
 -- none of the findings 2 to 7 holds anywhere
 pub record NoFinding (k : Kind) (l : List ℕ) : Type 0 where
   pub tables : None (TablesDiffer k l)
-  pub values : None (BadValue k l)
+  pub values : None (NoValue k l)
   pub slots : None (BadSlot k l)
   pub chains : None (BadChain k l)
   pub two : None (InTwoChains k l)

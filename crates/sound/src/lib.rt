@@ -13,9 +13,18 @@ ghost use Rattle.table.specs.Entries.{wordAt, tableOf};
 ghost use Rattle.sound.specs.Answer.{Checked, CheckedArea};
 ghost use Rattle.sound.specs.Aids.Judged.{marksJudged, chainsJudged, judged};
 
-// What check answers: sound with the counts files, free, held, aside; or a finding and its place.
+// The counts of a sound volume: files, and clusters that are free, held by files, bad and reserved.
+pub struct Counts {
+    pub files: usize,
+    pub free: usize,
+    pub held: usize,
+    pub bad: usize,
+    pub reserved: usize,
+}
+
+// What check answers: sound with the counts; or a finding and its place.
 pub enum Verdict {
-    Sound(usize, usize, usize, usize),
+    Sound(Counts),
     Finding(usize, usize),
 }
 
@@ -36,10 +45,10 @@ fn judge_marks(img: &[u8], marks: &[u8], last: usize, fine: Verdict) -> Verdict
 }
 
 // Findings 5 to 7 and the counts, of a volume whose table has good values.
-fn judge_chains(img: &[u8], k: Kind, free: usize, aside: usize) -> Verdict
+fn judge_chains(img: &[u8], k: Kind, free: usize, bad: usize, reserved: usize) -> Verdict
     requires { ⌜ Usable k ⌝ }
     requires { ⌜ 512 * firstData k ≤ length (now img) ⌝ }
-    ensures { λ r. ⌜ r ≡ chainsJudged k (now (img .entry)) free aside ⌝ }
+    ensures { λ r. ⌜ r ≡ chainsJudged k (now (img .entry)) free bad reserved ⌝ }
 {
     let last = k.last_cluster();
     let root = k.root_at();
@@ -50,7 +59,14 @@ fn judge_chains(img: &[u8], k: Kind, free: usize, aside: usize) -> Verdict
     match chaincheck::files::visit_files(img, &mut marks, &mut left, root, count, last, bytes) {
         Chains::BadChain(slot) => Verdict::Finding(5, slot),
         Chains::Held(files, held) => {
-            judge_marks(img, &marks, last, Verdict::Sound(files, free, held, aside))
+            let counts = Counts {
+                files,
+                free,
+                held,
+                bad,
+                reserved,
+            };
+            judge_marks(img, &marks, last, Verdict::Sound(counts))
         }
     }
 }
@@ -64,11 +80,11 @@ fn judge(img: &[u8], k: Kind) -> Verdict
     match tablecheck::first_difference(img, k.copy_two(), 512 * k.fat) {
         Found::At(offset) => Verdict::Finding(2, offset),
         Found::Nothing => match tablecheck::take_census(img, k.last_cluster()) {
-            Census::BadValue(c) => Verdict::Finding(3, c),
-            Census::Values(free, aside) => {
+            Census::NoValue(c) => Verdict::Finding(3, c),
+            Census::Values(free, bad, reserved) => {
                 match slotcheck::first_bad(img, k.root_at(), k.root_entries()) {
                     Found::At(slot) => Verdict::Finding(4, slot),
-                    Found::Nothing => judge_chains(img, k, free, aside),
+                    Found::Nothing => judge_chains(img, k, free, bad, reserved),
                 }
             }
         },

@@ -9,10 +9,10 @@ ghost use Rattle.table.specs.Entries.{wordAt};
 ghost use Rattle.tablecheck.specs.Aids.Copies.{differsAt, FourAlike, Alike};
 ghost use Rattle.tablecheck.specs.Aids.Values.{censusOf};
 
-// The lowest cluster with a value that means nothing; or how many clusters are free and how many set aside.
+// The lowest cluster with a value that means nothing; or how many clusters are free, bad and reserved.
 pub enum Census {
-    BadValue(usize),
-    Values(usize, usize),
+    NoValue(usize),
+    Values(usize, usize, usize),
 }
 
 // Whether the copies are not as they must be at offset j.
@@ -78,7 +78,7 @@ pub fn first_difference(img: &[u8], second: usize, size: usize) -> Found
     Found::Nothing
 }
 
-// The lowest cluster whose value means nothing; or how many are free and how many set aside.
+// The lowest cluster whose value means nothing; or how many are free, bad and reserved.
 pub fn take_census(img: &[u8], last: usize) -> Census
     requires { ⌜ last ≤ 4079 ⌝ }
     requires { ⌜ wordAt 512 last + 2 ≤ length (now img) ⌝ }
@@ -86,17 +86,19 @@ pub fn take_census(img: &[u8], last: usize) -> Census
 {
     let after = last + 1;
     let mut free: usize = 0;
-    let mut aside: usize = 0;
+    let mut bad: usize = 0;
+    let mut reserved: usize = 0;
     let mut c: usize = 2;
     while c < after {
         match values::meaning_of(table::entry(img, c), last) {
             Meaning::Free => free += 1,
-            Meaning::Aside => aside += 1,
-            Meaning::NoneOfThese => return Census::BadValue(c),
+            Meaning::Bad => bad += 1,
+            Meaning::Reserved => reserved += 1,
+            Meaning::NoneOfThese => return Census::NoValue(c),
             Meaning::Next(_) => (),
             Meaning::End => (),
         }
         c += 1;
     }
-    Census::Values(free, aside)
+    Census::Values(free, bad, reserved)
 }

@@ -27,7 +27,8 @@ pub fn with_bits(n: usize, w: u16, v: u16) -> u16
 pub enum Meaning {
     Free,
     Next(usize),
-    Aside,
+    Bad,
+    Reserved,
     End,
     NoneOfThese,
 }
@@ -48,8 +49,11 @@ pub fn meaning_of(v: u16, last: usize) -> Meaning
     if 0xFF8 <= v {
         return Meaning::End;
     }
+    if v == 0xFF7 {
+        return Meaning::Bad;
+    }
     if 0xFF0 <= v {
-        return Meaning::Aside;
+        return Meaning::Reserved;
     }
     Meaning::NoneOfThese
 }

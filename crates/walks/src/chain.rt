@@ -53,7 +53,8 @@ fn walk(img: &[u8], marks: &mut [u8], left: &[u16], last: usize, start: usize) -
             }
             Meaning::Next(next) => c = next,
             Meaning::Free => return Walk::Endless,
-            Meaning::Aside => return Walk::Endless,
+            Meaning::Bad => return Walk::Endless,
+            Meaning::Reserved => return Walk::Endless,
             Meaning::NoneOfThese => return Walk::Endless,
         }
     }

@@ -13,8 +13,8 @@ enum-known-k c = search needs
 check-requires : tie.Need-check-requires
 check-requires c κs = search needs
 
-enum-known-free : tie.Need-enum-known-free
-enum-known-free c = search needs
+enum-known-counts : tie.Need-enum-known-counts
+enum-known-counts c = search needs
 
 enum-told : tie.Need-enum-told
 enum-told c = search needs
@@ -38,7 +38,7 @@ make-ready-spec =
     kind-of-image-requires
     enum-known-k
     check-requires
-    enum-known-free
+    enum-known-counts
     enum-told
     enum-told-2
     returns

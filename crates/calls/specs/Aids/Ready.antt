@@ -15,7 +15,7 @@ use Rattle.calls.specs.declared.Ready.{Ready}
 use Rattle.calls.specs.declared.Ready.the-variants.{Volume, Refused}
 
 abbrev pub readyWith : Kind → Verdict → Ready
-readyWith k (Sound files free held aside) = Volume k free
+readyWith k (Sound counts) = Volume k (counts .free)
 readyWith k (Finding number place) = Refused unsound
 
 abbrev pub readyBy : WhichKind → Verdict → Ready

@@ -13,16 +13,17 @@ use Rattle.diskette.specs.declared.Kind.{Kind}
 use Rattle.diskette.specs.declared.WhichKind.{WhichKind}
 use Rattle.diskette.specs.declared.WhichKind.the-variants.{Known, Unknown}
 use Rattle.sound.specs.Answer.{AnswersBy, Checked}
-use Rattle.sound.specs.Findings.{TablesDiffer, BadValue, BadSlot, BadChain, InTwoChains, Lost}
+use Rattle.sound.specs.Findings.{TablesDiffer, NoValue, BadSlot, BadChain, InTwoChains, Lost}
 use Rattle.sound.specs.Aids.FromFinding.{Counted, FromLost, FromTwo, FromChains, FromSlots, FromValues}
 use Rattle.sound.specs.Laws.Answer.{check-answers}
 use Rattle.chains.specs.Verdict.{OrElse}
 use lib.Dec.{ltb}
 use mathlib.Core.Logic.{inl, inr}
-use Rattle.sound.specs.Counts.{freeOf}
+use Rattle.sound.specs.Counts.{countsOf, freeOf}
 use Rattle.sound.specs.Judged.{checkOf, isSound}
 use Rattle.sound.specs.Aids.Judged.{isSoundVerdict}
 use Rattle.sound.specs.Laws.OneAnswer.{checked-is}
+use Rattle.sound.specs.declared.Counts.{Counts}
 use Rattle.sound.specs.declared.Verdict.{Verdict}
 use Rattle.sound.specs.declared.Verdict.the-variants.{Sound, Finding}
 use Rattle.calls.specs.Outcome.{Row}
@@ -45,9 +46,9 @@ module _ (img : List ℕ) (w : WhichKind) (e : w ≡ kindOfImage img) where
     unfolding readyOf
     ready-unsound n p f = rw (sym e ∙ q, sym (checked-is c) ∙ f)
 
-    pub ready-volume : (files free held aside : ℕ) → v ≡ Sound files free held aside → Volume k free ≡ readyOf img
+    pub ready-volume : (counts : Counts) → v ≡ Sound counts → Volume k (counts .free) ≡ readyOf img
     unfolding readyOf
-    ready-volume files free held aside f = rw (sym e ∙ q, sym (checked-is c) ∙ f)
+    ready-volume counts f = rw (sym e ∙ q, sym (checked-is c) ∙ f)
 
 -- ---- a volume that is ready
 
@@ -90,43 +91,44 @@ unfolding isSound
 sound-by img v e = ap isSoundVerdict e
 
 on-by : (img : List ℕ) (w : WhichKind) (v : Verdict) → kindOfImage img ≡ w → checkOf img ≡ v → (k : Kind) (free : ℕ) → readyBy w v ≡ Volume k free → OnVolume img k
-on-by img (Known j) (Sound files x held aside) ew ev k free q =
-    record { known = ew ∙ ap Known (one-ready j k x free q .0); sound = sound-by img (Sound files x held aside) ev }
+on-by img (Known j) (Sound x) ew ev k free q =
+    record { known = ew ∙ ap Known (one-ready j k (x .free) free q .0); sound = sound-by img (Sound x) ev }
 on-by img (Known j) (Finding n p) ew ev k free q = refused-not (OnVolume img k) unsound k free q
 on-by img Unknown v ew ev k free q = refused-not (OnVolume img k) ofNoKind k free q
 
 -- a finding is no count: what is left after it holds
-counted : (B : ℕ → Type 0) (n : ℕ) (Rest : Verdict → Type 0) (files free held aside : ℕ) → OrElse ltb B (Finding n) Rest (Sound files free held aside)
-    → Rest (Sound files free held aside)
-counted B n Rest files free held aside (inl x) = absurd (let z : _≡_ {A = ℕ} 0 1 = cc (x .2) in omega arith)
-counted B n Rest files free held aside (inr x) = x .1
+counted : (B : ℕ → Type 0) (n : ℕ) (Rest : Verdict → Type 0) (x : Counts) → OrElse ltb B (Finding n) Rest (Sound x)
+    → Rest (Sound x)
+counted B n Rest x (inl y) = absurd (let z : _≡_ {A = ℕ} 0 1 = cc (y .2) in omega arith)
+counted B n Rest x (inr y) = y .1
 
-free-by : (k : Kind) (l : List ℕ) (w : WhichKind) (files free held aside : ℕ) → w ≡ Known k → AnswersBy w l (Sound files free held aside) → free ≡ freeOf k l
-free-by k l (Known j) files free held aside q x =
+free-by : (k : Kind) (l : List ℕ) (w : WhichKind) (x : Counts) → w ≡ Known k → AnswersBy w l (Sound x) → x .free ≡ freeOf k l
+free-by k l (Known j) x q y =
     let e : j ≡ k = cc (q) in
     let c =
-    counted (Lost j l) 7 (Counted j l) files free held aside
-    (counted (InTwoChains j l) 6 (FromLost j l) files free held aside
-    (counted (BadChain j l) 5 (FromTwo j l) files free held aside
-    (counted (BadSlot j l) 4 (FromChains j l) files free held aside
-    (counted (BadValue j l) 3 (FromSlots j l) files free held aside
-    (counted (TablesDiffer j l) 2 (FromValues j l) files free held aside x))))) in
-    let f : free ≡ freeOf j l = cc (c) in
+    counted (Lost j l) 7 (Counted j l) x
+    (counted (InTwoChains j l) 6 (FromLost j l) x
+    (counted (BadChain j l) 5 (FromTwo j l) x
+    (counted (BadSlot j l) 4 (FromChains j l) x
+    (counted (NoValue j l) 3 (FromSlots j l) x
+    (counted (TablesDiffer j l) 2 (FromValues j l) x y))))) in
+    let o : x ≡ countsOf j l = cc (c) in
+    let f : x .free ≡ freeOf j l = ap (λ (z : Counts). z .free) o in
     rw e at f
-free-by k l Unknown files free held aside q x = absurd (let z : _≡_ {A = ℕ} 0 1 = cc (q) in omega arith)
+free-by k l Unknown x q y = absurd (let z : _≡_ {A = ℕ} 0 1 = cc (q) in omega arith)
 
 count-by : (img : List ℕ) (w : WhichKind) (v : Verdict) → kindOfImage img ≡ w → checkOf img ≡ v → (k : Kind) (free : ℕ) → readyBy w v ≡ Volume k free → free ≡ freeOf k img
-count-by img (Known j) (Sound files x held aside) ew ev k free q =
-    let o = one-ready j k x free q in
-    let c : AnswersBy (kindOfImage img) img (Sound files x held aside) = subst (AnswersBy (kindOfImage img) img) ev (check-answers img .is) in
-    sym (o .1) ∙ free-by k img (kindOfImage img) files x held aside (ew ∙ ap Known (o .0)) c
+count-by img (Known j) (Sound x) ew ev k free q =
+    let o = one-ready j k (x .free) free q in
+    let c : AnswersBy (kindOfImage img) img (Sound x) = subst (AnswersBy (kindOfImage img) img) ev (check-answers img .is) in
+    sym (o .1) ∙ free-by k img (kindOfImage img) x (ew ∙ ap Known (o .0)) c
 count-by img (Known j) (Finding n p) ew ev k free q = refused-not (free ≡ freeOf k img) unsound k free q
 count-by img Unknown v ew ev k free q = refused-not (free ≡ freeOf k img) ofNoKind k free q
 
 -- ready refuses by the number of the first two rows
 stops-by : (img : List ℕ) (w : WhichKind) (v : Verdict) → kindOfImage img ≡ w → checkOf img ≡ v → (n : ℕ) → readyBy w v ≡ Refused n
     → (rows : List Row) → Stops ((notOfKind img, ofNoKind) ∷ (notSound img, unsound) ∷ rows) n
-stops-by img (Known j) (Sound files x held aside) ew ev n q rows = volume-not _ n j x q
+stops-by img (Known j) (Sound x) ew ev n q rows = volume-not _ n j (x .free) q
 stops-by img (Known j) (Finding m p) ew ev n q rows =
     let e : unsound ≡ n = cc in
     subst (Stops ((notOfKind img, ofNoKind) ∷ (notSound img, unsound) ∷ rows)) e

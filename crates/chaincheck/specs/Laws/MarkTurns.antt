@@ -14,7 +14,7 @@ use Rattle.search.specs.declared.Found.{Found}
 use Rattle.search.specs.declared.Found.the-variants.{At}
 use Rattle.values.specs.Values.{meaningOf}
 use Rattle.values.specs.declared.Meaning.{Meaning}
-use Rattle.values.specs.declared.Meaning.the-variants.{Free, Next, Aside, End, NoneOfThese}
+use Rattle.values.specs.declared.Meaning.the-variants.{Free, Next, Bad, Reserved, End, NoneOfThese}
 use Rattle.table.specs.Entries.{tableOf}
 use Rattle.walks.specs.Laws.Meanings.{isEnd, isNext, end-said, link-said}
 
@@ -51,11 +51,14 @@ module _ (last : ℕ) (l m : List ℕ) (c : ℕ) where
     pub lost-next : (n : ℕ) → g ≡ Next n → true ≡ lost last (tableOf last l) m c
     lost-next n t = by true false (ap isNext t) (ap isEnd t)
 
-    pub lost-aside : g ≡ Aside → false ≡ lost last (tableOf last l) m c
-    lost-aside t = by false false (ap isNext t) (ap isEnd t)
+    pub lost-bad : g ≡ Bad → false ≡ lost last (tableOf last l) m c
+    lost-bad t = by false false (ap isNext t) (ap isEnd t)
+
+    pub lost-reserved : g ≡ Reserved → false ≡ lost last (tableOf last l) m c
+    lost-reserved t = by false false (ap isNext t) (ap isEnd t)
 
     pub lost-end : g ≡ End → true ≡ lost last (tableOf last l) m c
     lost-end t = by false true (ap isNext t) (ap isEnd t)
 
-    pub lost-bad : g ≡ NoneOfThese → false ≡ lost last (tableOf last l) m c
-    lost-bad t = by false false (ap isNext t) (ap isEnd t)
+    pub lost-no-value : g ≡ NoneOfThese → false ≡ lost last (tableOf last l) m c
+    lost-no-value t = by false false (ap isNext t) (ap isEnd t)

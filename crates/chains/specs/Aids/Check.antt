@@ -7,7 +7,7 @@ use lib.Dec.{eqb}
 use lib.ListN.{length, getD}
 use Rattle.search.specs.Search.{lowest}
 use Rattle.chains.specs.Aids.Lists.{joined}
-use Rattle.chains.specs.Values.{asideb, freeb, linkb, endb}
+use Rattle.chains.specs.Values.{badb, freeb, linkb, endb, reservedb}
 use Rattle.chains.specs.Aids.Walk.{walk}
 use Rattle.chains.specs.Aids.Holders.{Holder}
 use Rattle.chains.specs.Aids.Marks.{marksOf}
@@ -27,8 +27,8 @@ unfoldable pub chainMarks : ℕ → ℕ → (ℕ → ℕ) → (ℕ → Holder) �
 chainMarks size last f h is = marksOf size (joined (λ i. chainOf last f (h i)) is)
 
 -- finding 3 at cluster c
-unfoldable pub badValue : ℕ → (ℕ → ℕ) → ℕ → Bool
-badValue last f c = not (freeb (f c) || (linkb last (f c) || (endb (f c) || asideb (f c))))
+unfoldable pub noValue : ℕ → (ℕ → ℕ) → ℕ → Bool
+noValue last f c = not (freeb (f c) || (linkb last (f c) || (endb (f c) || (badb (f c) || reservedb (f c)))))
 
 -- finding 6 at cluster c, by the marks m
 unfoldable pub inTwo : List ℕ → ℕ → Bool

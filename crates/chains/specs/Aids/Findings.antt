@@ -11,8 +11,8 @@ use Rattle.chains.specs.Aids.Holders.{Holder, Owns}
 use Rattle.chains.specs.Verdict.{OrElse}
 
 -- finding 3: "An entry from 2 to the last cluster has none of the values above"
-abbrev pub BadValue : ℕ → (ℕ → ℕ) → ℕ → Type 0
-BadValue last f c = Link last c × (¬ Valid last (f c))
+abbrev pub NoValue : ℕ → (ℕ → ℕ) → ℕ → Type 0
+NoValue last f c = Link last c × (¬ Valid last (f c))
 
 -- finding 5: an entry at place p whose holder has no list of clusters that fits it
 abbrev pub BadChain : {P : Type 0} → ℕ → (ℕ → ℕ) → (ℕ → Holder) → List (P × ℕ) → P → Type 0

@@ -18,8 +18,8 @@ use Rattle.chains.specs.Aids.Walk.{walk}
 use Rattle.chains.specs.Aids.Holders.{Holder, Owns}
 use Rattle.chains.specs.Aids.Marks.{marksOf}
 use Rattle.chains.specs.Aids.Verdict.{optional, Finds}
-use Rattle.chains.specs.Aids.Findings.{BadValue, InChain, InTwo, Lost, holdersOf}
-use Rattle.chains.specs.Aids.Check.{badValue, chainMarks, chainOf, inTwo, lost, ownsb}
+use Rattle.chains.specs.Aids.Findings.{NoValue, InChain, InTwo, Lost, holdersOf}
+use Rattle.chains.specs.Aids.Check.{noValue, chainMarks, chainOf, inTwo, lost, ownsb}
 use Rattle.chains.specs.Laws.Tests.{clash, says-and, says-eq, says-map, says-not, says-or}
 use Rattle.chains.specs.Laws.Lists.{joined-mem, mem-joined}
 use Rattle.chains.specs.Laws.Values.{says-end, says-link, says-valid}
@@ -74,9 +74,9 @@ holders-in (e ∷ es) i (inr m) = let r = holders-in es i m in (r .0, inr (r .1)
 
 -- ---- finding 3
 
-pub found-bad-value : (G : Geometry) (f : ℕ → ℕ) → Finds ltb (BadValue (G .last) f) (optional (lowest (badValue (G .last) f) 2 (G .last - 1)))
-unfolding badValue
-found-bad-value G f = lowest-finds (BadValue (G .last) f) (badValue (G .last) f) 2 (G .last - 1) (λ p b. (b .0 .0, omega arith))
+pub found-no-value : (G : Geometry) (f : ℕ → ℕ) → Finds ltb (NoValue (G .last) f) (optional (lowest (noValue (G .last) f) 2 (G .last - 1)))
+unfolding noValue
+found-no-value G f = lowest-finds (NoValue (G .last) f) (noValue (G .last) f) 2 (G .last - 1) (λ p b. (b .0 .0, omega arith))
     (λ c k l. says-map (λ n. ((k, omega arith), n)) (λ b. b .1) (says-not (says-valid (G .last) (f c))))
 
 -- ---- where all chains are good, the marks decide findings 6 and 7

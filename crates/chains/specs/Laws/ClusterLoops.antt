@@ -5,16 +5,12 @@ use mathlib.Core.Bool.{Bool}
 use mathlib.Core.Path.{_≡_, ap}
 use Rattle.search.specs.Search.{lowest}
 use Rattle.chains.specs.Sums.{tally}
-use Rattle.chains.specs.Values.{asideCount, freeCount}
-use Rattle.chains.specs.Aids.Values.{freeAt, asideAt}
+use Rattle.chains.specs.Values.{valueCount}
+use Rattle.chains.specs.Aids.Values.{passesAt}
 
 pub lowest-start : (t : ℕ → Bool) (last : ℕ) → lowest t 2 (last + 1 - 2) ≡ lowest t 2 (last - 1)
 lowest-start t last = let y : last + 1 - 2 ≡ last - 1 = omega arith in ap (lowest t 2) y
 
-pub free-start : (f : ℕ → ℕ) (last : ℕ) → 0 + tally (freeAt f) (last + 1 - 2) 2 ≡ freeCount last f
-unfolding freeCount freeAt
-free-start f last = let y : last + 1 - 2 ≡ last - 1 = omega arith in rw y (omega arith)
-
-pub aside-start : (f : ℕ → ℕ) (last : ℕ) → 0 + tally (asideAt f) (last + 1 - 2) 2 ≡ asideCount last f
-unfolding asideCount asideAt
-aside-start f last = let y : last + 1 - 2 ≡ last - 1 = omega arith in rw y (omega arith)
+pub count-start : (t : ℕ → Bool) (f : ℕ → ℕ) (last : ℕ) → 0 + tally (passesAt t f) (last + 1 - 2) 2 ≡ valueCount t last f
+unfolding valueCount passesAt
+count-start t f last = let y : last + 1 - 2 ≡ last - 1 = omega arith in rw y (omega arith)

@@ -1,7 +1,7 @@
--- Free, held and aside are all clusters.
+-- Free, held, bad and reserved are all clusters.
 use Prim.Native.Nat.{ℕ, _+_, _-_, _<_}
 use native.Mathlib.Omega.{arith}
-use mathlib.Core.Path.{_≡_, refl, sym, _∙_, subst}
+use mathlib.Core.Path.{_≡_, refl, sym, ap, _∙_, subst}
 use mathlib.Core.Logic.{inl, inr}
 use mathlib.Core.Bool.{true}
 use mathlib.Core.List.{List, [], _∷_}
@@ -13,12 +13,13 @@ use Rattle.chains.specs.Sums.{sum, bit}
 use Rattle.chains.specs.Aids.Sums.{sumOver, sumClusters}
 use Rattle.chains.specs.Sizes.{clustersFor}
 use Rattle.chains.specs.Aids.Sizes.{Geometry}
-use Rattle.chains.specs.Values.{Link, Used, Valid, aside, asideCount, asideb, free, freeCount, freeb, used}
+use Rattle.chains.specs.Values.{Link, Used, Valid, bad, badb, free, freeb, reserved, reservedb, used, valueCount}
 use Rattle.chains.specs.Aids.Holders.{Holder, NamesAll, FitTogether, fileHolder, nobody}
 use Rattle.chains.specs.Laws.Lists.{joined-mem, mem-joined, mem-occ, occ-not}
 use Rattle.chains.specs.Laws.Sums.{joined-length, occ-clusters, sum-add, sum-cong, sum-one}
 use Rattle.chains.specs.Laws.Sizes.{clusters-zero, fits-exact}
-use Rattle.chains.specs.Laws.Values.{aside-one, aside-sum, free-no-aside, free-no-use, free-none, free-one, free-sum, used-no-aside, used-no-free}
+use Rattle.chains.specs.Laws.Values.{bad-out-of-use, count-sum, free-no-use, free-none, free-one, reserved-out-of-use, says-bad, says-reserved, used-no-free}
+use Rattle.chains.specs.Laws.Tests.{false-says, true-says}
 use Rattle.chains.specs.Laws.Holders.{in-range, in-use, joined-once}
 
 module _ (G : Geometry) (f : ℕ → ℕ) (h : ℕ → Holder) (χ : ℕ → List ℕ) (v : FitTogether (G .last) f h χ) (is : List ℕ) (l : NamesAll χ is) where
@@ -30,24 +31,54 @@ module _ (G : Geometry) (f : ℕ → ℕ) (h : ℕ → Holder) (χ : ℕ → Lis
   in-none : (c : ℕ) → ¬ Used (G .last) (f c) → occ c (joined χ is) ≡ 0
   in-none c n = occ-not c (joined χ is) (λ m. let r = mem-joined χ is c m in n (in-use G f h χ v (r .0) c (r .2)))
 
-  -- each cluster is free, or aside, or in one chain
-  one-each : (c : ℕ) → Link (G .last) c → bit (freeb (f c)) + (occ c (joined χ is) + bit (asideb (f c))) ≡ 1
+  -- each cluster is free, or in one chain, or bad, or reserved
+  one-each : (c : ℕ) → Link (G .last) c → bit (freeb (f c)) + (occ c (joined χ is) + (bit (badb (f c)) + bit (reservedb (f c)))) ≡ 1
   one-each c i = go (v .valid c i)
     where
-      go : Valid (G .last) (f c) → bit (freeb (f c)) + (occ c (joined χ is) + bit (asideb (f c))) ≡ 1
-      go (free e) = omega (arith, free-one (f c) e, free-no-aside (f c) e, in-none c (free-no-use (G .last) (f c) e))
-      go (used u) = omega (arith, used-no-free (G .last) (f c) u, used-no-aside G (f c) u, in-one c i u)
-      go (aside a) = omega (arith, free-none (f c) (λ e. omega arith), aside-one (f c) a, in-none c (λ u. elim u [ inl x ↦ omega (arith, G .small) | inr x ↦ omega arith ]))
+      go : Valid (G .last) (f c) → bit (freeb (f c)) + (occ c (joined χ is) + (bit (badb (f c)) + bit (reservedb (f c)))) ≡ 1
+      go (free e) =
+          omega (arith, free-one (f c) e, in-none c (free-no-use (G .last) (f c) e), ap bit (bad-out-of-use G .not-free (f c) e), ap bit (reserved-out-of-use G .not-free (f c) e))
+      go (used u) =
+          omega (arith, used-no-free (G .last) (f c) u, in-one c i u, ap bit (bad-out-of-use G .not-used (f c) u), ap bit (reserved-out-of-use G .not-used (f c) u))
+      go (bad b) =
+          omega (
+            arith,
+            free-none (f c) (λ e. omega arith),
+            in-none c (λ u. elim u [ inl x ↦ omega (arith, G .small) | inr x ↦ omega arith ]),
+            ap bit (true-says (says-bad (f c)) b),
+            ap bit (false-says (says-reserved (f c)) (λ r. omega arith)),
+          )
+      go (reserved r) =
+          omega (
+            arith,
+            free-none (f c) (λ e. omega arith),
+            in-none c (λ u. elim u [ inl x ↦ omega (arith, G .small) | inr x ↦ omega arith ]),
+            ap bit (false-says (says-bad (f c)) (λ b. omega arith)),
+            ap bit (true-says (says-reserved (f c)) r),
+          )
 
-  -- free, held and aside are all clusters; held is the sum of the chains' lengths
-  pub all-clusters : freeCount (G .last) f + (sumOver is (λ i. length (χ i)) + asideCount (G .last) f) ≡ G .last - 1
+  -- free, held, bad and reserved are all clusters; held is the sum of the chains' lengths
+  pub all-clusters : valueCount freeb (G .last) f + (sumOver is (λ i. length (χ i)) + (valueCount badb (G .last) f + valueCount reservedb (G .last) f)) ≡ G .last - 1
   all-clusters =
       let a : ℕ → ℕ = λ i. bit (freeb (f (i + 2))) in
       let t : ℕ → ℕ = λ i. occ (i + 2) (joined χ is) in
-      let b : ℕ → ℕ = λ i. bit (asideb (f (i + 2))) in
-      let e : sum (G .last - 1) (λ i. a i + (t i + b i)) ≡ sum (G .last - 1) (λ i. 1) = sum-cong (G .last - 1) _ _ (λ i k. one-each (i + 2) (omega arith)) in
+      let b : ℕ → ℕ = λ i. bit (badb (f (i + 2))) in
+      let d : ℕ → ℕ = λ i. bit (reservedb (f (i + 2))) in
+      let e : sum (G .last - 1) (λ i. a i + (t i + (b i + d i))) ≡ sum (G .last - 1) (λ i. 1) = sum-cong (G .last - 1) _ _ (λ i k. one-each (i + 2) (omega arith)) in
       let o : sumClusters (G .last) (λ c. occ c (joined χ is)) ≡ length (joined χ is) = occ-clusters G (joined χ is) (λ c m. let r = mem-joined χ is c m in in-range G f h χ v (r .0) c (r .2)) in
-      omega (arith, e, sum-one (G .last - 1), sum-add (G .last - 1) a (λ i. t i + b i), sum-add (G .last - 1) t b, o, joined-length χ is, free-sum (G .last) f, aside-sum (G .last) f)
+      omega (
+        arith,
+        e,
+        sum-one (G .last - 1),
+        sum-add (G .last - 1) a (λ i. t i + (b i + d i)),
+        sum-add (G .last - 1) t (λ i. b i + d i),
+        sum-add (G .last - 1) b d,
+        o,
+        joined-length χ is,
+        count-sum freeb (G .last) f,
+        count-sum badb (G .last) f,
+        count-sum reservedb (G .last) f,
+      )
 
 -- "Held is the sum over files of size divided by cluster bytes, rounded up": where every length is what the size asks for, the sum of the lengths is that sum
 pub held-sizes : (last cb : ℕ) (f : ℕ → ℕ) (h : ℕ → Holder) (χ : ℕ → List ℕ) → FitTogether last f h χ → (size : ℕ → ℕ) (is : List ℕ)

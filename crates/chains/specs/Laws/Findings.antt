@@ -12,7 +12,7 @@ use Rattle.chains.specs.Aids.Sizes.{Geometry}
 use Rattle.chains.specs.Aids.Holders.{Holder, Owns, FitTogether, nobody}
 use Rattle.search.specs.Search.{None}
 use Rattle.chains.specs.Aids.Verdict.{Finds}
-use Rattle.chains.specs.Aids.Findings.{BadChain, BadValue, FromChains, FromLost, FromTwo, InChain, InTwo, Lost, Voice, holdersOf}
+use Rattle.chains.specs.Aids.Findings.{BadChain, NoValue, FromChains, FromLost, FromTwo, InChain, InTwo, Lost, Voice, holdersOf}
 use Rattle.chains.specs.Aids.Check.{chainMarks, chainOf, checkChains, checkLost, checkTwo, inTwo, lost}
 use Rattle.chains.specs.Laws.Tests.{says-dec}
 use Rattle.chains.specs.Laws.Lists.{dec-mem, joined-mem, mem-joined}
@@ -53,7 +53,7 @@ module _ {P A : Type 0} (before : P → P → Bool) (G : Geometry) (f : ℕ → 
     outside : (i : ℕ) → ¬ (i ∈ is) → χ i ≡ []
     outside i n = rw (out i n) (sym (owns-chain-of G f nobody [] (nobody-owns G f)))
 
-    pub none-sound : None (BadValue (G .last) f) → None (BadChain (G .last) f h es) → None (InTwo (G .last) f h is) → None (Lost (G .last) f h is) → FitTogether (G .last) f h χ
+    pub none-sound : None (NoValue (G .last) f) → None (BadChain (G .last) f h es) → None (InTwo (G .last) f h is) → None (Lost (G .last) f h is) → FitTogether (G .last) f h χ
     none-sound n3 n5 n6 n7 = record {
       valid = λ c l. elim (says-dec (says-valid (G .last) (f c))) [ yes x ↦ x | no x ↦ absurd (n3 c (l, x)) ];
       owns = whole;

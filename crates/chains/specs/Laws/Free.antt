@@ -12,8 +12,8 @@ use Rattle.chains.specs.Lists.{_∈_}
 use Rattle.chains.specs.Aids.Lists.{occ, Once}
 use Rattle.chains.specs.Sums.{tally}
 use Rattle.chains.specs.Aids.Sizes.{Geometry}
-use Rattle.chains.specs.Values.{Link, freeCount}
-use Rattle.chains.specs.Aids.Values.{freeAt}
+use Rattle.chains.specs.Values.{Link, freeb, valueCount}
+use Rattle.chains.specs.Aids.Values.{passesAt}
 use Rattle.chains.specs.Free.{freeClusters, freeFrom}
 use Rattle.chains.specs.Aids.Free.{Takable}
 use Rattle.chains.specs.Laws.Put.{put-other, put-same}
@@ -71,16 +71,16 @@ free-once G f a = from-once f (G .last - 1) 2 a
 
 -- ---- the count of the table's zeros is the length of that list
 
-from-length : (f : ℕ → ℕ) (n c : ℕ) → length (freeFrom f n c) ≡ tally (freeAt f) n c
-unfolding tally freeAt
+from-length : (f : ℕ → ℕ) (n c : ℕ) → length (freeFrom f n c) ≡ tally (passesAt freeb f) n c
+unfolding tally passesAt
 from-length f zero c = ap length (free-nil f c)
 from-length f (suc n) c = elim (ℕ-discrete (f c) 0) [
   | yes h ↦ omega (arith, ap length (free-yes f n c h), from-length f n (suc c), free-one (f c) h)
   | no h ↦ omega (arith, ap length (free-no f n c h), from-length f n (suc c), free-none (f c) h)
 ]
 
-pub free-length : (G : Geometry) (f : ℕ → ℕ) → length (freeClusters (G .last) f) ≡ freeCount (G .last) f
-unfolding freeClusters freeCount freeAt
+pub free-length : (G : Geometry) (f : ℕ → ℕ) → length (freeClusters (G .last) f) ≡ valueCount freeb (G .last) f
+unfolding freeClusters valueCount passesAt
 free-length G f = from-length f (G .last - 1) 2
 
 -- ---- the lowest free cluster is the head, and taking it leaves the rest

@@ -3,6 +3,7 @@ use Prim.Native.Nat.{ℕ, _+_, _-_}
 use native.Mathlib.Omega.{arith}
 use mathlib.Core.Path.{_≡_, sym, ap, _∙_}
 use mathlib.Core.Logic.{inl, inr}
+use mathlib.Core.Bool.{Bool}
 use mathlib.Core.List.{List}
 use lib.ListN.{length}
 use Rattle.chains.specs.Lists.{_∈_}
@@ -10,12 +11,13 @@ use Rattle.chains.specs.Aids.Lists.{occ}
 use Rattle.chains.specs.Sums.{sum, bit}
 use Rattle.chains.specs.Aids.Sums.{sumClusters}
 use Rattle.chains.specs.Aids.Sizes.{Geometry}
-use Rattle.chains.specs.Values.{Link, Used, asideCount, asideb, freeCount, freeb}
+use Rattle.chains.specs.Values.{Link, Used, freeb, valueCount}
+use Rattle.chains.specs.Aids.Values.{OutOfUse}
 use Rattle.chains.specs.Aids.Holders.{Holder, FitTogether}
 use Rattle.chains.specs.Aids.Replace.{Replaced}
 use Rattle.chains.specs.Laws.Lists.{dec-mem, mem-occ, occ-not}
 use Rattle.chains.specs.Laws.Sums.{occ-clusters, sum-add, sum-cong}
-use Rattle.chains.specs.Laws.Values.{aside-sum, free-no-aside, free-one, free-sum, used-no-aside, used-no-free}
+use Rattle.chains.specs.Laws.Values.{count-sum, free-one, used-no-free}
 use Rattle.chains.specs.Laws.Chain.{chain-mem, chain-once}
 use Rattle.chains.specs.Laws.Holders.{in-range, in-use, once}
 
@@ -26,18 +28,19 @@ module _ (G : Geometry) (f g : ℕ → ℕ) (h : ℕ → Holder) (χ : ℕ → L
   is : (c : ℕ) → c ∈ ds → Used (G .last) (g c)
   is c d = chain-mem G g (new .start) ds (r .owns .chain) c d .1
 
-  -- set aside: cluster by cluster the same
-  same : (c : ℕ) → Link (G .last) c → bit (asideb (g c)) ≡ bit (asideb (f c))
-  same c k = elim (dec-mem c ds) [
-    | yes d ↦ used-no-aside G (g c) (is c d) ∙ sym (elim (r .taken c d) [ inl m ↦ used-no-aside G (f c) (was c m) | inr e ↦ free-no-aside (f c) e ])
-    | no nd ↦ elim (dec-mem c (χ i)) [
-      | yes m ↦ free-no-aside (g c) (r .freed c k m nd) ∙ sym (used-no-aside G (f c) (was c m))
-      | no nm ↦ ap (λ (x : ℕ). bit (asideb x)) (r .keep c k nm nd)
+  -- out of use: cluster by cluster the same
+  module _ (t : ℕ → Bool) (o : OutOfUse (G .last) t) where
+    same : (c : ℕ) → Link (G .last) c → t (g c) ≡ t (f c)
+    same c k = elim (dec-mem c ds) [
+      | yes d ↦ o .not-used (g c) (is c d) ∙ sym (elim (r .taken c d) [ inl m ↦ o .not-used (f c) (was c m) | inr e ↦ o .not-free (f c) e ])
+      | no nd ↦ elim (dec-mem c (χ i)) [
+        | yes m ↦ o .not-free (g c) (r .freed c k m nd) ∙ sym (o .not-used (f c) (was c m))
+        | no nm ↦ ap t (r .keep c k nm nd)
+      ]
     ]
-  ]
 
-  pub replace-aside : asideCount (G .last) g ≡ asideCount (G .last) f
-  replace-aside = aside-sum (G .last) g ∙ sum-cong (G .last - 1) (λ j. bit (asideb (g (j + 2)))) (λ j. bit (asideb (f (j + 2)))) (λ j k. same (j + 2) (omega arith)) ∙ sym (aside-sum (G .last) f)
+    pub replace-out-of-use : valueCount t (G .last) g ≡ valueCount t (G .last) f
+    replace-out-of-use = count-sum t (G .last) g ∙ sum-cong (G .last - 1) (λ j. bit (t (g (j + 2)))) (λ j. bit (t (f (j + 2)))) (λ j k. ap bit (same (j + 2) (omega arith))) ∙ sym (count-sum t (G .last) f)
 
   -- free: cluster by cluster, so that no list of holders is asked for
   one-more : (c : ℕ) → Link (G .last) c → bit (freeb (g c)) + occ c ds ≡ bit (freeb (f c)) + occ c (χ i)
@@ -55,7 +58,7 @@ module _ (G : Geometry) (f g : ℕ → ℕ) (h : ℕ → Holder) (χ : ℕ → L
     ]
   ]
 
-  pub replace-free : freeCount (G .last) g + length ds ≡ freeCount (G .last) f + length (χ i)
+  pub replace-free : valueCount freeb (G .last) g + length ds ≡ valueCount freeb (G .last) f + length (χ i)
   replace-free =
       let n : ℕ = G .last - 1 in
       let e : sum n (λ j. bit (freeb (g (j + 2))) + occ (j + 2) ds) ≡ sum n (λ j. bit (freeb (f (j + 2))) + occ (j + 2) (χ i)) = sum-cong n _ _ (λ j k. one-more (j + 2) (omega arith)) in
@@ -66,8 +69,8 @@ module _ (G : Geometry) (f g : ℕ → ℕ) (h : ℕ → Holder) (χ : ℕ → L
         e,
         a,
         b,
-        free-sum (G .last) f,
-        free-sum (G .last) g,
+        count-sum freeb (G .last) f,
+        count-sum freeb (G .last) g,
         sum-add n (λ j. bit (freeb (g (j + 2)))) (λ j. occ (j + 2) ds),
         sum-add n (λ j. bit (freeb (f (j + 2)))) (λ j. occ (j + 2) (χ i)),
       )

@@ -3,13 +3,13 @@ use Prim.Native.Nat.{ℕ, _-_}
 use native.Mathlib.Omega.{arith}
 use mathlib.Core.Path.{_≡_, ap}
 use mathlib.Core.Logic.{_≢_, _⊎_, inl, inr}
-use mathlib.Core.Bool.{false, _||_}
+use mathlib.Core.Bool.{Bool, false, _||_}
 use Rattle.chains.specs.Aids.Tests.{Says}
 use Rattle.chains.specs.Sums.{bit}
 use Rattle.chains.specs.Aids.Sums.{sumClusters}
 use Rattle.chains.specs.Aids.Sizes.{Geometry}
-use Rattle.chains.specs.Values.{Aside, End, Link, Used, Valid, aside, asideCount, asideb, free, freeCount, freeb, linkb, used, endb}
-use Rattle.chains.specs.Aids.Values.{freeAt, asideAt}
+use Rattle.chains.specs.Values.{Bad, End, Link, Reserved, Used, Valid, bad, badb, endb, free, freeb, linkb, reserved, reservedb, used, valueCount}
+use Rattle.chains.specs.Aids.Values.{OutOfUse, passesAt}
 use Rattle.chains.specs.Laws.Tests.{false-says, says-and, says-eq, says-le, says-map, says-or, true-says}
 use Rattle.chains.specs.Laws.Sums.{tally-sum}
 
@@ -21,23 +21,28 @@ pub says-end : (v : ℕ) → Says (endb v) (End v)
 unfolding endb
 says-end v = says-and (says-le 0xff8 v) (says-le v 0xfff)
 
-pub says-aside : (v : ℕ) → Says (asideb v) (Aside v)
-says-aside v = says-and (says-le 0xff0 v) (says-le v 0xff7)
+pub says-bad : (v : ℕ) → Says (badb v) (Bad v)
+says-bad v = says-eq v 0xff7
 
-pub says-valid : (last v : ℕ) → Says (freeb v || (linkb last v || (endb v || asideb v))) (Valid last v)
-says-valid last v = says-map to back (says-or (says-eq v 0) (says-or (says-link last v) (says-or (says-end v) (says-aside v))))
+pub says-reserved : (v : ℕ) → Says (reservedb v) (Reserved v)
+says-reserved v = says-and (says-le 0xff0 v) (says-le v 0xff6)
+
+pub says-valid : (last v : ℕ) → Says (freeb v || (linkb last v || (endb v || (badb v || reservedb v)))) (Valid last v)
+says-valid last v = says-map to back (says-or (says-eq v 0) (says-or (says-link last v) (says-or (says-end v) (says-or (says-bad v) (says-reserved v)))))
   where
-    to : (v ≡ 0) ⊎ (Link last v ⊎ (End v ⊎ Aside v)) → Valid last v
+    to : (v ≡ 0) ⊎ (Link last v ⊎ (End v ⊎ (Bad v ⊎ Reserved v))) → Valid last v
     to (inl e) = free e
     to (inr (inl x)) = used (inl x)
     to (inr (inr (inl x))) = used (inr x)
-    to (inr (inr (inr x))) = aside x
+    to (inr (inr (inr (inl x)))) = bad x
+    to (inr (inr (inr (inr x)))) = reserved x
 
-    back : Valid last v → (v ≡ 0) ⊎ (Link last v ⊎ (End v ⊎ Aside v))
+    back : Valid last v → (v ≡ 0) ⊎ (Link last v ⊎ (End v ⊎ (Bad v ⊎ Reserved v)))
     back (free e) = inl e
     back (used (inl x)) = inr (inl x)
     back (used (inr x)) = inr (inr (inl x))
-    back (aside x) = inr (inr (inr x))
+    back (bad x) = inr (inr (inr (inl x)))
+    back (reserved x) = inr (inr (inr (inr x)))
 
 -- no value is of two kinds
 
@@ -56,28 +61,34 @@ free-one v e = ap bit (true-says (says-eq v 0) e)
 pub free-none : (v : ℕ) → v ≢ 0 → bit (freeb v) ≡ 0
 free-none v n = ap bit (false-says (says-eq v 0) n)
 
-pub aside-one : (v : ℕ) → Aside v → bit (asideb v) ≡ 1
-aside-one v a = ap bit (true-says (says-aside v) a)
-
-pub aside-none : (v : ℕ) → ¬ Aside v → bit (asideb v) ≡ 0
-aside-none v n = ap bit (false-says (says-aside v) n)
-
 pub used-no-free : (last v : ℕ) → Used last v → bit (freeb v) ≡ 0
 used-no-free last v u = free-none v (λ e. free-no-use last v e u)
 
-pub used-no-aside : (G : Geometry) (v : ℕ) → Used (G .last) v → bit (asideb v) ≡ 0
-used-no-aside G v (inl u) = aside-none v (λ a. omega (arith, G .small))
-used-no-aside G v (inr u) = aside-none v (λ a. omega arith)
+-- ---- bad and reserved clusters are out of use
 
-pub free-no-aside : (v : ℕ) → v ≡ 0 → bit (asideb v) ≡ 0
-free-no-aside v e = aside-none v (λ a. omega arith)
+module _ (G : Geometry) where
+  no-bad : (v : ℕ) → Used (G .last) v → ¬ Bad v
+  no-bad v (inl u) b = omega (arith, G .small)
+  no-bad v (inr u) b = omega arith
 
--- ---- the counts as sums over the clusters
+  no-reserved : (v : ℕ) → Used (G .last) v → ¬ Reserved v
+  no-reserved v (inl u) r = omega (arith, G .small)
+  no-reserved v (inr u) r = omega arith
 
-pub free-sum : (last : ℕ) (f : ℕ → ℕ) → freeCount last f ≡ sumClusters last (λ c. bit (freeb (f c)))
-unfolding freeCount freeAt
-free-sum last f = tally-sum (freeAt f) (last - 1) 2
+  pub bad-out-of-use : OutOfUse (G .last) badb
+  bad-out-of-use = record {
+    not-free = λ v e. false-says (says-bad v) (λ b. omega arith);
+    not-used = λ v u. false-says (says-bad v) (no-bad v u);
+  }
 
-pub aside-sum : (last : ℕ) (f : ℕ → ℕ) → asideCount last f ≡ sumClusters last (λ c. bit (asideb (f c)))
-unfolding asideCount asideAt
-aside-sum last f = tally-sum (asideAt f) (last - 1) 2
+  pub reserved-out-of-use : OutOfUse (G .last) reservedb
+  reserved-out-of-use = record {
+    not-free = λ v e. false-says (says-reserved v) (λ r. omega arith);
+    not-used = λ v u. false-says (says-reserved v) (no-reserved v u);
+  }
+
+-- ---- a count as a sum over the clusters
+
+pub count-sum : (t : ℕ → Bool) (last : ℕ) (f : ℕ → ℕ) → valueCount t last f ≡ sumClusters last (λ c. bit (t (f c)))
+unfolding valueCount passesAt
+count-sum t last f = tally-sum (passesAt t f) (last - 1) 2

@@ -54,7 +54,7 @@ module _ (k : Kind) (l : List ℕ) (v : OnVolume l k) (b : Bytes l) (s : ℕ) wh
     in-reach c m = chain-mem (geometry k u) (valueOf k l) (startOf l (slotAt k s)) (fileChain k l s) (file-chain l k v s i) c m .0
 
     holds : HasTable (copyTwo k) (lastCluster k) l
-    holds = record { small = u .below-aside; bytes = b; reaches = copies-reach l k v (copyTwo k) (lastCluster k) refl refl }
+    holds = record { small = u .below-reserved; bytes = b; reaches = copies-reach l k v (copyTwo k) (lastCluster k) refl refl }
 
     leaves : SameButEntries (copyTwo k) (lastCluster k) l (chainFreed k l s)
     unfolding chainFreed

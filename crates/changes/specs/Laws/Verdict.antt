@@ -13,7 +13,7 @@ use Rattle.diskette.specs.declared.WhichKind.{WhichKind}
 use Rattle.directory.specs.Slots.{standingOf, isPlain}
 use Rattle.directory.specs.Laws.Slots.{plain-is}
 use Rattle.sound.specs.Answer.{AnswersBy}
-use Rattle.sound.specs.Counts.{isFile, fileCount, freeOf, heldOf, asideOf}
+use Rattle.sound.specs.Counts.{isFile, fileCount, countsOf}
 use Rattle.sound.specs.Files.{IsFile}
 use Rattle.sound.specs.Judged.{checkOf}
 use Rattle.sound.specs.Laws.OneAnswer.{checked-is}
@@ -23,11 +23,11 @@ use Rattle.calls.specs.Aids.Ready.{OnVolume}
 use Rattle.calls.specs.Laws.Ready.{on-usable}
 use Rattle.changes.specs.Laws.Changed.{on-sound}
 
-pub sound-verdict : (k : Kind) (l : List ℕ) → OnVolume l k → checkOf l ≡ Sound (fileCount k l) (freeOf k l) (heldOf k l) (asideOf k l)
+pub sound-verdict : (k : Kind) (l : List ℕ) → OnVolume l k → checkOf l ≡ Sound (countsOf k l)
 sound-verdict k l v =
     let n = sound-exactly k (on-usable l k v) l .0 (on-sound k l v) in
     sym (checked-is (record {
-      is = subst (λ (w : WhichKind). AnswersBy w l (Sound (fileCount k l) (freeOf k l) (heldOf k l) (asideOf k l))) (sym (v .known))
+      is = subst (λ (w : WhichKind). AnswersBy w l (Sound (countsOf k l))) (sym (v .known))
           (inr (n .tables, inr (n .values, inr (n .slots, inr (n .chains, inr (n .two, inr (n .lost, refl)))))));
     }))
 

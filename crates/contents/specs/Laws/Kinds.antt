@@ -11,7 +11,7 @@ use Rattle.contents.specs.Aids.Contents.{Area}
 module _ (k : Kind) (u : Usable k) where
   pub area-kind : (bytes : ℕ) → 512 * k .sectors ≤ bytes → Area (512 * firstData k) (clusterBytes k) (lastCluster k) bytes
   area-kind bytes h = record {
-    small = u .below-aside;
+    small = u .below-reserved;
     wide = omega (arith, u .per-low);
     table = omega (arith, u .reaches);
     clusters =

@@ -27,7 +27,7 @@ module _ (img : List ℕ) (k : Kind) (v : OnVolume img k) (slot : ℕ) (i : IsFi
       em
       ∙ rw (e2, el, en, ez, es, ea, ← chain-long img k v slot i)
       (chain-freed (copyTwo k) (lastCluster k) img (startOf img (slotAt k slot)) (fileChain k img slot)
-      (record { small = on-usable img k v .below-aside; bytes = b; reaches = copies-reach img k v (copyTwo k) (lastCluster k) refl refl })
+      (record { small = on-usable img k v .below-reserved; bytes = b; reaches = copies-reach img k v (copyTwo k) (lastCluster k) refl refl })
       (file-chain img k v slot i))
 
   -- its entry is still within the image then

@@ -14,13 +14,14 @@ use Rattle.diskette.specs.declared.WhichKind.{WhichKind}
 use Rattle.diskette.specs.declared.WhichKind.the-variants.{Known, Unknown}
 use Rattle.sound.specs.Answer.{AnswersOf, AnswersBy, Checked}
 use Rattle.sound.specs.Counts.{freeOf}
-use Rattle.sound.specs.Findings.{TablesDiffer, BadValue, BadSlot, BadChain, InTwoChains, Lost}
+use Rattle.sound.specs.Findings.{TablesDiffer, NoValue, BadSlot, BadChain, InTwoChains, Lost}
 use Rattle.sound.specs.Aids.FromFinding.{FromLost, FromTwo, FromChains, FromSlots, FromValues, Counted}
 use Rattle.sound.specs.Judged.{isSound}
 use Rattle.sound.specs.Aids.Judged.{isSoundVerdict}
 use Rattle.sound.specs.Sound.{Sound}
 use Rattle.sound.specs.Laws.IsSound.{known-says}
 use Rattle.sound.specs.Laws.OneAnswer.{checked-is}
+use Rattle.sound.specs.declared.Counts.{Counts}
 use Rattle.sound.specs.declared.Verdict.{Verdict}
 use Rattle.sound.specs.declared.Verdict.the-variants.{Sound as Fine, Finding}
 use Rattle.calls.specs.Numbers.{ofNoKind, unsound}
@@ -31,7 +32,7 @@ use Rattle.freespace.specs.declared.FreeAnswer.{FreeAnswer}
 
 -- the count of free clusters in an answer; a finding has none
 abbrev freeIn : ℕ → Verdict → ℕ
-freeIn other (Fine files free held aside) = free
+freeIn other (Fine counts) = counts .free
 freeIn other (Finding number place) = other
 
 -- a finding leaves the count open, so what is so of the rest is so of the whole
@@ -43,7 +44,7 @@ counted : (k : Kind) (l : List ℕ) (v : Verdict) → AnswersOf k l v → freeIn
 counted k l v =
     let c = freeOf k l in
     unless (TablesDiffer k l) 2 c (FromValues k l) v
-    (unless (BadValue k l) 3 c (FromSlots k l) v
+    (unless (NoValue k l) 3 c (FromSlots k l) v
     (unless (BadSlot k l) 4 c (FromChains k l) v
     (unless (BadChain k l) 5 c (FromTwo k l) v
     (unless (InTwoChains k l) 6 c (FromLost k l) v
@@ -71,9 +72,9 @@ module _ (l : List ℕ) (r : WhichKind) (p : r ≡ kindOfImage l) where
       pub with-finding : (x : FreeAnswer) (number place : ℕ) → v ≡ Finding number place → x ≡ noSpace unsound → Spaced l x
       with-finding x number place e h = spaced-on x (h ∙ rw (q, sound-as, e))
 
-      pub with-counts : (x : FreeAnswer) (files free held aside : ℕ) → v ≡ Fine files free held aside → x ≡ spaceWith k free → Spaced l x
-      with-counts x files free held aside e h =
-          let f : free ≡ freeOf k l = sym (ap (freeIn (freeOf k l)) e) ∙ counted k l v (subst (λ (w : WhichKind). AnswersBy w l v) (sym p ∙ q) (a .is)) in
+      pub with-counts : (x : FreeAnswer) (counts : Counts) → v ≡ Fine counts → x ≡ spaceWith k (counts .free) → Spaced l x
+      with-counts x counts e h =
+          let f : counts .free ≡ freeOf k l = sym (ap (freeIn (freeOf k l)) e) ∙ counted k l v (subst (λ (w : WhichKind). AnswersBy w l v) (sym p ∙ q) (a .is)) in
           spaced-on x (h ∙ rw (q, sound-as, e, f))
 
 -- ---- what the answer means

@@ -24,7 +24,7 @@ use Rattle.stamps.specs.declared.Packed.the-variants.{Words}
 use Rattle.search.specs.Search.{isFound}
 use Rattle.search.specs.declared.Found.{Found}
 use Rattle.search.specs.declared.Found.the-variants.{At, Nothing}
-use Rattle.sound.specs.Counts.{freeOf, asideOf}
+use Rattle.sound.specs.Counts.{freeOf, badOf, reservedOf}
 use Rattle.sound.specs.Files.{IsFile}
 use Rattle.opened.specs.Places.{lowestUnused}
 use Rattle.opened.specs.Records.{withRecord, withPointer, withWritten, cleared}
@@ -48,7 +48,7 @@ use Rattle.history.specs.Laws.Given.{given-create, given-write, given-cl
 use Rattle.history.specs.Laws.HasFiles.{HasFiles, GoodFile}
 use Rattle.history.specs.Laws.Meant.{means, for-new, reaches}
 use Rattle.history.specs.Laws.OneFile.{take-all, written-first}
-use Rattle.history.specs.Laws.OneSlot.{Stands, Makes, stands-step, others-step, free-step, aside-step}
+use Rattle.history.specs.Laws.OneSlot.{Stands, Makes, stands-step, others-step, free-step, bad-step, reserved-step}
 use Rattle.history.specs.Laws.Room.{needed}
 use Rattle.history.specs.Laws.Stamped.{stamped-words, same-stamp}
 
@@ -205,12 +205,19 @@ module _ (k : Kind) (w : World) (fs : Files) (n free : ℕ) (x : HasFiles k w fs
       let b : needed k (put-file (archived attr) bs n) ≡ clustersFor (clusterBytes k) (length bs) = ap (needed k) (there (archived attr) bs) in
       omega (arith, e, a, b, free-wrote)
 
-  aside-closed : asideOf k (world-closed .image) ≡ 0
-  aside-closed =
-      aside-step k world-wrote (put-file attr bs) (put-file (archived attr) bs) n slot stands-wrote (close 0 stamp) makes-closed
-      ∙ aside-step k world-created (put-file attr []) (put-file attr bs) n slot stands-created (write 0 bs) makes-wrote
-      ∙ aside-step k w fs (put-file attr []) n slot (x .stands) (create s attr stamp) makes-created
-      ∙ x .aside-none
+  bad-closed : badOf k (world-closed .image) ≡ 0
+  bad-closed =
+      bad-step k world-wrote (put-file attr bs) (put-file (archived attr) bs) n slot stands-wrote (close 0 stamp) makes-closed
+      ∙ bad-step k world-created (put-file attr []) (put-file attr bs) n slot stands-created (write 0 bs) makes-wrote
+      ∙ bad-step k w fs (put-file attr []) n slot (x .stands) (create s attr stamp) makes-created
+      ∙ x .bad-none
+
+  reserved-closed : reservedOf k (world-closed .image) ≡ 0
+  reserved-closed =
+      reserved-step k world-wrote (put-file attr bs) (put-file (archived attr) bs) n slot stands-wrote (close 0 stamp) makes-closed
+      ∙ reserved-step k world-created (put-file attr []) (put-file attr bs) n slot stands-created (write 0 bs) makes-wrote
+      ∙ reserved-step k w fs (put-file attr []) n slot (x .stands) (create s attr stamp) makes-created
+      ∙ x .reserved-none
 
   -- its stamp is there, and those of the others stay
   pub file-stamp : HasStamp k (world-closed .image) n stamp
@@ -248,6 +255,7 @@ module _ (k : Kind) (w : World) (fs : Files) (n free : ℕ) (x : HasFiles k w fs
       | no d ↦ let y = x .below t (omega arith) in (y .0, put-other fs n (some (file name (archived attr) bs)) t d ∙ y .1)
     ];
     free-are = omega (arith, free-closed);
-    aside-none = aside-closed;
+    bad-none = bad-closed;
+    reserved-none = reserved-closed;
     table = table-closed;
   }

@@ -16,7 +16,7 @@ use Rattle.names.specs.Reading.{nameGiven}
 use Rattle.stamps.specs.Stamps.{packed}
 use Rattle.stamps.specs.declared.Stamp.{Stamp}
 use Rattle.stamps.specs.declared.Packed.the-variants.{Words}
-use Rattle.sound.specs.Counts.{fileCount, freeOf, heldOf, asideOf}
+use Rattle.sound.specs.Counts.{fileCount, freeOf, heldOf, badOf, reservedOf}
 use Rattle.sound.specs.Judged.{checkOf}
 use Rattle.sound.specs.declared.Verdict.the-variants.{Sound}
 use Rattle.calls.specs.Refusals.{badAttr}
@@ -27,19 +27,20 @@ use Rattle.history.specs.Laws.OneSlot.{Stands}
 use Rattle.history.specs.Laws.Promises.{total-of}
 use Rattle.changes.specs.Laws.Verdict.{sound-verdict, first-count}
 
--- files in the slots below n, the others never used; so many clusters are free, none is set aside, and the one place of the
--- table is not taken
+-- files in the slots below n, the others never used; so many clusters are free, none is bad or reserved, and the one place of
+-- the table is not taken
 pub record HasFiles (k : Kind) (w : World) (fs : Files) (n free : ℕ) : Type 0 where
   pub stands : Stands k w fs n
   pub never : NeverUsedAt (w .image) (slotAt k n)
   pub below : (t : ℕ) → t < n → (f : File) × (fs t ≡ some f)
   pub free-are : freeOf k (w .image) ≡ free
-  pub aside-none : asideOf k (w .image) ≡ 0
+  pub bad-none : badOf k (w .image) ≡ 0
+  pub reserved-none : reservedOf k (w .image) ≡ 0
   pub table : w .table ≡ replicate 16 0
 
 -- what check answers of it
 pub verdict-of : (k : Kind) (w : World) (fs : Files) (n free : ℕ) → HasFiles k w fs n free → n < rootEntries k
-    → checkOf (w .image) ≡ Sound n free (clusters k - free) 0
+    → checkOf (w .image) ≡ Sound (record { files = n; free = free; held = clusters k - free; bad = 0; reserved = 0 })
 verdict-of k w fs n free x h =
     let files : fileCount k (w .image) ≡ n = first-count k (w .image) n (omega arith)
     (λ t i. subst (ShowsAt k (w .image) t) (x .below t i .1) (x .stands .shows t) .is-file)
@@ -47,8 +48,8 @@ verdict-of k w fs n free x h =
       | yes e ↦ rw e (x .never)
       | no d ↦ x .stands .above t (omega arith) (f .below)
     ])) in
-    let held : heldOf k (w .image) ≡ clusters k - free = omega (arith, total-of k w (x .stands .begins), x .free-are, x .aside-none) in
-    sound-verdict k (w .image) (on (x .stands .begins)) ∙ rw (files, x .free-are, held, x .aside-none)
+    let held : heldOf k (w .image) ≡ clusters k - free = omega (arith, total-of k w (x .stands .begins), x .free-are, x .bad-none, x .reserved-none) in
+    sound-verdict k (w .image) (on (x .stands .begins)) ∙ rw (files, x .free-are, held, x .bad-none, x .reserved-none)
 
 -- what is given for a new file: the calls have no reason to refuse it
 pub record GoodFile (k : Kind) (fs : Files) (free : ℕ) (s : List ℕ) (attr : ℕ) (bs : List ℕ) (stamp : Stamp) : Type 0 where

@@ -9,7 +9,7 @@ use Rattle.directory.specs.Entries.{SameBytes}
 use Rattle.directory.specs.Aids.Entries.{SameFields}
 use Rattle.directory.specs.Slots.{NeverUsedAt}
 use Rattle.directory.specs.Laws.Entries.{same-fields}
-use Rattle.sound.specs.Counts.{freeOf, asideOf}
+use Rattle.sound.specs.Counts.{freeOf, badOf, reservedOf}
 use Rattle.calls.specs.Laws.Files.{slot-within}
 use Rattle.changes.specs.Files.{Files, Shows}
 use Rattle.history.specs.Aids.Ours.{step}
@@ -21,7 +21,7 @@ use Rattle.history.specs.Laws.Begins.{on}
 use Rattle.history.specs.Laws.Came.{came-begins, came-shows, came-entries, after-does}
 use Rattle.history.specs.Laws.EveryCall.{came}
 use Rattle.history.specs.Laws.OneNamed.{names-one}
-use Rattle.history.specs.Laws.Room.{needed, free-after, aside-after}
+use Rattle.history.specs.Laws.Room.{needed, free-after, bad-after, reserved-after}
 
 -- the volume has these files, and the slots above n were never used
 pub record Stands (k : Kind) (w : World) (fs : Files) (n : ℕ) : Type 0 where
@@ -63,5 +63,8 @@ module _ (k : Kind) (w : World) (fs gs : Files) (n : ℕ) (below : n < rootEntri
   pub free-step : freeOf k (step w c .image) + needed k (gs n) ≡ freeOf k (w .image) + needed k (fs n)
   free-step = free-after k w c (x .begins) comes n below (y .does .named) (fs n) (gs n) (x .shows n) (stands-step .shows n)
 
-  pub aside-step : asideOf k (step w c .image) ≡ asideOf k (w .image)
-  aside-step = aside-after k w c (x .begins) comes
+  pub bad-step : badOf k (step w c .image) ≡ badOf k (w .image)
+  bad-step = bad-after k w c (x .begins) comes
+
+  pub reserved-step : reservedOf k (step w c .image) ≡ reservedOf k (w .image)
+  reserved-step = reserved-after k w c (x .begins) comes

@@ -9,7 +9,7 @@ use borrow.Author.Tests.{eq-eqb, ne-eqb}
 use Rattle.diskette.specs.Places.{clusters}
 use Rattle.diskette.specs.declared.Kind.{Kind}
 use Rattle.opened.specs.Records.{slotOf, pointerOf}
-use Rattle.sound.specs.Counts.{freeOf, heldOf, asideOf}
+use Rattle.sound.specs.Counts.{freeOf, heldOf, badOf, reservedOf}
 use Rattle.sound.specs.Laws.Total.{total}
 use Rattle.calls.specs.Outcome.{Outcome}
 use Rattle.calls.specs.Laws.Ready.{on-kind, on-usable}
@@ -42,7 +42,7 @@ alters-no-other k w b cs g c given s h n =
     let x = came k (run w cs) c after given in
     (came-entries k (run w cs) c after x s h n, came-others k (run w cs) c after x s n)
 
-pub total-of : (k : Kind) (w : World) → Begins k w → freeOf k (w .image) + heldOf k (w .image) + asideOf k (w .image) ≡ clusters k
+pub total-of : (k : Kind) (w : World) → Begins k w → freeOf k (w .image) + heldOf k (w .image) + badOf k (w .image) + reservedOf k (w .image) ≡ clusters k
 total-of k w b = total k (on-usable (w .image) k (on b)) (w .image) (b .sound)
 
 pub total-after-each : TotalAfterEach ours

@@ -1,17 +1,21 @@
--- How many clusters are free after a call: what the named file needs more is taken from them. No value is set aside by a call.
+-- How many clusters are free after a call: what the named file needs more is taken from them. Bad and reserved ones stay as many.
 use Prim.Native.Nat.{ℕ, _+_, _<_}
+use mathlib.Core.Bool.{Bool}
 use mathlib.Core.List.{List}
 use mathlib.Core.Option.{Option, none, some}
 use mathlib.Core.Path.{_≡_, sym, ap, _∙_, subst}
 use lib.ListN.{length}
 use Rattle.chains.specs.Aids.Holders.{Holder, Owns}
 use Rattle.chains.specs.Sizes.{clustersFor}
+use Rattle.chains.specs.Values.{badb, reservedb, valueCount}
+use Rattle.chains.specs.Aids.Values.{OutOfUse}
 use Rattle.chains.specs.Laws.Holders.{owns-same}
-use Rattle.chains.specs.Laws.ReplaceCounts.{replace-free, replace-aside}
+use Rattle.chains.specs.Laws.ReplaceCounts.{replace-free, replace-out-of-use}
+use Rattle.chains.specs.Laws.Values.{bad-out-of-use, reserved-out-of-use}
 use Rattle.diskette.specs.Places.{clusterBytes, lastCluster, rootEntries, slotAt}
 use Rattle.diskette.specs.declared.Kind.{Kind}
 use Rattle.chaincheck.specs.Aids.Entries.{holderAt}
-use Rattle.sound.specs.Counts.{freeOf, asideOf}
+use Rattle.sound.specs.Counts.{freeOf, badOf, reservedOf}
 use Rattle.sound.specs.Files.{valueOf, IsFile}
 use Rattle.sound.specs.Aids.Holders.{rootHolders, rootChains}
 use Rattle.sound.specs.Laws.Geometry.{geometry}
@@ -81,14 +85,23 @@ module _ (k : Kind) (w : World) (c : Call) (b : Begins k w) (x : Came k w c) whe
         ∙ chain-free x
         ∙ ap (λ (n : ℕ). freeOf k (w .image) + n) (chain-needed k (w .image) (on b) s h o before)
 
-  -- values set aside stay as many
-  pub aside-after : asideOf k (step w c .image) ≡ asideOf k (w .image)
-  aside-after = by x
+  -- clusters out of use stay as many
+  out-of-use-after : (t : ℕ → Bool) → OutOfUse (lastCluster k) t → valueCount t (lastCluster k) (valueOf k (step w c .image)) ≡ valueCount t (lastCluster k) (valueOf k (w .image))
+  out-of-use-after t o = by x
     where
-      by : Came k w c → asideOf k (step w c .image) ≡ asideOf k (w .image)
-      by (idle q e) = ap (asideOf k) e
-      by (stays s d e q) = ap (asideOf k) e
+      count : List ℕ → ℕ
+      count l = valueCount t (lastCluster k) (valueOf k l)
+
+      by : Came k w c → count (step w c .image) ≡ count (w .image)
+      by (idle q e) = ap count e
+      by (stays s d e q) = ap count e
       by (changes s ds d y) =
-          replace-aside (geometry k (on-usable (w .image) k (on b))) (valueOf k (w .image)) (valueOf k (step w c .image))
+          replace-out-of-use (geometry k (on-usable (w .image) k (on b))) (valueOf k (w .image)) (valueOf k (step w c .image))
           (rootHolders k (w .image)) (rootChains k (w .image)) (on-theory k (w .image) (on b)) (slotAt k s)
-          (holderAt (clusterBytes k) (step w c .image) (slotAt k s)) ds (y .changed .chain)
+          (holderAt (clusterBytes k) (step w c .image) (slotAt k s)) ds (y .changed .chain) t o
+
+  pub bad-after : badOf k (step w c .image) ≡ badOf k (w .image)
+  bad-after = out-of-use-after badb (bad-out-of-use (geometry k (on-usable (w .image) k (on b))))
+
+  pub reserved-after : reservedOf k (step w c .image) ≡ reservedOf k (w .image)
+  reserved-after = out-of-use-after reservedb (reserved-out-of-use (geometry k (on-usable (w .image) k (on b))))

@@ -35,4 +35,4 @@ module _ (img : List ℕ) (k : Kind) (v : OnVolume img k) where
       rw (e, f) (record { low = omega arith; high = omega arith })
 
   pub last-small : (last : ℕ) → last ≡ lastCluster k → last ≤ 4079
-  last-small last e = rw e (on-usable img k v .below-aside)
+  last-small last e = rw e (on-usable img k v .below-reserved)

@@ -17,17 +17,14 @@ slice-aggregate-put-decimal-line-2 c = search needs
 put-decimal-line-requires-2 : tie.Need-put-decimal-line-requires-2
 put-decimal-line-requires-2 c κs = search needs
 
+put-out-of-use-requires : tie.Need-put-out-of-use-requires
+put-out-of-use-requires c κs = search needs
+
 slice-aggregate-put-decimal-line-3 : tie.Need-slice-aggregate-put-decimal-line-3
 slice-aggregate-put-decimal-line-3 c = search needs
 
 put-decimal-line-requires-3 : tie.Need-put-decimal-line-requires-3
 put-decimal-line-requires-3 c κs = search needs
-
-slice-aggregate-put-decimal-line-4 : tie.Need-slice-aggregate-put-decimal-line-4
-slice-aggregate-put-decimal-line-4 c = search needs
-
-put-decimal-line-requires-4 : tie.Need-put-decimal-line-requires-4
-put-decimal-line-requires-4 c κs = search needs
 
 same-length : tie.Need-same-length
 same-length c = search needs
@@ -44,9 +41,8 @@ put-counts-spec =
     put-decimal-line-requires
     slice-aggregate-put-decimal-line-2
     put-decimal-line-requires-2
+    put-out-of-use-requires
     slice-aggregate-put-decimal-line-3
     put-decimal-line-requires-3
-    slice-aggregate-put-decimal-line-4
-    put-decimal-line-requires-4
     same-length
     returns)

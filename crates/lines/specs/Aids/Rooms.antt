@@ -7,7 +7,7 @@ fileRoom = 109
 
 -- a sound volume, before its files
 abbrev pub soundRoom : ℕ
-soundRoom = 154
+soundRoom = 182
 
 -- a volume that is not sound
 abbrev pub unsoundRoom : ℕ

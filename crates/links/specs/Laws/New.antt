@@ -8,7 +8,7 @@ use mathlib.Core.Path.{_≡_, refl, sym, ap, _∙_}
 use lib.ListN.{length, getD, take}
 use lib.Seq.{length-take-le}
 use Rattle.chains.specs.Aids.Put.{put}
-use Rattle.chains.specs.Values.{Link, freeCount}
+use Rattle.chains.specs.Values.{Link, freeb, valueCount}
 use Rattle.chains.specs.Free.{freeFrom, freeClusters}
 use Rattle.chains.specs.Aids.Free.{Takable}
 use Rattle.chains.specs.Laws.Put.{put-same, put-other, put-cases}
@@ -112,5 +112,5 @@ module _ (second last : ℕ) where
 pub new-takable : (last : ℕ) (l : List ℕ) (n : ℕ) → last ≤ 4079 → Takable last (tableOf last l) (newClusters last l n)
 new-takable last l n s = lowest-takable (geometry last s) (tableOf last l) n
 
-pub new-length : (last : ℕ) (l : List ℕ) (n : ℕ) → last ≤ 4079 → n ≤ freeCount last (tableOf last l) → length (newClusters last l n) ≡ n
+pub new-length : (last : ℕ) (l : List ℕ) (n : ℕ) → last ≤ 4079 → n ≤ valueCount freeb last (tableOf last l) → length (newClusters last l n) ≡ n
 new-length last l n s h = length-take-le n (freeClusters last (tableOf last l)) (omega (arith, free-length (geometry last s) (tableOf last l)))

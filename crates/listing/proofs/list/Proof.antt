@@ -13,8 +13,8 @@ enum-known-k c = search needs
 check-system-requires : tie.Need-check-system-requires
 check-system-requires c κs = search needs
 
-enum-known-files : tie.Need-enum-known-files
-enum-known-files c = search needs
+enum-known-counts : tie.Need-enum-known-counts
+enum-known-counts c = search needs
 
 put-volume-requires : tie.Need-put-volume-requires
 put-volume-requires c κs = (search area-found, search needs)
@@ -56,7 +56,7 @@ list-spec =
     kind-of-area-requires
     enum-known-k
     check-system-requires
-    enum-known-files
+    enum-known-counts
     put-volume-requires
     enum-known-finding
     put-unsound-requires

@@ -19,6 +19,7 @@ use Rattle.diskette.specs.declared.WhichKind.the-variants.{Known, Unknown}
 use Rattle.sound.specs.Answer.{AnswersBy, CheckedArea}
 use Rattle.sound.specs.Judged.{checkOfArea}
 use Rattle.sound.specs.Laws.OneAnswer.{area-is}
+use Rattle.sound.specs.declared.Counts.{Counts}
 use Rattle.sound.specs.declared.Verdict.{Verdict}
 use Rattle.sound.specs.declared.Verdict.the-variants.{Sound, Finding}
 use Rattle.lines.specs.Lines.{soundText, unsoundText}
@@ -48,19 +49,23 @@ module _ (l : List ℕ) (k : Kind) (a : AreaOf l k) where
   pub kind-usable : Usable k
   kind-usable = area-usable l k (area-of-kind l k .1 a)
 
+  -- the lines before those of the files
+  abbrev head : ℕ → Counts → List ℕ
+  head all n = soundText (k .byte) all (n .free) (n .held) (n .bad) (n .reserved) (n .files)
+
   module _ (root count : ℕ) (at-root : root ≡ rootAt k) (slots : count ≡ rootEntries k) where
     pub root-within : root + 32 * count ≤ length l
     root-within = omega (arith, a .long)
 
-    module _ (n free held aside files : ℕ) (all : n ≡ clusters k) (o : List ℕ) (first : ℕ) (m : List ℕ) (p : PutsIn soundRoom (soundText (k .byte) n free held aside files) o 0 first m) where
+    module _ (all : ℕ) (n : Counts) (clusters-are : all ≡ clusters k) (o : List ℕ) (first : ℕ) (m : List ℕ) (p : PutsIn soundRoom (head all n) o 0 first m) where
       pub files-fit : listingRoom ≤ length o → first + fileRoom * count ≤ length m
-      files-fit h = omega (arith, p .room, few-slots, ap length (p .puts .stores) ∙ length-stored o 0 (soundText (k .byte) n free held aside files))
+      files-fit h = omega (arith, p .room, few-slots, ap length (p .puts .stores) ∙ length-stored o 0 (head all n))
 
-      pub puts-sound : (r : ℕ) (e : List ℕ) → PutsIn (fileRoom * count) (filesText l (slotFrom root) 0 count) m first r e → PutsIn listingRoom (volumeText k l (Sound files free held aside)) o 0 r e
+      pub puts-sound : (r : ℕ) (e : List ℕ) → PutsIn (fileRoom * count) (filesText l (slotFrom root) 0 count) m first r e → PutsIn listingRoom (volumeText k l (Sound n)) o 0 r e
       unfolding volumeText
       puts-sound r e q =
           record {
-            puts = rw (← all) (puts-then (soundText (k .byte) n free held aside files) (filesText l (slotAt k) 0 (rootEntries k)) o 0 first m r e (p .puts) (rw (at-root, slots) at (q .puts)));
+            puts = rw (← clusters-are) (puts-then (head all n) (filesText l (slotAt k) 0 (rootEntries k)) o 0 first m r e (p .puts) (rw (at-root, slots) at (q .puts)));
             room = omega (arith, p .room, q .room, few-slots);
           }
 
@@ -77,7 +82,7 @@ module _ (l : List ℕ) where
   finding-by Unknown number place e a = ap findingText (sym a)
     where
       findingText : Verdict → List ℕ
-      findingText (Sound files free held aside) = []
+      findingText (Sound n) = []
       findingText (Finding n p) = unsoundText n p
 
   -- also where the area is of no kind
@@ -98,9 +103,9 @@ module _ (l : List ℕ) (w : WhichKind) (is : w ≡ kindOfArea l) where
   unfolding listingOf
   puts-no-kind o r m e p = rw (sym is ∙ e) (unsound-fits 1 0 o r m p)
 
-  pub puts-listing : (k : Kind) (v : Verdict) (files free held aside : ℕ) (o : List ℕ) (r : ℕ) (m : List ℕ)
-      → w ≡ Known k → CheckedArea l v → v ≡ Sound files free held aside → PutsIn listingRoom (volumeText k l (Sound files free held aside)) o 0 r m → PutsIn listingRoom (listingOf l) o 0 r m
-  puts-listing k v files free held aside o r m e c t p = rw (listing-by-check l k v (area-found k e) c, t) p
+  pub puts-listing : (k : Kind) (v : Verdict) (n : Counts) (o : List ℕ) (r : ℕ) (m : List ℕ)
+      → w ≡ Known k → CheckedArea l v → v ≡ Sound n → PutsIn listingRoom (volumeText k l (Sound n)) o 0 r m → PutsIn listingRoom (listingOf l) o 0 r m
+  puts-listing k v n o r m e c t p = rw (listing-by-check l k v (area-found k e) c, t) p
 
 pub puts-finding : (l : List ℕ) (v : Verdict) (number place : ℕ) (o : List ℕ) (r : ℕ) (m : List ℕ)
     → CheckedArea l v → v ≡ Finding number place → PutsIn unsoundRoom (unsoundText number place) o 0 r m → PutsIn listingRoom (listingOf l) o 0 r m

@@ -188,6 +188,6 @@ pub file-holds : (k : Kind) → Usable k → (l : List ℕ) (c a : ℕ) (cs : Li
     → (holdsAt (lastCluster k) (clusters k) l c a ≡ true) ↔ (c ∈ cs)
 unfolding holdsAt
 file-holds k u l c a cs p h =
-    let G : Geometry = record { last = lastCluster k; cb = 1; small = u .below-aside; wide = omega arith } in
+    let G : Geometry = record { last = lastCluster k; cb = 1; small = u .below-reserved; wide = omega arith } in
     let e : lastCluster k - 1 ≡ clusters k = omega arith in
     rw p (rw e at (chain-holds G (tableOf (lastCluster k) l) c (startOf l a) cs h))

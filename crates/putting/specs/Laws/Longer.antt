@@ -58,10 +58,10 @@ module _ (k : Kind) (img : List ℕ) (slot size : ℕ) (g : CanGrow k img slot s
   wide = on-clusters img k v .wide
 
   holds : HasTable (copyTwo k) (lastCluster k) img
-  holds = record { small = on-usable img k v .below-aside; bytes = g .bytes; reaches = copies-reach img k v (copyTwo k) (lastCluster k) refl refl }
+  holds = record { small = on-usable img k v .below-reserved; bytes = g .bytes; reaches = copies-reach img k v (copyTwo k) (lastCluster k) refl refl }
 
   takable : Takable (lastCluster k) (valueOf k img) (newFor k img slot size)
-  takable = new-takable (lastCluster k) img (lacking (clusterBytes k) own size) (on-usable img k v .below-aside)
+  takable = new-takable (lastCluster k) img (lacking (clusterBytes k) own size) (on-usable img k v .below-reserved)
 
   pub own-less : length own ≤ clustersFor (clusterBytes k) size
   own-less = omega (arith, chain-long img k v slot i, clusters-grow (clusterBytes k) wide (sizeOf img (slotAt k slot)) size (g .grow))
@@ -69,7 +69,7 @@ module _ (k : Kind) (img : List ℕ) (slot size : ℕ) (g : CanGrow k img slot s
   new-many : length (newFor k img slot size) ≡ clustersFor (clusterBytes k) size - length own
   new-many =
       let most : clustersFor (clusterBytes k) size ≤ length own + freeOf k img = clusters-least (clusterBytes k) wide size (length own + freeOf k img) (g .room) in
-      new-length (lastCluster k) img (lacking (clusterBytes k) own size) (on-usable img k v .below-aside) (omega arith)
+      new-length (lastCluster k) img (lacking (clusterBytes k) own size) (on-usable img k v .below-reserved) (omega arith)
 
   pub after-long : length (chainAfter k img slot size) ≡ clustersFor (clusterBytes k) size
   after-long = omega (arith, length-append own (newFor k img slot size), new-many, own-less)
@@ -80,7 +80,7 @@ module _ (k : Kind) (img : List ℕ) (slot size : ℕ) (g : CanGrow k img slot s
   -- ---- the image
 
   behind : (endOf own ≡ 0) ⊎ Link (lastCluster k) (endOf own)
-  behind = elim (end-behind (lastCluster k) (on-usable img k v .below-aside) (valueOf k img) (startOf img (slotAt k slot)) own (file-chain img k v slot i)) [
+  behind = elim (end-behind (lastCluster k) (on-usable img k v .below-reserved) (valueOf k img) (startOf img (slotAt k slot)) own (file-chain img k v slot i)) [
     | inl z ↦ inl z
     | inr p ↦ inr (p .0)
   ]
@@ -125,4 +125,4 @@ module _ (k : Kind) (img : List ℕ) (slot size : ℕ) (g : CanGrow k img slot s
   unfolding G
   start-small =
       let h : (a : ℕ) → a ∈ chainAfter k img slot size → Link (lastCluster k) a = λ a m. chain-mem G _ _ (chainAfter k img slot size) longer-chain a m .0 in
-      omega (arith, first-small (chainAfter k img slot size) h, on-usable img k v .below-aside)
+      omega (arith, first-small (chainAfter k img slot size) h, on-usable img k v .below-reserved)

@@ -50,10 +50,10 @@ module _ (img : List ℕ) (k : Kind) (v : OnVolume img k) (slot : ℕ) (i : IsFi
   pub end-is : (own a start last end : ℕ) → own ≡ length (fileChain k img slot) → a ≡ slotAt k slot → start ≡ startOf img a → last ≡ lastCluster k
       → end ≡ followed (tableOf last img) (own - 1) start → end ≡ endOf (fileChain k img slot)
   end-is own a start last end eo ea es el e =
-      e ∙ rw (eo, es, ea, el) (end-followed (lastCluster k) (on-usable img k v .below-aside) (valueOf k img) (startOf img (slotAt k slot)) (fileChain k img slot) (file-chain img k v slot i))
+      e ∙ rw (eo, es, ea, el) (end-followed (lastCluster k) (on-usable img k v .below-reserved) (valueOf k img) (startOf img (slotAt k slot)) (fileChain k img slot) (file-chain img k v slot i))
 
   pub end-small : (last end : ℕ) → last ≡ lastCluster k → end ≡ endOf (fileChain k img slot) → end ≤ last
-  end-small last end el e = elim (end-behind (lastCluster k) (on-usable img k v .below-aside) (valueOf k img) (startOf img (slotAt k slot)) (fileChain k img slot) (file-chain img k v slot i)) [
+  end-small last end el e = elim (end-behind (lastCluster k) (on-usable img k v .below-reserved) (valueOf k img) (startOf img (slotAt k slot)) (fileChain k img slot) (file-chain img k v slot i)) [
     | inl z ↦ omega arith
     | inr p ↦ omega (arith, p .0 .1)
   ]
@@ -61,12 +61,12 @@ module _ (img : List ℕ) (k : Kind) (v : OnVolume img k) (slot : ℕ) (i : IsFi
   pub added-is : Bytes img → (second last end n answer : ℕ) (m : List ℕ) → second ≡ copyTwo k → last ≡ lastCluster k → end ≡ endOf (fileChain k img slot)
       → Added second last img end n answer m → AddedBehind k img slot n answer m
   added-is b second last end n answer m es el ee x =
-      let h : HasTable (copyTwo k) (lastCluster k) img = record { small = on-usable img k v .below-aside; bytes = b; reaches = copies-reach img k v (copyTwo k) (lastCluster k) refl refl } in
+      let h : HasTable (copyTwo k) (lastCluster k) img = record { small = on-usable img k v .below-reserved; bytes = b; reaches = copies-reach img k v (copyTwo k) (lastCluster k) refl refl } in
       record {
         first = x .first ∙ rw el;
         image = x .image ∙ rw (es, el, ee)
             (added-linked (copyTwo k) (lastCluster k) img (endOf (fileChain k img slot)) n h
-            (end-behind (lastCluster k) (on-usable img k v .below-aside) (valueOf k img) (startOf img (slotAt k slot)) (fileChain k img slot) (file-chain img k v slot i)));
+            (end-behind (lastCluster k) (on-usable img k v .below-reserved) (valueOf k img) (startOf img (slotAt k slot)) (fileChain k img slot) (file-chain img k v slot i)));
       }
 
 -- ---- the file grows

@@ -62,7 +62,7 @@ module _ (img : List ℕ) (k : Kind) (v : OnVolume img k) (slot : ℕ) (i : IsFi
   -- 4,078 clusters of 4,096 bytes at most
   pub room-fits : (length (fileChain k img slot) + freeOf k img) * clusterBytes k < 4294967296
   room-fits =
-      let few : clusters k ≤ 4078 = omega (arith, on-usable img k v .below-aside) in
+      let few : clusters k ≤ 4078 = omega (arith, on-usable img k v .below-reserved) in
       let h : clusters k * clusterBytes k ≤ 4078 * clusterBytes k = mul-le-mul-right (clusterBytes k) few in
       omega (arith, room-small, on-usable img k v .per-high)
 

@@ -39,7 +39,7 @@ module _ (img : List ℕ) (k : Kind) (e : kindOfImage img ≡ Known k) where
   base-fits first r = omega (arith, usable .whole, usable .small)
 
   pub last-small : (last : ℕ) → last ≡ lastCluster k → last ≤ 4079
-  last-small last r = rw r (usable .below-aside)
+  last-small last r = rw r (usable .below-reserved)
 
   pub table-inside : (last : ℕ) → last ≡ lastCluster k → wordAt 512 last + 2 ≤ length img
   table-inside last r = rw r (omega (arith, clusters-inside .table, area))

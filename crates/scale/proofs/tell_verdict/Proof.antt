@@ -8,8 +8,8 @@ use Rattle.scale.proofs.tell_verdict.Tie as tie
 enum-known-v : tie.Need-enum-known-v
 enum-known-v c = search needs
 
-four-words-requires : tie.Need-four-words-requires
-four-words-requires c κs = search needs
+five-words-requires : tie.Need-five-words-requires
+five-words-requires c κs = search needs
 
 pack-requires : tie.Need-pack-requires
 pack-requires c κs = search needs
@@ -40,7 +40,7 @@ tell-verdict-spec =
     tie.close
     (tie.spec
     enum-known-v
-    four-words-requires
+    five-words-requires
     pack-requires
     enum-known-v-2
     cast-finding

@@ -8,7 +8,7 @@ abbrev pub Fits : ℕ → Type 0
 Fits n = n < 4294967296
 
 abbrev pub NumbersFit : Verdict → Type 0
-NumbersFit (Sound files free held aside) = Fits files × Fits free × Fits held × Fits aside
+NumbersFit (Sound n) = Fits (n .files) × Fits (n .free) × Fits (n .held) × Fits (n .bad) × Fits (n .reserved)
 NumbersFit (Finding number place) = Fits number × Fits place
 
 pub record VerdictFits (v : Verdict) : Type 0 where

@@ -11,6 +11,7 @@ use lib.Dec.{eqb}
 use borrow.Author.Tests.{eq-eqb, ne-eqb}
 use Rattle.sound.specs.Answer.{Checked, CheckedArea}
 use Rattle.sound.specs.Laws.OneAnswer.{checked-is, area-is}
+use Rattle.sound.specs.declared.Counts.{Counts}
 use Rattle.sound.specs.declared.Verdict.{Verdict}
 use Rattle.sound.specs.declared.Verdict.the-variants.{Sound, Finding}
 use Rattle.entries.specs.Entry.{entryTold, Told}
@@ -67,9 +68,9 @@ format-leaves l kind n r m f p = record { is = rw (p .number-is, p .value-is) (f
 -- ---- check: v is the verdict
 
 module _ (out : List ℕ) (v : Verdict) (r : ℕ) where
-  pub sound-leaves : (files free held aside : ℕ) (m : List ℕ) → v ≡ Sound files free held aside → m ≡ putOut out (words (files ∷ free ∷ held ∷ aside ∷ [])) → Packs 0 0 r → TellsVerdict v out r m
+  pub sound-leaves : (n : Counts) (m : List ℕ) → v ≡ Sound n → m ≡ putOut out (words (n .files ∷ n .free ∷ n .held ∷ n .bad ∷ n .reserved ∷ [])) → Packs 0 0 r → TellsVerdict v out r m
   unfolding verdictTold
-  sound-leaves files free held aside m e p h = record { of = λ l. record { is = rw (e, p, h .number-is, h .value-is) } }
+  sound-leaves n m e p h = record { of = λ l. record { is = rw (e, p, h .number-is, h .value-is) } }
 
   pub finding-leaves : (number place : ℕ) → v ≡ Finding number place → Packs number place r → TellsVerdict v out r out
   unfolding verdictTold
@@ -118,7 +119,7 @@ one-image false o o′ l e f = f
 module _ (l : List ℕ) (out : List ℕ) where
   pub verdict-image : (v : Verdict) → verdictTold l v out .image ≡ l
   unfolding verdictTold
-  verdict-image (Sound files free held aside) = refl
+  verdict-image (Sound n) = refl
   verdict-image (Finding number place) = refl
 
   pub space-image : freeSpaceCall l out .image ≡ l

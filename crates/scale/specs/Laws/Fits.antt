@@ -25,7 +25,7 @@ use Rattle.diskette.specs.declared.WhichKind.the-variants.{Known, Unknown}
 use Rattle.sound.specs.Counts.{isFile}
 use Rattle.sound.specs.Answer.{AnswersOf, AnswersBy, Checked, CheckedArea}
 use Rattle.sound.specs.Files.{ChainOf, none-of-it, as-many}
-use Rattle.sound.specs.Findings.{TablesDiffer, BadValue, BadSlot, BadChain, InTwoChains, Lost}
+use Rattle.sound.specs.Findings.{TablesDiffer, NoValue, BadSlot, BadChain, InTwoChains, Lost}
 use Rattle.sound.specs.Aids.FromFinding.{FromLost, FromTwo, FromChains, FromSlots, FromValues, Counted}
 use Rattle.sound.specs.Sound.{NoFinding}
 use Rattle.sound.specs.Laws.IsSound.{known-says}
@@ -89,18 +89,18 @@ module _ (k : Kind) (u : Usable k) (f : k .fat ≤ 2) (l : List ℕ) where
   counts-fit v n e =
       let t = total k u l (sound-exactly k u l .1 n) in
       let files = tally-low (isFile k l) (rootEntries k) 0 in
-      let c = u .below-aside in
+      let c = u .below-reserved in
       let r = u .few-slots in
-      subst VerdictFits (sym e) (record { numbers = (omega arith, omega arith, omega arith, omega arith) })
+      subst VerdictFits (sym e) (record { numbers = (omega arith, omega arith, omega arith, omega arith, omega arith) })
 
   answer-fits : (v : Verdict) → AnswersOf k l v → VerdictFits v
   answer-fits v =
       after (TablesDiffer k l) 2 (FromValues k l) v (omega arith) (λ p b. let x = b .0 in omega arith) (λ n2.
-      after (BadValue k l) 3 (FromSlots k l) v (omega arith) (λ p b. let x = b .0 .1 in omega (arith, u .below-aside)) (λ n3.
+      after (NoValue k l) 3 (FromSlots k l) v (omega arith) (λ p b. let x = b .0 .1 in omega (arith, u .below-reserved)) (λ n3.
       after (BadSlot k l) 4 (FromChains k l) v (omega arith) (λ p b. let x = b .0 in omega (arith, u .few-slots)) (λ n4.
       after (BadChain k l) 5 (FromTwo k l) v (omega arith) (λ p b. let x = b .0 .below in omega (arith, u .few-slots)) (λ n5.
-      after (InTwoChains k l) 6 (FromLost k l) v (omega arith) (λ p b. let x = chain-link k l (b .0) p (b .3 .1 .0) (b .3 .1 .1) (b .3 .1 .2) .1 in omega (arith, u .below-aside)) (λ n6.
-      after (Lost k l) 7 (Counted k l) v (omega arith) (λ p b. let x = b .0 .1 in omega (arith, u .below-aside)) (λ n7.
+      after (InTwoChains k l) 6 (FromLost k l) v (omega arith) (λ p b. let x = chain-link k l (b .0) p (b .3 .1 .0) (b .3 .1 .1) (b .3 .1 .2) .1 in omega (arith, u .below-reserved)) (λ n6.
+      after (Lost k l) 7 (Counted k l) v (omega arith) (λ p b. let x = b .0 .1 in omega (arith, u .below-reserved)) (λ n7.
       counts-fit v (record { tables = n2; values = n3; slots = n4; chains = n5; two = n6; lost = n7 })))))))
 
 fits-by : (w : WhichKind) (l : List ℕ) (v : Verdict) → ((k : Kind) → w ≡ Known k → Usable k × (k .fat ≤ 2)) → AnswersBy w l v → VerdictFits v
@@ -132,7 +132,7 @@ space-fits img a t = subst SpaceFits (sym (t .is)) (go (kindOfImage img) refl)
     go : (w : WhichKind) → kindOfImage img ≡ w → SpaceFits (freeSpace img)
     go (Known k) e = elim (says-dec (known-says img k e)) [
       | yes s ↦ let u = image-usable img k e in let t = total k u img s in
-          subst SpaceFits (sym (space-sound img k e s)) (record { number-fits = omega arith; free-fits = omega (arith, u .below-aside); clusters-fit = omega (arith, u .below-aside); sector-fits = omega arith; per-fits = omega (arith, u .per-high) })
+          subst SpaceFits (sym (space-sound img k e s)) (record { number-fits = omega arith; free-fits = omega (arith, u .below-reserved); clusters-fit = omega (arith, u .below-reserved); sector-fits = omega arith; per-fits = omega (arith, u .per-high) })
       | no n ↦ subst SpaceFits (sym (space-unsound img k e n)) (refused-fits unsound (omega arith))
     ]
     go Unknown e = subst SpaceFits (sym (space-unknown img e)) (refused-fits ofNoKind (omega arith))

@@ -1,7 +1,7 @@
 -- What is put into out, in the form of the code's needs: stores side by side are one store.
 use Prim.Native.Nat.{ℕ, _+_, _*_, _/_, _%_, _≤_, _<_}
 use native.Mathlib.Omega.{arith}
-use mathlib.Core.List.{List, [], _∷_, _++_}
+use mathlib.Core.List.{List, [], _∷_, _++_, append-nil, append-assoc}
 use mathlib.Core.Path.{_≡_, refl, _∙_}
 use lib.ListN.{length, length-append}
 use borrow.Author.Tests.{lt-ltb, le-ltb}
@@ -47,23 +47,42 @@ word-then : (l m k : List ℕ) (at n : ℕ) (ns : List ℕ) → m ≡ stored l a
 unfolding words
 word-then l m k at n ns p q = beside l m k at (at + 4) (digits n 4) (words ns) p q (omega (arith, length-digits n 4))
 
+words-append : (ns ms : List ℕ) → words (ns ++ ms) ≡ words ns ++ words ms
+unfolding words
+words-append [] ms = refl
+words-append (n ∷ ns) ms = rw (words-append ns ms, append-assoc (digits n 4) (words ns) (words ms))
+
 module _ (l : List ℕ) (a b c d : ℕ) where
   abbrev four : List ℕ
   four = words (a ∷ b ∷ c ∷ d ∷ [])
 
+  pub four-stored : (l₁ l₂ l₃ l₄ : List ℕ) → l₁ ≡ stored l 0 (digits a 4) → l₂ ≡ stored l₁ 4 (digits b 4) → l₃ ≡ stored l₂ 8 (digits c 4) → l₄ ≡ stored l₃ 12 (digits d 4)
+      → l₄ ≡ stored l 0 four
+  unfolding words stored
+  four-stored l₁ l₂ l₃ l₄ p q r s =
+      word-then l l₁ l₄ 0 a (b ∷ c ∷ d ∷ []) p
+      (word-then l₁ l₂ l₄ 4 b (c ∷ d ∷ []) q
+      (word-then l₂ l₃ l₄ 8 c (d ∷ []) r
+      (word-then l₃ l₄ l₄ 12 d [] s refl)))
+
   pub four-short : length l < 16 → l ≡ putOut l four
   four-short = put-short l four 16 (words-length (a ∷ b ∷ c ∷ d ∷ []))
 
-  pub four-stored : (l₁ l₂ l₃ l₄ : List ℕ) → 16 ≤ length l
-      → l₁ ≡ stored l 0 (digits a 4) → l₂ ≡ stored l₁ 4 (digits b 4) → l₃ ≡ stored l₂ 8 (digits c 4) → l₄ ≡ stored l₃ 12 (digits d 4)
-      → l₄ ≡ putOut l four
-  unfolding words stored
-  four-stored l₁ l₂ l₃ l₄ h p q r s =
-      put-whole l four 16 (words-length (a ∷ b ∷ c ∷ d ∷ [])) h l₄
-      (word-then l l₁ l₄ 0 a (b ∷ c ∷ d ∷ []) p
-      (word-then l₁ l₂ l₄ 4 b (c ∷ d ∷ []) q
-      (word-then l₂ l₃ l₄ 8 c (d ∷ []) r
-      (word-then l₃ l₄ l₄ 12 d [] s refl))))
+  pub four-put : 16 ≤ length l → (m : List ℕ) → m ≡ stored l 0 four → m ≡ putOut l four
+  four-put = put-whole l four 16 (words-length (a ∷ b ∷ c ∷ d ∷ []))
+
+  module _ (e : ℕ) where
+    abbrev five : List ℕ
+    five = words (a ∷ b ∷ c ∷ d ∷ e ∷ [])
+
+    pub five-short : length l < 20 → l ≡ putOut l five
+    five-short = put-short l five 20 (words-length (a ∷ b ∷ c ∷ d ∷ e ∷ []))
+
+    pub five-put : 20 ≤ length l → (m k : List ℕ) → m ≡ stored l 0 four → k ≡ stored m 16 (digits e 4) → k ≡ putOut l five
+    unfolding words
+    five-put h m k p q =
+        put-whole l five 20 (words-length (a ∷ b ∷ c ∷ d ∷ e ∷ [])) h k
+        (beside l m k 0 16 four (digits e 4) p q (omega (arith, words-length (a ∷ b ∷ c ∷ d ∷ []))) ∙ rw (words-append (a ∷ b ∷ c ∷ d ∷ []) (e ∷ []), append-nil (digits e 4)))
 
 -- ---- the fields of an entry
 

@@ -5,14 +5,14 @@ use mathlib.Core.Path.{_≡_}
 use lib.Dec.{ltb}
 use Rattle.chains.specs.Verdict.{OrElse}
 use Rattle.diskette.specs.declared.Kind.{Kind}
-use Rattle.sound.specs.Findings.{BadValue, BadSlot, BadChain, InTwoChains, Lost}
-use Rattle.sound.specs.Counts.{fileCount, freeOf, heldOf, asideOf}
+use Rattle.sound.specs.Findings.{NoValue, BadSlot, BadChain, InTwoChains, Lost}
+use Rattle.sound.specs.Counts.{countsOf}
 use Rattle.sound.specs.declared.Verdict.{Verdict}
 use Rattle.sound.specs.declared.Verdict.the-variants.{Sound, Finding}
 
 -- none of them: the counts
 abbrev pub Counted : Kind → List ℕ → Verdict → Type 0
-Counted k l v = v ≡ Sound (fileCount k l) (freeOf k l) (heldOf k l) (asideOf k l)
+Counted k l v = v ≡ Sound (countsOf k l)
 
 -- 7
 abbrev pub FromLost : Kind → List ℕ → Verdict → Type 0
@@ -32,4 +32,4 @@ FromSlots k l = OrElse ltb (BadSlot k l) (Finding 4) (FromChains k l)
 
 -- 3
 abbrev pub FromValues : Kind → List ℕ → Verdict → Type 0
-FromValues k l = OrElse ltb (BadValue k l) (Finding 3) (FromSlots k l)
+FromValues k l = OrElse ltb (NoValue k l) (Finding 3) (FromSlots k l)

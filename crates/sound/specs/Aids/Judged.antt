@@ -2,7 +2,7 @@
 use Prim.Native.Nat.{ℕ, _-_, _*_}
 use mathlib.Core.Bool.{Bool, true, false}
 use mathlib.Core.List.{List}
-use Rattle.chains.specs.Aids.Check.{chainMarks, inTwo, lost, badValue, checkChains}
+use Rattle.chains.specs.Aids.Check.{chainMarks, inTwo, lost, noValue, checkChains}
 use Rattle.chains.specs.Aids.Findings.{Voice}
 use Rattle.chains.specs.Aids.Verdict.{orElse, optional}
 use Rattle.search.specs.Search.{lowest}
@@ -14,7 +14,8 @@ use Rattle.tablecheck.specs.Aids.Copies.{differsAt}
 use Rattle.slotcheck.specs.Aids.Slots.{badSlotAt}
 use Rattle.chaincheck.specs.Aids.Entries.{holderAt, entriesOf, badChainSlot}
 use Rattle.sound.specs.Files.{valueOf}
-use Rattle.sound.specs.Counts.{fileCount, freeOf, heldOf, asideOf}
+use Rattle.sound.specs.Counts.{countsOf, fileCount, heldOf}
+use Rattle.sound.specs.declared.Counts.{Counts}
 use Rattle.sound.specs.declared.Verdict.{Verdict}
 use Rattle.sound.specs.declared.Verdict.the-variants.{Finding, Sound}
 
@@ -28,8 +29,12 @@ voice k l = record {
   badChain = Finding 5;
   inTwo = Finding 6;
   lost = Finding 7;
-  fine = Sound (fileCount k l) (freeOf k l) (heldOf k l) (asideOf k l);
+  fine = Sound (countsOf k l);
 }
+
+-- the counts put together
+abbrev pub soundWith : ℕ → ℕ → ℕ → ℕ → ℕ → Verdict
+soundWith files free held bad reserved = Sound (record { files = files; free = free; held = held; bad = bad; reserved = reserved })
 
 -- findings 6 and 7 by the marks m, as the code goes
 unfoldable pub marksJudged : ℕ → (ℕ → ℕ) → List ℕ → Verdict → Verdict
@@ -38,16 +43,16 @@ marksJudged last f m fine =
     (orElse (Finding 7) (optional (lowest (lost last f m) 2 (last - 1))) fine)
 
 -- findings 5 to 7, as the code goes
-unfoldable pub chainsJudged : Kind → List ℕ → ℕ → ℕ → Verdict
-chainsJudged k l free aside =
+unfoldable pub chainsJudged : Kind → List ℕ → ℕ → ℕ → ℕ → Verdict
+chainsJudged k l free bad reserved =
     orElse (Finding 5) (optional (lowest (badChainSlot (lastCluster k) (clusterBytes k) l (slotAt k)) 0 (rootEntries k)))
-    (marksJudged (lastCluster k) (valueOf k l) (marksOfFiles k l) (Sound (fileCount k l) free (heldOf k l) aside))
+    (marksJudged (lastCluster k) (valueOf k l) (marksOfFiles k l) (soundWith (fileCount k l) free (heldOf k l) bad reserved))
 
 -- all findings but the first
 unfoldable pub judged : Kind → List ℕ → Verdict
 judged k l =
     orElse (Finding 2) (optional (lowest (differsAt (copyTwo k) l) 0 (512 * k .fat)))
-    (orElse (Finding 3) (optional (lowest (badValue (lastCluster k) (valueOf k l)) 2 (lastCluster k - 1)))
+    (orElse (Finding 3) (optional (lowest (noValue (lastCluster k) (valueOf k l)) 2 (lastCluster k - 1)))
     (orElse (Finding 4) (optional (lowest (badSlotAt l (slotAt k)) 0 (rootEntries k)))
     (checkChains (lastCluster k) (valueOf k l) (marksOfFiles k l) (voice k l)
     (optional (lowest (badChainSlot (lastCluster k) (clusterBytes k) l (slotAt k)) 0 (rootEntries k))))))
@@ -58,5 +63,5 @@ judgedBy Unknown l = Finding 1 0
 
 -- the verdict is sound
 abbrev pub isSoundVerdict : Verdict → Bool
-isSoundVerdict (Sound files free held aside) = true
+isSoundVerdict (Sound counts) = true
 isSoundVerdict (Finding number place) = false

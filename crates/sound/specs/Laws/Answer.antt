@@ -5,7 +5,7 @@ use mathlib.Core.List.{List}
 use mathlib.Core.Path.{_≡_, refl}
 use lib.Dec.{ltb}
 use lib.ListN.{length}
-use Rattle.chains.specs.Laws.Check.{found-bad-value}
+use Rattle.chains.specs.Laws.Check.{found-no-value}
 use Rattle.chains.specs.Laws.Findings.{check-chains}
 use Rattle.chains.specs.Laws.Rows.{found-bad-chain}
 use Rattle.chains.specs.Laws.Verdict.{or-else}
@@ -20,7 +20,7 @@ use Rattle.chaincheck.specs.Aids.Entries.{badChainSlot, holderAt}
 use Rattle.sound.specs.Answer.{AnswersOf, AnswersBy, Checked, CheckedArea}
 use Rattle.sound.specs.Files.{valueOf}
 use Rattle.sound.specs.Aids.FromFinding.{Counted, FromLost, FromTwo, FromChains, FromSlots, FromValues}
-use Rattle.sound.specs.Findings.{TablesDiffer, BadValue, BadSlot, BadChain, InTwoChains, Lost}
+use Rattle.sound.specs.Findings.{TablesDiffer, NoValue, BadSlot, BadChain, InTwoChains, Lost}
 use Rattle.sound.specs.Aids.Holders.{rootRows}
 use Rattle.sound.specs.Judged.{checkOf, checkOfArea}
 use Rattle.sound.specs.Aids.Judged.{marksOfFiles, voice, judged, judgedBy}
@@ -52,9 +52,9 @@ judged-answers k l u long =
     let f = valueOf k l in
     let h = holderAt (clusterBytes k) l in
     or-else ltb (TablesDiffer k l) (Finding 2) (FromValues k l) _ _ (found-difference k l) (λ n2.
-    or-else ltb (BadValue k l) (Finding 3) (FromSlots k l) _ _ (found-bad-value G f) (λ n3.
+    or-else ltb (NoValue k l) (Finding 3) (FromSlots k l) _ _ (found-no-value G f) (λ n3.
     or-else ltb (BadSlot k l) (Finding 4) (FromChains k l) _ _ (found-bad-slot k l long) (λ n4.
-    chains-answer k u l _ (check-chains ltb G f h (rootRows k) (voice k l) 4080 (omega (arith, u .below-aside)) (slots-once k) _ _ (found-bad-chain G f h (slotAt k) (rootEntries k)) (λ n5. refl)))))
+    chains-answer k u l _ (check-chains ltb G f h (rootRows k) (voice k l) 4080 (omega (arith, u .below-reserved)) (slots-once k) _ _ (found-bad-chain G f h (slotAt k) (rootEntries k)) (λ n5. refl)))))
 
 -- ---- an image, and a system area alone
 

@@ -17,7 +17,7 @@ use Rattle.table.specs.Laws.View.{table-same}
 use Rattle.sound.specs.Aids.Area.{SameArea}
 use Rattle.sound.specs.Counts.{isFile, fileCount, heldBy, heldOf}
 use Rattle.sound.specs.Files.{valueOf, IsFile, ChainOf}
-use Rattle.sound.specs.Findings.{TablesDiffer, BadValue, BadSlot, AfterNeverUsed, StrangeEntry, SecondLabel, NameTwice, BadChain, InChain, InTwoChains, Lost}
+use Rattle.sound.specs.Findings.{TablesDiffer, NoValue, BadSlot, AfterNeverUsed, StrangeEntry, SecondLabel, NameTwice, BadChain, InChain, InTwoChains, Lost}
 use Rattle.sound.specs.Aids.FromFinding.{Counted}
 use Rattle.sound.specs.declared.Verdict.{Verdict}
 
@@ -42,7 +42,7 @@ module _ (k : Kind) (u : Usable k) (m l : List ℕ) (e : SameArea k m l) where
       let two : getD m (copyTwo k + j) 0 ≡ getD l (copyTwo k + j) 0 = e .bytes (copyTwo k + j) (omega (arith, b .0)) in
       (b .0, rw (one, two) at (b .1))
 
-  value-to : (c : ℕ) → BadValue k m c → BadValue k l c
+  value-to : (c : ℕ) → NoValue k m c → NoValue k l c
   value-to c b = (b .0, rw (area-table c) at (b .1))
 
   never-to : (s : ℕ) → s < rootEntries k → NeverUsedAt m (slotAt k s) → NeverUsedAt l (slotAt k s)
@@ -99,7 +99,7 @@ module _ (k : Kind) (u : Usable k) (m l : List ℕ) (e : SameArea k m l) where
   pub tables-alike : (j : ℕ) → TablesDiffer k m j ↔ TablesDiffer k l j
   tables-alike j = (tables-to k u m l e j, tables-to k u l m back j)
 
-  pub values-alike : (c : ℕ) → BadValue k m c ↔ BadValue k l c
+  pub values-alike : (c : ℕ) → NoValue k m c ↔ NoValue k l c
   values-alike c = (value-to k u m l e c, value-to k u l m back c)
 
   pub slots-alike : (s : ℕ) → BadSlot k m s ↔ BadSlot k l s

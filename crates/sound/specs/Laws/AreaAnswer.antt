@@ -13,7 +13,7 @@ use Rattle.diskette.specs.declared.WhichKind.the-variants.{Known}
 use Rattle.diskette.specs.Laws.Images.{image-of-kind, area-of-kind, image-usable}
 use Rattle.sound.specs.Answer.{AnswersOf, AnswersBy, Checked, CheckedArea}
 use Rattle.sound.specs.Aids.Area.{SameArea}
-use Rattle.sound.specs.Findings.{TablesDiffer, BadValue, BadSlot, BadChain, InTwoChains, Lost}
+use Rattle.sound.specs.Findings.{TablesDiffer, NoValue, BadSlot, BadChain, InTwoChains, Lost}
 use Rattle.sound.specs.Aids.FromFinding.{Counted, FromLost, FromTwo, FromChains, FromSlots, FromValues}
 use Rattle.sound.specs.Sound.{Sound, NoFinding}
 use Rattle.sound.specs.Laws.Area.{area-back, tables-alike, values-alike, slots-alike, chains-alike, two-alike, lost-alike, counted-as}
@@ -26,7 +26,7 @@ module _ (k : Kind) (u : Usable k) (m l : List ℕ) (e : SameArea k m l) where
   pub answers-as : (v : Verdict) → AnswersOf k m v → AnswersOf k l v
   answers-as v =
       or-else-as ltb (TablesDiffer k m) (TablesDiffer k l) (tables-alike k u m l e) (Finding 2) (FromValues k m) (FromValues k l) v
-      (or-else-as ltb (BadValue k m) (BadValue k l) (values-alike k u m l e) (Finding 3) (FromSlots k m) (FromSlots k l) v
+      (or-else-as ltb (NoValue k m) (NoValue k l) (values-alike k u m l e) (Finding 3) (FromSlots k m) (FromSlots k l) v
       (or-else-as ltb (BadSlot k m) (BadSlot k l) (slots-alike k u m l e) (Finding 4) (FromChains k m) (FromChains k l) v
       (or-else-as ltb (BadChain k m) (BadChain k l) (chains-alike k u m l e) (Finding 5) (FromTwo k m) (FromTwo k l) v
       (or-else-as ltb (InTwoChains k m) (InTwoChains k l) (two-alike k u m l e) (Finding 6) (FromLost k m) (FromLost k l) v
@@ -35,7 +35,7 @@ module _ (k : Kind) (u : Usable k) (m l : List ℕ) (e : SameArea k m l) where
   pub no-finding-as : NoFinding k m → NoFinding k l
   no-finding-as n = record {
     tables = none-as (TablesDiffer k m) (TablesDiffer k l) (tables-alike k u m l e) (n .tables);
-    values = none-as (BadValue k m) (BadValue k l) (values-alike k u m l e) (n .values);
+    values = none-as (NoValue k m) (NoValue k l) (values-alike k u m l e) (n .values);
     slots = none-as (BadSlot k m) (BadSlot k l) (slots-alike k u m l e) (n .slots);
     chains = none-as (BadChain k m) (BadChain k l) (chains-alike k u m l e) (n .chains);
     two = none-as (InTwoChains k m) (InTwoChains k l) (two-alike k u m l e) (n .two);

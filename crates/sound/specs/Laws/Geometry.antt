@@ -6,4 +6,4 @@ use Rattle.diskette.specs.Places.{clusterBytes, lastCluster}
 use Rattle.diskette.specs.declared.Kind.{Kind}
 
 abbrev pub geometry : (k : Kind) → Usable k → Geometry
-geometry k u = record { last = lastCluster k; cb = clusterBytes k; small = u .below-aside; wide = omega (arith, u .per-low) }
+geometry k u = record { last = lastCluster k; cb = clusterBytes k; small = u .below-reserved; wide = omega (arith, u .per-low) }

@@ -17,7 +17,7 @@ use Rattle.diskette.specs.declared.WhichKind.the-variants.{Known, Unknown}
 use Rattle.diskette.specs.Laws.Images.{image-of-kind, area-of-kind, image-usable, area-usable}
 use Rattle.diskette.specs.Aids.Usable.{Usable}
 use Rattle.sound.specs.Answer.{AnswersOf, AnswersBy}
-use Rattle.sound.specs.Findings.{TablesDiffer, BadValue, BadSlot, BadChain, InTwoChains, Lost}
+use Rattle.sound.specs.Findings.{TablesDiffer, NoValue, BadSlot, BadChain, InTwoChains, Lost}
 use Rattle.sound.specs.Aids.FromFinding.{FromLost, FromTwo, FromChains, FromSlots, FromValues, Counted}
 use Rattle.sound.specs.Judged.{checkOf, checkOfArea, isSound}
 use Rattle.sound.specs.Aids.Judged.{isSoundVerdict}
@@ -37,7 +37,7 @@ pub says-no-finding : (k : Kind) (l : List ℕ) (v : Verdict) → AnswersOf k l 
 says-no-finding k l v =
     let P = NoFinding k l in
     after (TablesDiffer k l) 2 (FromValues k l) P v (λ n. n .tables) (λ n2.
-    after (BadValue k l) 3 (FromSlots k l) P v (λ n. n .values) (λ n3.
+    after (NoValue k l) 3 (FromSlots k l) P v (λ n. n .values) (λ n3.
     after (BadSlot k l) 4 (FromChains k l) P v (λ n. n .slots) (λ n4.
     after (BadChain k l) 5 (FromTwo k l) P v (λ n. n .chains) (λ n5.
     after (InTwoChains k l) 6 (FromLost k l) P v (λ n. n .two) (λ n6.

@@ -4,7 +4,7 @@ use mathlib.Core.List.{List}
 use mathlib.Core.Path.{_≡_, refl, sym, _∙_}
 use lib.ListN.{replicate}
 use Rattle.chains.specs.Aids.Verdict.{orElse, optional}
-use Rattle.chains.specs.Aids.Check.{badValue, inTwo, lost, checkLost, checkTwo, checkChains}
+use Rattle.chains.specs.Aids.Check.{noValue, inTwo, lost, checkLost, checkTwo, checkChains}
 use Rattle.search.specs.Search.{lowest}
 use Rattle.search.specs.declared.Found.{Found}
 use Rattle.search.specs.declared.Found.the-variants.{At, Nothing}
@@ -14,7 +14,7 @@ use Rattle.table.specs.Entries.{tableOf}
 use Rattle.tablecheck.specs.Aids.Copies.{differsAt}
 use Rattle.tablecheck.specs.Aids.Values.{censusBy, censusOf}
 use Rattle.tablecheck.specs.declared.Census.{Census}
-use Rattle.tablecheck.specs.declared.Census.the-variants.{BadValue, Values}
+use Rattle.tablecheck.specs.declared.Census.the-variants.{NoValue, Values}
 use Rattle.slotcheck.specs.Aids.Slots.{badSlotAt}
 use Rattle.chaincheck.specs.Aids.Entries.{badChainSlot}
 use Rattle.chaincheck.specs.Aids.Held.{plainSlot, heldSlot}
@@ -22,11 +22,11 @@ use Rattle.chaincheck.specs.Aids.Visits.{chainsBy, chainsFound, FilesVisited}
 use Rattle.chaincheck.specs.declared.Chains.{Chains}
 use Rattle.chaincheck.specs.declared.Chains.the-variants.{BadChain, Held}
 use Rattle.sound.specs.Files.{valueOf}
-use Rattle.sound.specs.Counts.{isFile, freeOf, heldBy, asideOf}
-use Rattle.sound.specs.Aids.Judged.{marksOfFiles, voice, marksJudged, chainsJudged, judged}
+use Rattle.sound.specs.Counts.{isFile, freeOf, heldBy, badOf, reservedOf}
+use Rattle.sound.specs.Aids.Judged.{marksOfFiles, voice, soundWith, marksJudged, chainsJudged, judged}
 use Rattle.sound.specs.Laws.Visited.{files-visited-marks}
 use Rattle.sound.specs.declared.Verdict.{Verdict}
-use Rattle.sound.specs.declared.Verdict.the-variants.{Sound, Finding}
+use Rattle.sound.specs.declared.Verdict.the-variants.{Finding}
 
 -- ---- one finding in front of the rest
 
@@ -61,47 +61,47 @@ unfolding orElse optional
 chains-say Nothing files held r e rest = rw e
 chains-say (At s) files held r e rest = rw e
 
-module _ (k : Kind) (l : List ℕ) (free aside : ℕ) (r : Chains) (e : r ≡ chainsFound (lastCluster k) (clusterBytes k) l (slotAt k) (rootEntries k)) where
-  said : (elim r as (λ _. Verdict) [ BadChain s ↦ Finding 5 s | Held a b ↦ marksJudged (lastCluster k) (valueOf k l) (marksOfFiles k l) (Sound a free b aside) ]) ≡ chainsJudged k l free aside
+module _ (k : Kind) (l : List ℕ) (free bad reserved : ℕ) (r : Chains) (e : r ≡ chainsFound (lastCluster k) (clusterBytes k) l (slotAt k) (rootEntries k)) where
+  said : (elim r as (λ _. Verdict) [ BadChain s ↦ Finding 5 s | Held a b ↦ marksJudged (lastCluster k) (valueOf k l) (marksOfFiles k l) (soundWith a free b bad reserved) ]) ≡ chainsJudged k l free bad reserved
   unfolding chainsFound chainsJudged plainSlot heldSlot isFile heldBy
-  said = chains-say _ _ _ r e (λ a b. marksJudged (lastCluster k) (valueOf k l) (marksOfFiles k l) (Sound a free b aside))
+  said = chains-say _ _ _ r e (λ a b. marksJudged (lastCluster k) (valueOf k l) (marksOfFiles k l) (soundWith a free b bad reserved))
 
-  chains-bad : (s : ℕ) → r ≡ BadChain s → Finding 5 s ≡ chainsJudged k l free aside
+  chains-bad : (s : ℕ) → r ≡ BadChain s → Finding 5 s ≡ chainsJudged k l free bad reserved
   chains-bad s q = rw q at said
 
-  chains-good : (files held : ℕ) (m : List ℕ) (v : Verdict) → r ≡ Held files held → m ≡ marksOfFiles k l → v ≡ marksJudged (lastCluster k) (valueOf k l) m (Sound files free held aside) → v ≡ chainsJudged k l free aside
+  chains-good : (files held : ℕ) (m : List ℕ) (v : Verdict) → r ≡ Held files held → m ≡ marksOfFiles k l → v ≡ marksJudged (lastCluster k) (valueOf k l) m (soundWith files free held bad reserved) → v ≡ chainsJudged k l free bad reserved
   chains-good files held m v q p g = (rw p at g) ∙ (rw q at said)
 
 -- the kind's numbers as the code has them, each in a variable, and what the visit of all files promised
-module _ (k : Kind) (l : List ℕ) (free aside last root count cb : ℕ) (a : last ≡ lastCluster k) (b : root ≡ rootAt k) (c : count ≡ rootEntries k) (d : cb ≡ clusterBytes k)
+module _ (k : Kind) (l : List ℕ) (free bad reserved last root count cb : ℕ) (a : last ≡ lastCluster k) (b : root ≡ rootAt k) (c : count ≡ rootEntries k) (d : cb ≡ clusterBytes k)
     (r : Chains) (after : List ℕ) (v : FilesVisited last cb l (slotFrom root) count (replicate 4080 0) r after) where
   visited : FilesVisited (lastCluster k) (clusterBytes k) l (slotAt k) (rootEntries k) (replicate 4080 0) r after
   visited = rw (a, b, c, d) at v
 
-  pub visited-bad : (s : ℕ) → r ≡ BadChain s → Finding 5 s ≡ chainsJudged k l free aside
-  visited-bad s q = chains-bad k l free aside r (visited .is) s q
+  pub visited-bad : (s : ℕ) → r ≡ BadChain s → Finding 5 s ≡ chainsJudged k l free bad reserved
+  visited-bad s q = chains-bad k l free bad reserved r (visited .is) s q
 
-  pub visited-good : (files held : ℕ) (w : Verdict) → r ≡ Held files held → w ≡ marksJudged last (tableOf last l) after (Sound files free held aside) → w ≡ chainsJudged k l free aside
+  pub visited-good : (files held : ℕ) (w : Verdict) → r ≡ Held files held → w ≡ marksJudged last (tableOf last l) after (soundWith files free held bad reserved) → w ≡ chainsJudged k l free bad reserved
   visited-good files held w q g =
-      chains-good k l free aside r (visited .is) files held after w q (files-visited-marks k l (replicate 4080 0) after r visited files held q refl) (rw a at g)
+      chains-good k l free bad reserved r (visited .is) files held after w q (files-visited-marks k l (replicate 4080 0) after r visited files held q refl) (rw a at g)
 
 -- ---- all of them
 
-census-says : (o : Found) (free aside : ℕ) (r : Census) → r ≡ censusBy o free aside → (rest : ℕ → ℕ → Verdict) → (elim r as (λ _. Verdict) [ BadValue c ↦ Finding 3 c | Values a b ↦ rest a b ]) ≡ orElse (Finding 3) (optional o) (rest free aside)
+census-says : (o : Found) (free bad reserved : ℕ) (r : Census) → r ≡ censusBy o free bad reserved → (rest : ℕ → ℕ → ℕ → Verdict) → (elim r as (λ _. Verdict) [ NoValue c ↦ Finding 3 c | Values a b d ↦ rest a b d ]) ≡ orElse (Finding 3) (optional o) (rest free bad reserved)
 unfolding orElse optional
-census-says Nothing free aside r e rest = rw e
-census-says (At c) free aside r e rest = rw e
+census-says Nothing free bad reserved r e rest = rw e
+census-says (At c) free bad reserved r e rest = rw e
 
 module _ (k : Kind) (l : List ℕ) where
   -- findings 5 to 7 as the theory of chains has them
-  chains-as : chainsJudged k l (freeOf k l) (asideOf k l) ≡ checkChains (lastCluster k) (valueOf k l) (marksOfFiles k l) (voice k l) (optional (lowest (badChainSlot (lastCluster k) (clusterBytes k) l (slotAt k)) 0 (rootEntries k)))
+  chains-as : chainsJudged k l (freeOf k l) (badOf k l) (reservedOf k l) ≡ checkChains (lastCluster k) (valueOf k l) (marksOfFiles k l) (voice k l) (optional (lowest (badChainSlot (lastCluster k) (clusterBytes k) l (slotAt k)) 0 (rootEntries k)))
   unfolding chainsJudged marksJudged checkChains checkTwo checkLost
   chains-as = refl
 
-  from-slots : ℕ → ℕ → Verdict
-  from-slots free aside = orElse (Finding 4) (optional (lowest (badSlotAt l (slotAt k)) 0 (rootEntries k))) (chainsJudged k l free aside)
+  from-slots : ℕ → ℕ → ℕ → Verdict
+  from-slots free bad reserved = orElse (Finding 4) (optional (lowest (badSlotAt l (slotAt k)) 0 (rootEntries k))) (chainsJudged k l free bad reserved)
 
-  judged-as : judged k l ≡ orElse (Finding 2) (optional (lowest (differsAt (copyTwo k) l) 0 (512 * k .fat))) (orElse (Finding 3) (optional (lowest (badValue (lastCluster k) (valueOf k l)) 2 (lastCluster k - 1))) (from-slots (freeOf k l) (asideOf k l)))
+  judged-as : judged k l ≡ orElse (Finding 2) (optional (lowest (differsAt (copyTwo k) l) 0 (512 * k .fat))) (orElse (Finding 3) (optional (lowest (noValue (lastCluster k) (valueOf k l)) 2 (lastCluster k - 1))) (from-slots (freeOf k l) (badOf k l) (reservedOf k l)))
   unfolding judged from-slots
   judged-as = rw chains-as
 
@@ -113,15 +113,15 @@ module _ (k : Kind) (l : List ℕ) where
     judged-tables j q = found-says (Finding 2) _ _ r j tables-say q ∙ sym judged-as
 
     module _ (q : r ≡ Nothing) (last : ℕ) (y : last ≡ lastCluster k) (s : Census) (g : s ≡ censusOf last l) where
-      after-tables : (elim s as (λ _. Verdict) [ BadValue c ↦ Finding 3 c | Values a b ↦ from-slots a b ]) ≡ judged k l
+      after-tables : (elim s as (λ _. Verdict) [ NoValue c ↦ Finding 3 c | Values a b d ↦ from-slots a b d ]) ≡ judged k l
       unfolding censusOf
-      after-tables = census-says _ _ _ s (rw y at g) from-slots ∙ nothing-says (Finding 2) _ _ r tables-say q ∙ sym judged-as
+      after-tables = census-says _ _ _ _ s (rw y at g) from-slots ∙ nothing-says (Finding 2) _ _ r tables-say q ∙ sym judged-as
 
-      pub judged-values : (c : ℕ) → s ≡ BadValue c → Finding 3 c ≡ judged k l
+      pub judged-values : (c : ℕ) → s ≡ NoValue c → Finding 3 c ≡ judged k l
       judged-values c p = rw p at after-tables
 
-      module _ (free aside : ℕ) (p : s ≡ Values free aside) (root count : ℕ) (w : root ≡ rootAt k) (z : count ≡ rootEntries k) (t : Found) (h : t ≡ lowest (badSlotAt l (slotFrom root)) 0 count) where
-        after-values : from-slots free aside ≡ judged k l
+      module _ (free bad reserved : ℕ) (p : s ≡ Values free bad reserved) (root count : ℕ) (w : root ≡ rootAt k) (z : count ≡ rootEntries k) (t : Found) (h : t ≡ lowest (badSlotAt l (slotFrom root)) 0 count) where
+        after-values : from-slots free bad reserved ≡ judged k l
         after-values = rw p at after-tables
 
         slots-say : t ≡ lowest (badSlotAt l (slotAt k)) 0 (rootEntries k)
@@ -131,6 +131,6 @@ module _ (k : Kind) (l : List ℕ) where
         unfolding from-slots
         judged-slots n o = found-says (Finding 4) _ _ t n slots-say o ∙ after-values
 
-        pub judged-chains : (v : Verdict) → t ≡ Nothing → v ≡ chainsJudged k l free aside → v ≡ judged k l
+        pub judged-chains : (v : Verdict) → t ≡ Nothing → v ≡ chainsJudged k l free bad reserved → v ≡ judged k l
         unfolding from-slots
         judged-chains v o u = u ∙ nothing-says (Finding 4) _ _ t slots-say o ∙ after-values

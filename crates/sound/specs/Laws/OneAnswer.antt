@@ -9,7 +9,7 @@ use Rattle.diskette.specs.declared.Kind.{Kind}
 use Rattle.diskette.specs.declared.WhichKind.{WhichKind}
 use Rattle.diskette.specs.declared.WhichKind.the-variants.{Known, Unknown}
 use Rattle.sound.specs.Answer.{AnswersOf, AnswersBy, Checked, CheckedArea}
-use Rattle.sound.specs.Findings.{TablesDiffer, BadValue, BadSlot, BadChain, InTwoChains, Lost}
+use Rattle.sound.specs.Findings.{TablesDiffer, NoValue, BadSlot, BadChain, InTwoChains, Lost}
 use Rattle.sound.specs.Aids.FromFinding.{Counted, FromLost, FromTwo, FromChains, FromSlots, FromValues}
 use Rattle.sound.specs.Judged.{checkOf, checkOfArea}
 use Rattle.sound.specs.Laws.Answer.{check-answers, area-answers}
@@ -19,7 +19,7 @@ use Rattle.sound.specs.declared.Verdict.the-variants.{Finding}
 pub answers-only : (k : Kind) (l : List ℕ) (v w : Verdict) → AnswersOf k l v → AnswersOf k l w → v ≡ w
 answers-only k l =
     or-else-same ltb numbers (TablesDiffer k l) (Finding 2) (FromValues k l)
-    (or-else-same ltb numbers (BadValue k l) (Finding 3) (FromSlots k l)
+    (or-else-same ltb numbers (NoValue k l) (Finding 3) (FromSlots k l)
     (or-else-same ltb numbers (BadSlot k l) (Finding 4) (FromChains k l)
     (or-else-same ltb numbers (BadChain k l) (Finding 5) (FromTwo k l)
     (or-else-same ltb numbers (InTwoChains k l) (Finding 6) (FromLost k l)

@@ -1,4 +1,4 @@
--- Of a sound volume free, held and aside together are all clusters.
+-- Of a sound volume free, held, bad and reserved together are all clusters.
 use Prim.Native.Nat.{ℕ, _+_}
 use native.Mathlib.Omega.{arith}
 use mathlib.Core.Bool.{Bool, true, false, cond}
@@ -19,7 +19,7 @@ use Rattle.diskette.specs.declared.Kind.{Kind}
 use Rattle.fields.specs.Fields.{startOf, sizeOf}
 use Rattle.directory.specs.Slots.{standingOf, isPlain}
 use Rattle.directory.specs.Laws.Slots.{plain-is}
-use Rattle.sound.specs.Counts.{isFile, freeOf, heldBy, heldOf, asideOf}
+use Rattle.sound.specs.Counts.{isFile, freeOf, heldBy, heldOf, badOf, reservedOf}
 use Rattle.sound.specs.Files.{valueOf}
 use Rattle.sound.specs.Aids.Holders.{rootList, rootHolders, rootChains}
 use Rattle.sound.specs.Sound.{Sound}
@@ -61,7 +61,7 @@ module _ (k : Kind) (u : Usable k) (l : List ℕ) where
       zero-more : (s : ℕ) → s + 0 ≡ s
       zero-more s = omega arith
 
-  pub total : Sound k l → freeOf k l + heldOf k l + asideOf k l ≡ clusters k
+  pub total : Sound k l → freeOf k l + heldOf k l + badOf k l + reservedOf k l ≡ clusters k
   total v =
       let t = sound-theory k u l (v .0) (v .1) in
       omega (arith, held-chains v, all-clusters (geometry k u) (valueOf k l) (rootHolders k l) (rootChains k l) t (rootList k) (root-names k u l (rootChains k l) t))

@@ -1,16 +1,16 @@
--- What was counted, with the count from here on, is the whole count, and no bad value was met.
+-- What was counted, with the count from here on, is the whole count, and each cluster so far has a value.
 use borrow.Author.Needs.{needs}
 use mathlib.Core.Logic.{⊎-elim}
 use Prim.Native.Nat.{_-_}
-use Rattle.tablecheck.specs.Laws.Tables.{Met, met-start, met-free, met-aside, met-next, met-end, met-bad, met-all}
+use Rattle.tablecheck.specs.Laws.Tables.{Met, met-start, met-free, met-bad, met-reserved, met-none, met-next, met-end, met-all}
 use Rattle.tablecheck.proofs.take_census.Statement.{statement}
 use Rattle.tablecheck.proofs.take_census.Tie as tie
 
 abbrev Inv-loop : tie.InvT-loop
-Inv-loop img last after free₀ aside₀ c₀ free aside c = Met last img after free aside c
+Inv-loop img last after free₀ bad₀ reserved₀ c₀ free bad reserved c = Met last img after free bad reserved c
 
 abbrev μ-loop : tie.MeasureT-loop
-μ-loop img last after free₀ aside₀ c₀ free aside c = after - c
+μ-loop img last after free₀ bad₀ reserved₀ c₀ free bad reserved c = after - c
 
 add-after : tie.Need-add-after Inv-loop μ-loop
 add-after c = search needs
@@ -33,20 +33,26 @@ add-free c = search needs
 enum-told-2 : tie.Need-enum-told-2 Inv-loop μ-loop
 enum-told-2 c = search needs
 
-add-aside : tie.Need-add-aside Inv-loop μ-loop
-add-aside c = search needs
+add-bad : tie.Need-add-bad Inv-loop μ-loop
+add-bad c = search needs
 
 enum-told-3 : tie.Need-enum-told-3 Inv-loop μ-loop
 enum-told-3 c = search needs
 
-returns : tie.Need-returns Inv-loop μ-loop
-returns c = search (met-bad, c .before .before .before .before .before .before .shared-slice-known .given)
+add-reserved : tie.Need-add-reserved Inv-loop μ-loop
+add-reserved c = search needs
 
 enum-told-4 : tie.Need-enum-told-4 Inv-loop μ-loop
 enum-told-4 c = search needs
 
+returns : tie.Need-returns Inv-loop μ-loop
+returns c = search (met-none, c .before .before .before .before .before .before .shared-slice-known .given)
+
 enum-told-5 : tie.Need-enum-told-5 Inv-loop μ-loop
 enum-told-5 c = search needs
+
+enum-told-6 : tie.Need-enum-told-6 Inv-loop μ-loop
+enum-told-6 c = search needs
 
 add-c : tie.Need-add-c Inv-loop μ-loop
 add-c c = search needs
@@ -59,7 +65,7 @@ loop-again c =
     let bytes = c .before .before .before .before .before .shared-slice-known .given in
     ⊎-elim
     (λ w. search (met-free, bytes))
-    (⊎-elim (λ w. search (met-aside, bytes)) (⊎-elim (λ w. search (met-next, bytes)) (λ w. search (met-end, bytes))))
+    (⊎-elim (λ w. search (met-bad, bytes)) (⊎-elim (λ w. search (met-reserved, bytes)) (⊎-elim (λ w. search (met-next, bytes)) (λ w. search (met-end, bytes)))))
     (c .match .came)
 
 returns-2 : tie.Need-returns-2 Inv-loop μ-loop
@@ -78,11 +84,13 @@ take-census-spec =
     enum-told
     add-free
     enum-told-2
-    add-aside
+    add-bad
     enum-told-3
-    returns
+    add-reserved
     enum-told-4
+    returns
     enum-told-5
+    enum-told-6
     add-c
     loop-less
     loop-again

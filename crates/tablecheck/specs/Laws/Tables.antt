@@ -12,14 +12,14 @@ use lib.ListN.{getD}
 use borrow.Author.Tests.{eqb-true, eq-eqb, ne-eqb}
 use Rattle.image.specs.Bytes.{Bytes}
 use Rattle.image.specs.Numbers.{number}
-use Rattle.chains.specs.Aids.Check.{badValue}
+use Rattle.chains.specs.Aids.Check.{noValue}
 use Rattle.chains.specs.Sums.{tally, bit}
-use Rattle.chains.specs.Values.{freeCount, asideCount, freeb, linkb, asideb, Valid, free, used, aside, endb}
-use Rattle.chains.specs.Aids.Values.{freeAt, asideAt}
+use Rattle.chains.specs.Values.{freeb, linkb, endb, badb, reservedb, Valid, free, used, bad, reserved, valueCount}
+use Rattle.chains.specs.Aids.Values.{passesAt}
 use Rattle.chains.specs.Laws.Tests.{says-not, true-says, false-says, clash}
-use Rattle.chains.specs.Laws.Values.{says-valid, says-aside}
+use Rattle.chains.specs.Laws.Values.{says-valid, says-bad, says-reserved}
 use Rattle.chains.specs.Laws.TallyTurns.{tally-hit, tally-miss, tally-end}
-use Rattle.chains.specs.Laws.ClusterLoops.{lowest-start, free-start, aside-start}
+use Rattle.chains.specs.Laws.ClusterLoops.{lowest-start, count-start}
 use Rattle.search.specs.Search.{lowest}
 use Rattle.search.specs.Laws.Turns.{lowest-hit, lowest-miss, lowest-done}
 use Rattle.search.specs.declared.Found.{Found}
@@ -27,14 +27,14 @@ use Rattle.search.specs.declared.Found.the-variants.{At, Nothing}
 use Rattle.values.specs.Values.{meaningOf}
 use Rattle.values.specs.Values as values
 use Rattle.values.specs.declared.Meaning.{Meaning}
-use Rattle.values.specs.declared.Meaning.the-variants.{Free, Next, Aside, End, NoneOfThese}
+use Rattle.values.specs.declared.Meaning.the-variants.{Free, Next, Bad, Reserved, End, NoneOfThese}
 use Rattle.values.specs.Laws.Values.{meaning-is}
 use Rattle.table.specs.Entries.{tableOf, entryOf}
 use Rattle.table.specs.Laws.OneCopy.{entry-small}
 use Rattle.table.specs.Laws.View.{table-inside}
 use Rattle.tablecheck.specs.Aids.Copies.{differsAt, Alike, FourAlike}
 use Rattle.tablecheck.specs.Aids.Values.{censusBy, censusOf}
-use Rattle.tablecheck.specs.declared.Census.the-variants.{BadValue, Values}
+use Rattle.tablecheck.specs.declared.Census.the-variants.{NoValue, Values}
 
 -- ---- the copies at offset j
 
@@ -132,86 +132,123 @@ module _ (l : List ℕ) (second size j : ℕ) (whole : Found) (inv : lowest (dif
 
 -- ---- the census
 
--- where the loop stands at cluster c: what it has counted, with what is left, is the whole, and no bad value was met
-pub record Met (last : ℕ) (l : List ℕ) (after free aside c : ℕ) : Type 0 where
-  pub from : 2 ≤ c
-  pub free-few : free ≤ c
-  pub aside-few : aside ≤ c
-  pub free-is : free + tally (freeAt (tableOf last l)) (after - c) c ≡ freeCount last (tableOf last l)
-  pub aside-is : aside + tally (asideAt (tableOf last l)) (after - c) c ≡ asideCount last (tableOf last l)
-  pub bad-is : lowest (badValue last (tableOf last l)) c (after - c) ≡ lowest (badValue last (tableOf last l)) 2 (last - 1)
-
-pub met-start : (last : ℕ) (l : List ℕ) → Met last l (last + 1) 0 0 2
-met-start last l = record {
-  from = omega arith;
-  free-few = omega arith;
-  aside-few = omega arith;
-  free-is = free-start (tableOf last l) last;
-  aside-is = aside-start (tableOf last l) last;
-  bad-is = lowest-start (badValue last (tableOf last l)) last;
-}
-
--- what a meaning says of the tests
-abbrev isBad : Meaning → Bool
-isBad Free = false
-isBad (Next n) = false
-isBad Aside = false
-isBad End = false
-isBad NoneOfThese = true
-
-abbrev isFree : Meaning → Bool
-isFree Free = true
-isFree (Next n) = false
-isFree Aside = false
-isFree End = false
-isFree NoneOfThese = false
-
-abbrev isAside : Meaning → Bool
-isAside Free = false
-isAside (Next n) = false
-isAside Aside = true
-isAside End = false
-isAside NoneOfThese = false
-
-module _ (last v : ℕ) (low : last ≤ 4079) where
-  bad-said : (m : Meaning) → values.Values m last v → not (freeb v || (linkb last v || (endb v || asideb v))) ≡ isBad m
-  bad-said Free x = false-says (says-not (says-valid last v)) (λ n. n (free x))
-  bad-said (Next n) x = false-says (says-not (says-valid last v)) (λ n. n (used (inl (x .0))))
-  bad-said Aside x = false-says (says-not (says-valid last v)) (λ n. n (aside x))
-  bad-said End x = false-says (says-not (says-valid last v)) (λ n. n (used (inr x)))
-  bad-said NoneOfThese x = true-says (says-not (says-valid last v)) no-value
-    where
-      no-value : ¬ Valid last v
-      no-value (free e) = x .0 e
-      no-value (used (inl u)) = x .1 u
-      no-value (used (inr u)) = x .3 u
-      no-value (aside u) = x .2 u
-
-  free-said : (m : Meaning) → values.Values m last v → freeb v ≡ isFree m
-  free-said Free x = eq-eqb v 0 x
-  free-said (Next n) x = ne-eqb v 0 (omega arith)
-  free-said Aside x = ne-eqb v 0 (omega arith)
-  free-said End x = ne-eqb v 0 (omega arith)
-  free-said NoneOfThese x = ne-eqb v 0 (x .0)
-
-  aside-said : (m : Meaning) → values.Values m last v → asideb v ≡ isAside m
-  aside-said Free x = false-says (says-aside v) (λ y. omega arith)
-  aside-said (Next n) x = false-says (says-aside v) (λ y. omega arith)
-  aside-said Aside x = true-says (says-aside v) x
-  aside-said End x = false-says (says-aside v) (λ y. omega arith)
-  aside-said NoneOfThese x = false-says (says-aside v) (x .2)
+-- n clusters before c pass the test; with those from c on they are all that do
+pub record Tallied (t : ℕ → Bool) (last : ℕ) (f : ℕ → ℕ) (n c : ℕ) : Type 0 where
+  pub few : n ≤ c
+  pub whole : n + tally (passesAt t f) (last + 1 - c) c ≡ valueCount t last f
 
 bit-small : (b : Bool) → bit b ≤ 1
 bit-small true = omega arith
 bit-small false = omega arith
 
--- a turn of a count, by the answer b of its test
-tally-turn : (t : ℕ → Bool) (end c n m whole : ℕ) (b : Bool) → c < end → t c ≡ b → m ≡ n + bit b → n + tally t (end - c) c ≡ whole → m + tally t (end - (c + 1)) (c + 1) ≡ whole
-tally-turn t end c n m whole true h e s w = tally-hit t end c n m whole h e s w
-tally-turn t end c n m whole false h e s w = tally-miss t end c n m whole h e (omega arith) w
+module _ (t : ℕ → Bool) (last : ℕ) (f : ℕ → ℕ) where
+  tallied-start : Tallied t last f 0 2
+  tallied-start = record { few = omega arith; whole = count-start t f last }
+
+  -- a turn, by the answer b of the test
+  tallied-turn : (n m c : ℕ) (b : Bool) → c < last + 1 → t (f c) ≡ b → m ≡ n + bit b → Tallied t last f n c → Tallied t last f m (c + 1)
+  unfolding passesAt
+  tallied-turn n m c b h e s p = record { few = omega (arith, p .few, bit-small b); whole = go b e s }
+    where
+      go : (b : Bool) → passesAt t f c ≡ b → m ≡ n + bit b → m + tally (passesAt t f) (last + 1 - (c + 1)) (c + 1) ≡ valueCount t last f
+      go true x y = tally-hit (passesAt t f) (last + 1) c n m (valueCount t last f) h x y (p .whole)
+      go false x y = tally-miss (passesAt t f) (last + 1) c n m (valueCount t last f) h x (omega arith) (p .whole)
+
+  tallied-end : (n c : ℕ) → last + 1 ≤ c → Tallied t last f n c → n ≡ valueCount t last f
+  tallied-end n c h p = tally-end (passesAt t f) (last + 1) c n (valueCount t last f) h (p .whole)
+
+-- where the loop stands at cluster c: what it has counted, and that each cluster before has a value
+pub record Met (last : ℕ) (l : List ℕ) (after free bad reserved c : ℕ) : Type 0 where
+  pub from : 2 ≤ c
+  pub free-are : Tallied freeb last (tableOf last l) free c
+  pub bad-are : Tallied badb last (tableOf last l) bad c
+  pub reserved-are : Tallied reservedb last (tableOf last l) reserved c
+  pub valued : lowest (noValue last (tableOf last l)) c (after - c) ≡ lowest (noValue last (tableOf last l)) 2 (last - 1)
+
+pub met-start : (last : ℕ) (l : List ℕ) → Met last l (last + 1) 0 0 0 2
+met-start last l = record {
+  from = omega arith;
+  free-are = tallied-start freeb last (tableOf last l);
+  bad-are = tallied-start badb last (tableOf last l);
+  reserved-are = tallied-start reservedb last (tableOf last l);
+  valued = lowest-start (noValue last (tableOf last l)) last;
+}
+
+-- what a meaning says of the tests
+abbrev isFree : Meaning → Bool
+isFree Free = true
+isFree (Next n) = false
+isFree Bad = false
+isFree Reserved = false
+isFree End = false
+isFree NoneOfThese = false
+
+abbrev isBad : Meaning → Bool
+isBad Free = false
+isBad (Next n) = false
+isBad Bad = true
+isBad Reserved = false
+isBad End = false
+isBad NoneOfThese = false
+
+abbrev isReserved : Meaning → Bool
+isReserved Free = false
+isReserved (Next n) = false
+isReserved Bad = false
+isReserved Reserved = true
+isReserved End = false
+isReserved NoneOfThese = false
+
+abbrev isNone : Meaning → Bool
+isNone Free = false
+isNone (Next n) = false
+isNone Bad = false
+isNone Reserved = false
+isNone End = false
+isNone NoneOfThese = true
+
+module _ (last v : ℕ) (low : last ≤ 4079) where
+  free-said : (m : Meaning) → values.Values m last v → freeb v ≡ isFree m
+  free-said Free x = eq-eqb v 0 x
+  free-said (Next n) x = ne-eqb v 0 (omega arith)
+  free-said Bad x = ne-eqb v 0 (omega arith)
+  free-said Reserved x = ne-eqb v 0 (omega arith)
+  free-said End x = ne-eqb v 0 (omega arith)
+  free-said NoneOfThese x = ne-eqb v 0 (x .0)
+
+  bad-said : (m : Meaning) → values.Values m last v → badb v ≡ isBad m
+  bad-said Free x = false-says (says-bad v) (λ y. omega arith)
+  bad-said (Next n) x = false-says (says-bad v) (λ y. omega arith)
+  bad-said Bad x = true-says (says-bad v) x
+  bad-said Reserved x = false-says (says-bad v) (λ y. omega arith)
+  bad-said End x = false-says (says-bad v) (λ y. omega arith)
+  bad-said NoneOfThese x = false-says (says-bad v) (x .2)
+
+  reserved-said : (m : Meaning) → values.Values m last v → reservedb v ≡ isReserved m
+  reserved-said Free x = false-says (says-reserved v) (λ y. omega arith)
+  reserved-said (Next n) x = false-says (says-reserved v) (λ y. omega arith)
+  reserved-said Bad x = false-says (says-reserved v) (λ y. omega arith)
+  reserved-said Reserved x = true-says (says-reserved v) x
+  reserved-said End x = false-says (says-reserved v) (λ y. omega arith)
+  reserved-said NoneOfThese x = false-says (says-reserved v) (x .3)
+
+  none-said : (m : Meaning) → values.Values m last v → not (freeb v || (linkb last v || (endb v || (badb v || reservedb v)))) ≡ isNone m
+  none-said Free x = false-says (says-not (says-valid last v)) (λ n. n (free x))
+  none-said (Next n) x = false-says (says-not (says-valid last v)) (λ n. n (used (inl (x .0))))
+  none-said Bad x = false-says (says-not (says-valid last v)) (λ n. n (bad x))
+  none-said Reserved x = false-says (says-not (says-valid last v)) (λ n. n (reserved x))
+  none-said End x = false-says (says-not (says-valid last v)) (λ n. n (used (inr x)))
+  none-said NoneOfThese x = true-says (says-not (says-valid last v)) no-value
+    where
+      no-value : ¬ Valid last v
+      no-value (free e) = x .0 e
+      no-value (used (inl u)) = x .1 u
+      no-value (used (inr u)) = x .4 u
+      no-value (bad u) = x .2 u
+      no-value (reserved u) = x .3 u
 
 -- one turn: v is the entry that was read, m what it means. (fit is what the code knows of the slice's elements.)
-module _ (last : ℕ) (l : List ℕ) (free aside c v : ℕ) (m : Meaning) (fit : (i : ℕ) → Fits w8 (getD l i 0)) (low : last ≤ 4079) (inv : Met last l (last + 1) free aside c) (h : c < last + 1) (r : v ≡ entryOf l c) (e : m ≡ meaningOf last v) where
+module _ (last : ℕ) (l : List ℕ) (free bad reserved c v : ℕ) (m : Meaning) (fit : (i : ℕ) → Fits w8 (getD l i 0)) (low : last ≤ 4079) (inv : Met last l (last + 1) free bad reserved c) (h : c < last + 1) (r : v ≡ entryOf l c) (e : m ≡ meaningOf last v) where
   abbrev f : ℕ → ℕ
   f = tableOf last l
 
@@ -224,45 +261,45 @@ module _ (last : ℕ) (l : List ℕ) (free aside c v : ℕ) (m : Meaning) (fit :
   fits : values.Values m last v
   fits = meaning-is last v low (rw r (entry-small 512 l c bytes)) m .0 e
 
-  bad : badValue last f c ≡ isBad m
-  unfolding badValue
-  bad = rw (sym value) (bad-said last v low m fits)
+  none : noValue last f c ≡ isNone m
+  unfolding noValue
+  none = rw (sym value) (none-said last v low m fits)
 
-  turn : (free′ aside′ : ℕ) → isBad m ≡ false → free′ ≡ free + bit (isFree m) → aside′ ≡ aside + bit (isAside m) → Met last l (last + 1) free′ aside′ (c + 1)
-  unfolding freeAt asideAt
-  turn free′ aside′ g x y = record {
+  turn : (free′ bad′ reserved′ : ℕ) → isNone m ≡ false → free′ ≡ free + bit (isFree m) → bad′ ≡ bad + bit (isBad m) → reserved′ ≡ reserved + bit (isReserved m)
+      → Met last l (last + 1) free′ bad′ reserved′ (c + 1)
+  turn free′ bad′ reserved′ g x y z = record {
     from = omega (arith, inv .from);
-    free-few = omega (arith, inv .free-few, bit-small (isFree m));
-    aside-few = omega (arith, inv .aside-few, bit-small (isAside m));
-    free-is = tally-turn (freeAt f) (last + 1) c free free′ (freeCount last f) (isFree m) h (rw (sym value) (free-said last v low m fits)) x (inv .free-is);
-    aside-is = tally-turn (asideAt f) (last + 1) c aside aside′ (asideCount last f) (isAside m) h (rw (sym value) (aside-said last v low m fits)) y (inv .aside-is);
-    bad-is = lowest-miss (badValue last f) c (last + 1) (lowest (badValue last f) 2 (last - 1)) (inv .bad-is) h (isBad m) (sym bad) g;
+    free-are = tallied-turn freeb last f free free′ c (isFree m) h (rw (sym value) (free-said last v low m fits)) x (inv .free-are);
+    bad-are = tallied-turn badb last f bad bad′ c (isBad m) h (rw (sym value) (bad-said last v low m fits)) y (inv .bad-are);
+    reserved-are = tallied-turn reservedb last f reserved reserved′ c (isReserved m) h (rw (sym value) (reserved-said last v low m fits)) z (inv .reserved-are);
+    valued = lowest-miss (noValue last f) c (last + 1) (lowest (noValue last f) 2 (last - 1)) (inv .valued) h (isNone m) (sym none) g;
   }
 
-  module _ (free′ aside′ : ℕ) where
-    pub met-free : m ≡ Free → free′ ≡ free + 1 → aside′ ≡ aside → Met last l (last + 1) free′ aside′ (c + 1)
-    met-free g x y = turn free′ aside′ (rw g) (rw g x) (rw g (omega arith))
+  module _ (free′ bad′ reserved′ : ℕ) where
+    pub met-free : m ≡ Free → free′ ≡ free + 1 → bad′ ≡ bad → reserved′ ≡ reserved → Met last l (last + 1) free′ bad′ reserved′ (c + 1)
+    met-free g x y z = turn free′ bad′ reserved′ (rw g) (rw g x) (rw g (omega arith)) (rw g (omega arith))
 
-    pub met-aside : m ≡ Aside → free′ ≡ free → aside′ ≡ aside + 1 → Met last l (last + 1) free′ aside′ (c + 1)
-    met-aside g x y = turn free′ aside′ (rw g) (rw g (omega arith)) (rw g y)
+    pub met-bad : m ≡ Bad → free′ ≡ free → bad′ ≡ bad + 1 → reserved′ ≡ reserved → Met last l (last + 1) free′ bad′ reserved′ (c + 1)
+    met-bad g x y z = turn free′ bad′ reserved′ (rw g) (rw g (omega arith)) (rw g y) (rw g (omega arith))
 
-    pub met-next : (n : ℕ) → m ≡ Next n → free′ ≡ free → aside′ ≡ aside → Met last l (last + 1) free′ aside′ (c + 1)
-    met-next n g x y = turn free′ aside′ (rw g) (rw g (omega arith)) (rw g (omega arith))
+    pub met-reserved : m ≡ Reserved → free′ ≡ free → bad′ ≡ bad → reserved′ ≡ reserved + 1 → Met last l (last + 1) free′ bad′ reserved′ (c + 1)
+    met-reserved g x y z = turn free′ bad′ reserved′ (rw g) (rw g (omega arith)) (rw g (omega arith)) (rw g z)
 
-    pub met-end : m ≡ End → free′ ≡ free → aside′ ≡ aside → Met last l (last + 1) free′ aside′ (c + 1)
-    met-end g x y = turn free′ aside′ (rw g) (rw g (omega arith)) (rw g (omega arith))
+    pub met-next : (n : ℕ) → m ≡ Next n → free′ ≡ free → bad′ ≡ bad → reserved′ ≡ reserved → Met last l (last + 1) free′ bad′ reserved′ (c + 1)
+    met-next n g x y z = turn free′ bad′ reserved′ (rw g) (rw g (omega arith)) (rw g (omega arith)) (rw g (omega arith))
 
-  pub met-bad : m ≡ NoneOfThese → BadValue c ≡ censusOf last l
+    pub met-end : m ≡ End → free′ ≡ free → bad′ ≡ bad → reserved′ ≡ reserved → Met last l (last + 1) free′ bad′ reserved′ (c + 1)
+    met-end g x y z = turn free′ bad′ reserved′ (rw g) (rw g (omega arith)) (rw g (omega arith)) (rw g (omega arith))
+
+  pub met-none : m ≡ NoneOfThese → NoValue c ≡ censusOf last l
   unfolding censusOf
-  met-bad g = ap (λ o. censusBy o (freeCount last f) (asideCount last f))
-      (lowest-hit (badValue last f) c (last + 1) (lowest (badValue last f) 2 (last - 1)) (inv .bad-is) h (isBad m) (sym bad) (rw g))
+  met-none g = ap (λ o. censusBy o (valueCount freeb last f) (valueCount badb last f) (valueCount reservedb last f))
+      (lowest-hit (noValue last f) c (last + 1) (lowest (noValue last f) 2 (last - 1)) (inv .valued) h (isNone m) (sym none) (rw g))
 
-pub met-all : (last : ℕ) (l : List ℕ) (n m c : ℕ) → Met last l (last + 1) n m c → last + 1 ≤ c → Values n m ≡ censusOf last l
+pub met-all : (last : ℕ) (l : List ℕ) (a b d c : ℕ) → Met last l (last + 1) a b d c → last + 1 ≤ c → Values a b d ≡ censusOf last l
 unfolding censusOf
-met-all last l n m c inv h =
+met-all last l a b d c inv h =
     let f : ℕ → ℕ = tableOf last l in
-    let none-bad : Nothing ≡ lowest (badValue last f) 2 (last - 1)
-    = lowest-done (badValue last f) c (last + 1) (lowest (badValue last f) 2 (last - 1)) (inv .bad-is) h in
-    let frees : n ≡ freeCount last f = tally-end (freeAt f) (last + 1) c n (freeCount last f) h (inv .free-is) in
-    let asides : m ≡ asideCount last f = tally-end (asideAt f) (last + 1) c m (asideCount last f) h (inv .aside-is) in
-    rw (sym none-bad, frees, asides)
+    let all-valued : Nothing ≡ lowest (noValue last f) 2 (last - 1)
+    = lowest-done (noValue last f) c (last + 1) (lowest (noValue last f) 2 (last - 1)) (inv .valued) h in
+    rw (sym all-valued, tallied-end freeb last f a c h (inv .free-are), tallied-end badb last f b c h (inv .bad-are), tallied-end reservedb last f d c h (inv .reserved-are))

@@ -7,7 +7,7 @@ use mathlib.Core.Path.{_≡_, refl, sym, subst}
 use borrow.Author.Tests.{eq-eqb, ne-eqb, lt-ltb, le-ltb, le-leb, lt-leb}
 use Rattle.values.specs.Values.{Values, meaningOf}
 use Rattle.values.specs.declared.Meaning.{Meaning}
-use Rattle.values.specs.declared.Meaning.the-variants.{Free, Next, Aside, End, NoneOfThese}
+use Rattle.values.specs.declared.Meaning.the-variants.{Free, Next, Bad, Reserved, End, NoneOfThese}
 
 module _ (last v : ℕ) where
   -- ---- in the form of the code's needs, test by test
@@ -31,13 +31,18 @@ module _ (last v : ℕ) where
         unfolding meaningOf
         means-end h = rw (ne-eqb v 0 d, le-ltb v 2 f, lt-leb v last g, le-leb 0xFF8 v h)
 
-        pub means-aside : v < 0xFF8 → 0xFF0 ≤ v → Aside ≡ meaningOf last v
-        unfolding meaningOf
-        means-aside k h = rw (ne-eqb v 0 d, le-ltb v 2 f, lt-leb v last g, lt-leb 0xFF8 v k, le-leb 0xFF0 v h)
+        module _ (k : v < 0xFF8) where
+          pub means-bad : v ≡ 0xFF7 → Bad ≡ meaningOf last v
+          unfolding meaningOf
+          means-bad h = rw (ne-eqb v 0 d, le-ltb v 2 f, lt-leb v last g, lt-leb 0xFF8 v k, eq-eqb v 0xFF7 h)
 
-        pub means-between : v < 0xFF8 → v < 0xFF0 → NoneOfThese ≡ meaningOf last v
-        unfolding meaningOf
-        means-between k h = rw (ne-eqb v 0 d, le-ltb v 2 f, lt-leb v last g, lt-leb 0xFF8 v k, lt-leb 0xFF0 v h)
+          pub means-reserved : v ≢ 0xFF7 → 0xFF0 ≤ v → Reserved ≡ meaningOf last v
+          unfolding meaningOf
+          means-reserved b h = rw (ne-eqb v 0 d, le-ltb v 2 f, lt-leb v last g, lt-leb 0xFF8 v k, ne-eqb v 0xFF7 b, le-leb 0xFF0 v h)
+
+          pub means-between : v ≢ 0xFF7 → v < 0xFF0 → NoneOfThese ≡ meaningOf last v
+          unfolding meaningOf
+          means-between b h = rw (ne-eqb v 0 d, le-ltb v 2 f, lt-leb v last g, lt-leb 0xFF8 v k, ne-eqb v 0xFF7 b, lt-leb 0xFF0 v h)
 
   -- ---- what it means
 
@@ -47,14 +52,17 @@ module _ (last v : ℕ) where
     meaning-fits = elim (ℕ-discrete v 0) [
       | yes e ↦ by (means-free e) e
       | no d ↦ elim (decLt v 2) [
-        | yes h ↦ by (means-one d h) (d, (λ p. omega arith), (λ p. omega arith), λ p. omega arith)
+        | yes h ↦ by (means-one d h) (d, (λ p. omega arith), (λ p. omega arith), (λ p. omega arith), λ p. omega arith)
         | no f ↦ elim (decLe v last) [
           | yes h ↦ by (means-next d (omega arith) h) ((omega arith, h), refl)
           | no g ↦ elim (decLe 0xFF8 v) [
             | yes h ↦ by (means-end d (omega arith) (omega arith) h) (h, omega arith)
-            | no k ↦ elim (decLe 0xFF0 v) [
-              | yes h ↦ by (means-aside d (omega arith) (omega arith) (omega arith) h) (h, omega arith)
-              | no h ↦ by (means-between d (omega arith) (omega arith) (omega arith) (omega arith)) (d, (λ p. omega arith), (λ p. omega arith), λ p. omega arith)
+            | no k ↦ elim (ℕ-discrete v 0xFF7) [
+              | yes b ↦ by (means-bad d (omega arith) (omega arith) (omega arith) b) b
+              | no b ↦ elim (decLe 0xFF0 v) [
+                | yes h ↦ by (means-reserved d (omega arith) (omega arith) (omega arith) b h) (h, omega arith)
+                | no h ↦ by (means-between d (omega arith) (omega arith) (omega arith) b (omega arith)) (d, (λ p. omega arith), b, (λ p. omega arith), λ p. omega arith)
+              ]
             ]
           ]
         ]
@@ -68,17 +76,18 @@ module _ (last v : ℕ) where
     pub meaning-only : (m : Meaning) → Values m last v → m ≡ meaningOf last v
     meaning-only Free x = means-free x
     meaning-only (Next n) x = rw (x .1) (means-next (omega arith) (omega arith) (omega arith))
-    meaning-only Aside x = means-aside (omega arith) (omega arith) (omega arith) (omega arith) (omega arith)
+    meaning-only Bad x = means-bad (omega arith) (omega arith) (omega arith) (omega arith) x
+    meaning-only Reserved x = means-reserved (omega arith) (omega arith) (omega arith) (omega arith) (omega arith) (omega arith)
     meaning-only End x = means-end (omega arith) (omega arith) (omega arith) (omega arith)
     meaning-only NoneOfThese x = elim (decLt v 2) [
       | yes h ↦ means-one (x .0) h
       | no f ↦ elim (decLe v last) [
         | yes h ↦ absurd (x .1 (omega arith, h))
         | no g ↦ elim (decLe 0xFF8 v) [
-          | yes h ↦ absurd (x .3 (h, omega arith))
+          | yes h ↦ absurd (x .4 (h, omega arith))
           | no k ↦ elim (decLe 0xFF0 v) [
-            | yes h ↦ absurd (x .2 (h, omega arith))
-            | no h ↦ means-between (x .0) (omega arith) (omega arith) (omega arith) (omega arith)
+            | yes h ↦ absurd (x .3 (h, let b = x .2 in omega arith))
+            | no h ↦ means-between (x .0) (omega arith) (omega arith) (omega arith) (x .2) (omega arith)
           ]
         ]
       ]

@@ -11,7 +11,7 @@ use Rattle.chains.specs.Laws.Values.{says-end, says-link}
 use Rattle.values.specs.Values.{Values, meaningOf}
 use Rattle.values.specs.Laws.Values.{meaning-is}
 use Rattle.values.specs.declared.Meaning.{Meaning}
-use Rattle.values.specs.declared.Meaning.the-variants.{Free, Next, Aside, End, NoneOfThese}
+use Rattle.values.specs.declared.Meaning.the-variants.{Free, Next, Bad, Reserved, End, NoneOfThese}
 use Rattle.table.specs.Entries.{entryOf}
 use Rattle.table.specs.Laws.OneCopy.{entry-small}
 use Rattle.table.specs.Laws.View.{table-inside}
@@ -25,14 +25,16 @@ value-is last l c v bytes from to r = record { is = r ∙ sym (table-inside last
 abbrev pub isEnd : Meaning → Bool
 isEnd Free = false
 isEnd (Next n) = false
-isEnd Aside = false
+isEnd Bad = false
+isEnd Reserved = false
 isEnd End = true
 isEnd NoneOfThese = false
 
 abbrev pub isNext : Meaning → Bool
 isNext Free = false
 isNext (Next n) = true
-isNext Aside = false
+isNext Bad = false
+isNext Reserved = false
 isNext End = false
 isNext NoneOfThese = false
 
@@ -40,14 +42,16 @@ module _ (last v : ℕ) (low : last ≤ 4079) where
   end-by : (m : Meaning) → Values m last v → endb v ≡ isEnd m
   end-by Free x = false-says (says-end v) (λ y. omega arith)
   end-by (Next n) x = false-says (says-end v) (λ y. omega arith)
-  end-by Aside x = false-says (says-end v) (λ y. omega arith)
+  end-by Bad x = false-says (says-end v) (λ y. omega arith)
+  end-by Reserved x = false-says (says-end v) (λ y. omega arith)
   end-by End x = true-says (says-end v) x
-  end-by NoneOfThese x = false-says (says-end v) (x .3)
+  end-by NoneOfThese x = false-says (says-end v) (x .4)
 
   link-by : (m : Meaning) → Values m last v → linkb last v ≡ isNext m
   link-by Free x = false-says (says-link last v) (λ y. omega arith)
   link-by (Next n) x = true-says (says-link last v) (x .0)
-  link-by Aside x = false-says (says-link last v) (λ y. omega arith)
+  link-by Bad x = false-says (says-link last v) (λ y. omega arith)
+  link-by Reserved x = false-says (says-link last v) (λ y. omega arith)
   link-by End x = false-says (says-link last v) (λ y. omega arith)
   link-by NoneOfThese x = false-says (says-link last v) (x .1)
 

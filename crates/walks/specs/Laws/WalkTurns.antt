@@ -20,7 +20,7 @@ use Rattle.chains.specs.Laws.Tests.{says-false}
 use Rattle.chains.specs.Laws.Values.{says-end, says-link}
 use Rattle.values.specs.Values.{Values, meaningOf}
 use Rattle.values.specs.declared.Meaning.{Meaning}
-use Rattle.values.specs.declared.Meaning.the-variants.{Free, Next, Aside, End, NoneOfThese}
+use Rattle.values.specs.declared.Meaning.the-variants.{Free, Next, Bad, Reserved, End, NoneOfThese}
 use Rattle.table.specs.Entries.{tableOf}
 use Rattle.walks.specs.Aids.Walks.{ValueIs, Tails, Walked, Walking}
 use Rattle.walks.specs.Laws.Meanings.{isEnd, isNext, meaning-says, end-said, link-said}
@@ -166,11 +166,14 @@ module _ (last : ℕ) (l : List ℕ) (start : ℕ) (m₀ m t : List ℕ) (n c : 
     pub walk-free : g ≡ Free → Walked last f start m₀ t Endless m′
     walk-free x = broken (ap isEnd x) (ap isNext x)
 
-    pub walk-aside : g ≡ Aside → Walked last f start m₀ t Endless m′
-    walk-aside x = broken (ap isEnd x) (ap isNext x)
-
-    pub walk-bad : g ≡ NoneOfThese → Walked last f start m₀ t Endless m′
+    pub walk-bad : g ≡ Bad → Walked last f start m₀ t Endless m′
     walk-bad x = broken (ap isEnd x) (ap isNext x)
+
+    pub walk-reserved : g ≡ Reserved → Walked last f start m₀ t Endless m′
+    walk-reserved x = broken (ap isEnd x) (ap isNext x)
+
+    pub walk-no-value : g ≡ NoneOfThese → Walked last f start m₀ t Endless m′
+    walk-no-value x = broken (ap isEnd x) (ap isNext x)
 
     -- ---- the value that was read is the next cluster
 

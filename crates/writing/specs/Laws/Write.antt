@@ -39,7 +39,7 @@ writes-only x y =
 
 module _ (img : List ℕ) (k : Kind) (v : OnVolume img k) (slot : ℕ) (i : IsFile k img slot) (own free : ℕ) (eo : own ≡ length (fileChain k img slot)) (ef : free ≡ freeOf k img) where
   pub clusters-fit : own + free < 18446744073709551616
-  clusters-fit = omega (arith, room-clusters img k v slot i, on-usable img k v .below-aside)
+  clusters-fit = omega (arith, room-clusters img k v slot i, on-usable img k v .below-reserved)
 
   pub room-fits-word : (cb : ℕ) → cb ≡ clusterBytes k → (own + free) * cb < 18446744073709551616
   room-fits-word cb ec = rw (eo, ef, ec) (omega (arith, room-fits img k v slot i))

@@ -1,5 +1,5 @@
 -- The mark and the meaning of the value decide.
-use Rattle.chaincheck.specs.Laws.MarkTurns.{met-before, lost-free, lost-next, lost-aside, lost-end, lost-bad}
+use Rattle.chaincheck.specs.Laws.MarkTurns.{met-before, lost-free, lost-next, lost-bad, lost-reserved, lost-end, lost-no-value}
 use borrow.Author.Needs.{needs}
 use Rattle.chaincheck.proofs.marks.is_lost.Statement.{statement}
 use Rattle.chaincheck.proofs.marks.is_lost.Tie as tie
@@ -31,6 +31,9 @@ enum-told-4 c = search needs
 enum-told-5 : tie.Need-enum-told-5
 enum-told-5 c = search needs
 
+enum-told-6 : tie.Need-enum-told-6
+enum-told-6 c = search needs
+
 returns-2 : tie.Need-returns-2
 returns-2 c = search lost-free
 
@@ -38,13 +41,16 @@ returns-3 : tie.Need-returns-3
 returns-3 c = search lost-next
 
 returns-4 : tie.Need-returns-4
-returns-4 c = search lost-aside
+returns-4 c = search lost-bad
 
 returns-5 : tie.Need-returns-5
-returns-5 c = search lost-end
+returns-5 c = search lost-reserved
 
 returns-6 : tie.Need-returns-6
-returns-6 c = search lost-bad
+returns-6 c = search lost-end
+
+returns-7 : tie.Need-returns-7
+returns-7 c = search lost-no-value
 
 pub is-lost-spec : {M : Type 1} → statement M
 is-lost-spec =
@@ -59,8 +65,10 @@ is-lost-spec =
     enum-told-3
     enum-told-4
     enum-told-5
+    enum-told-6
     returns-2
     returns-3
     returns-4
     returns-5
-    returns-6)
+    returns-6
+    returns-7)

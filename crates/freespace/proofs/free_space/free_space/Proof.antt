@@ -13,8 +13,8 @@ enum-known-k c = search needs
 check-requires : tie.Need-check-requires
 check-requires c κs = search needs
 
-enum-known-free : tie.Need-enum-known-free
-enum-known-free c = search needs
+enum-known-counts : tie.Need-enum-known-counts
+enum-known-counts c = search needs
 
 space-with-requires : tie.Need-space-with-requires
 space-with-requires c κs = search kind-usable
@@ -47,7 +47,7 @@ free-space-spec =
     kind-of-image-requires
     enum-known-k
     check-requires
-    enum-known-free
+    enum-known-counts
     space-with-requires
     enum-told
     without-space-requires
