@@ -26,15 +26,8 @@ fn tell_verdict(v: Verdict, out: &mut [u8]) -> u64
     ensures { λ r. ⌜ TellsVerdict v (now (out .entry)) r (now (out .exit)) ⌝ }
 {
     match v {
-        Verdict::Sound(counts) => {
-            put::five_words(
-                out,
-                counts.files,
-                counts.free,
-                counts.held,
-                counts.bad,
-                counts.reserved,
-            );
+        Verdict::Sound(n) => {
+            put::five_words(out, n.files, n.free, n.held, n.bad, n.reserved);
             packing::answer::pack(0, 0)
         }
         Verdict::Finding(number, place) => {

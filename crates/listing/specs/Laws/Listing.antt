@@ -57,10 +57,11 @@ module _ (l : List ℕ) (k : Kind) (a : AreaOf l k) where
     pub root-within : root + 32 * count ≤ length l
     root-within = omega (arith, a .long)
 
-    module _ (all : ℕ) (n : Counts) (clusters-are : all ≡ clusters k) (o : List ℕ) (first : ℕ) (m : List ℕ) (p : PutsIn soundRoom (head all n) o 0 first m) where
-      pub files-fit : listingRoom ≤ length o → first + fileRoom * count ≤ length m
-      files-fit h = omega (arith, p .room, few-slots, ap length (p .puts .stores) ∙ length-stored o 0 (head all n))
+    -- s are the lines before those of the files
+    pub files-fit : (s o : List ℕ) (first : ℕ) (m : List ℕ) → PutsIn soundRoom s o 0 first m → listingRoom ≤ length o → first + fileRoom * count ≤ length m
+    files-fit s o first m p h = omega (arith, p .room, few-slots, ap length (p .puts .stores) ∙ length-stored o 0 s)
 
+    module _ (all : ℕ) (n : Counts) (clusters-are : all ≡ clusters k) (o : List ℕ) (first : ℕ) (m : List ℕ) (p : PutsIn soundRoom (head all n) o 0 first m) where
       pub puts-sound : (r : ℕ) (e : List ℕ) → PutsIn (fileRoom * count) (filesText l (slotFrom root) 0 count) m first r e → PutsIn listingRoom (volumeText k l (Sound n)) o 0 r e
       unfolding volumeText
       puts-sound r e q =
