@@ -3,13 +3,13 @@ use Prim.Native.Nat.{ℕ, _+_, _<_}
 use mathlib.Core.List.{List}
 use mathlib.Core.Path.{_≡_}
 use lib.ListN.{getD, replicate}
-use Rattle.fields.specs.Fields.{nameOf, attrOf, reservedOf, timeOf, dateOf, startOf, sizeOf}
+use Rattle.fields.specs.Fields.{nameOf, attrOf, reservedBytes, timeOf, dateOf, startOf, sizeOf}
 
 -- the fields of a fresh entry: name, attribute, zero reserved bytes, time, date, start, size
 pub record HasFields (l : List ℕ) (a : ℕ) (n : List ℕ) (v t d s z : ℕ) : Type 0 where
   pub name : nameOf l a ≡ n
   pub attr : attrOf l a ≡ v
-  pub reserved : reservedOf l a ≡ replicate 10 0
+  pub reserved : reservedBytes l a ≡ replicate 10 0
   pub time : timeOf l a ≡ t
   pub date : dateOf l a ≡ d
   pub start : startOf l a ≡ s

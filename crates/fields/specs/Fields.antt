@@ -15,8 +15,8 @@ abbrev pub attrOf : List ℕ → ℕ → ℕ
 attrOf l a = getD l (a + 11) 0
 
 -- reserved 12-21
-abbrev pub reservedOf : List ℕ → ℕ → List ℕ
-reservedOf l a = part l (a + 12) 10
+abbrev pub reservedBytes : List ℕ → ℕ → List ℕ
+reservedBytes l a = part l (a + 12) 10
 
 -- time 22
 abbrev pub timeOf : List ℕ → ℕ → ℕ
