@@ -29,7 +29,7 @@ extern "C" {
 #endif
 
 /* The version of header and archive, also in the file VERSION. */
-#define BM_VERSION "1.1.0"
+#define BM_VERSION "2.0.0"
 
 /* The two halves of an answer. */
 #define BM_NUMBER(answer) ((uint32_t)((uint64_t)(answer) >> 32))
@@ -62,9 +62,17 @@ extern "C" {
 #define BM_SLOTS_MOST 112u
 
 /* Bytes that each call puts into `out`. */
-#define BM_COUNTS_SIZE 16u /* bm_check, bm_check_system */
+#define BM_COUNTS_SIZE 20u /* bm_check, bm_check_system */
 #define BM_SPACE_SIZE 16u  /* bm_free_space */
 #define BM_ENTRY_SIZE 22u  /* bm_entry */
+
+/* Where bm_check and bm_check_system put each count in `out`, as 4 bytes, low byte first. All but the first count
+ * clusters, and these four add up to all clusters of the volume. */
+#define BM_COUNTS_FILES 0u     /* files */
+#define BM_COUNTS_FREE 4u      /* free */
+#define BM_COUNTS_HELD 8u      /* held by files */
+#define BM_COUNTS_BAD 12u      /* bad: the table has FF7 */
+#define BM_COUNTS_RESERVED 16u /* reserved: the table has FF0 to FF6 */
 
 /* Where bm_entry puts each field in `out`. All numbers are low byte first. */
 #define BM_ENTRY_NAME 0u       /* 11 bytes: name 8, extension 3, padded by spaces */
@@ -142,7 +150,8 @@ uint64_t bm_format(uint8_t *image, size_t image_length, uint32_t kind);
  *   6  a cluster in two files                                            cluster
  *   7  a cluster in use that is in no file                               cluster
  *
- * out: if sound, 16 bytes: files, free clusters, clusters held by files, clusters set aside.
+ * out: if sound, 20 bytes: files, free clusters, clusters held by files, bad clusters, reserved clusters. Where a
+ * cluster is bad, the disk is worn. No call puts a file's bytes into a bad or reserved cluster.
  * It never refuses. The image is only read. */
 uint64_t bm_check(const uint8_t *image, size_t image_length, uint8_t *out, size_t out_length);
 

@@ -59,12 +59,15 @@ static inline uint32_t bm_number_4(const uint8_t *at)
 
 /* What bm_check and bm_check_system put there for a sound volume. */
 struct bm_counts {
-    uint32_t files, free, held, aside; /* files, then clusters: free, held by files, set aside */
+    uint32_t files;                     /* how many files */
+    uint32_t free, held, bad, reserved; /* and how many clusters: free, held by files, bad, reserved */
 };
 
 static inline struct bm_counts bm_counts_of(const uint8_t *out)
 {
-    struct bm_counts counts = {bm_number_4(out), bm_number_4(out + 4), bm_number_4(out + 8), bm_number_4(out + 12)};
+    struct bm_counts counts = {bm_number_4(out + BM_COUNTS_FILES), bm_number_4(out + BM_COUNTS_FREE),
+                               bm_number_4(out + BM_COUNTS_HELD), bm_number_4(out + BM_COUNTS_BAD),
+                               bm_number_4(out + BM_COUNTS_RESERVED)};
     return counts;
 }
 

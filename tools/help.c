@@ -46,11 +46,14 @@ const struct help help_format = {
 const struct help help_check = {
     "[--json] IMAGE",
     "Says whether the disk is sound, with how many files it has and how many\n"
-    "clusters are free, held by files and set aside; or what is wrong and where,\n"
+    "clusters are free, held by files, bad and reserved; or what is wrong and where,\n"
     "with exit status 4. Status 1 is for an image that can't be read.\n"
     "\n"
+    "Bad: the disk is worn there. Reserved: kept from files, which says nothing of\n"
+    "wear. A disk with such clusters can be sound: no file has them or gets them.\n"
+    "\n"
     "--json prints one object instead. Of a sound disk:\n"
-    "  {\"sound\":true,\"files\":N,\"free\":N,\"held\":N,\"aside\":N}\n"
+    "  {\"sound\":true,\"files\":N,\"free\":N,\"held\":N,\"bad\":N,\"reserved\":N}\n"
     "and else, with the number and place of the finding, the names of the files that\n"
     "it is about (finding 4 and 5: one, 6: two) and how many clusters are in use but\n"
     "in no file:\n"
@@ -60,9 +63,10 @@ const struct help help_check = {
 const struct help help_list = {
     "[--names|--json] IMAGE [PATTERN]",
     "Lists the files with size, date, time and the marks R read-only, H hidden, S\n"
-    "system and A archive. Of a disk that is not sound it lists them too, and ends\n"
-    "with status 1. Other systems' directories come as <DIR>, a part of one of their\n"
-    "long names as (long name).\n"
+    "system and A archive, and below them the free bytes, then those of bad and those\n"
+    "of reserved clusters, if there are any. Of a disk that is not sound it lists the\n"
+    "files alone, and ends with status 1. Other systems' directories come as <DIR>, a\n"
+    "part of one of their long names as (long name).\n"
     "\n"
     "With a PATTERN only the files that match are listed, and counted below. If there\n"
     "is none, nothing is printed, and the status is 1.\n"
@@ -70,10 +74,11 @@ const struct help help_list = {
     PATTERNS
     "\n"
     "--names prints the names of files alone, one a line, as get takes them.\n"
-    "--json prints one object; free is in bytes, null of a disk that is not sound,\n"
-    "and label, date and time are null where there is none:\n"
-    "  {\"sound\":true,\"label\":\"TEXT\",\"free\":N,\"files\":[{\"name\":\"NAME\",\n"
-    "   \"directory\":false,\"size\":N,\"date\":\"YYYY-MM-DD\",\"time\":\"HH:MM:SS\",\n"
+    "--json prints one object; free, bad and reserved are in bytes, null of a disk\n"
+    "that is not sound, and label, date and time are null where there is none:\n"
+    "  {\"sound\":true,\"label\":\"TEXT\",\"free\":N,\"bad\":N,\"reserved\":N,\n"
+    "   \"files\":[{\"name\":\"NAME\",\"directory\":false,\"size\":N,\n"
+    "   \"date\":\"YYYY-MM-DD\",\"time\":\"HH:MM:SS\",\n"
     "   \"read_only\":false,\"hidden\":false,\"system\":false,\"archive\":true}]}\n"
     "In a name ? stands for a byte that is no sign of ASCII.\n",
 };
@@ -81,10 +86,10 @@ const struct help help_list = {
 const struct help help_map = {
     "IMAGE",
     "Shows a sign for each cluster, 64 to a line with the number of the first: a\n"
-    "letter for each file in the order of list (a to z, A to Z, + for all others),\n"
-    ". free, x bad or set aside, * in two files or more, ? in use but in no file.\n"
-    "Names and sizes stand below. Of a chain that is broken it shows what can be\n"
-    "reached from its start.\n",
+    "letter for each file in the order of list (a to z without r and x, A to Z, + for\n"
+    "all others), . free, x bad, r reserved, * in two files or more, ? in use but in\n"
+    "no file. Names and sizes stand below. Of a chain that is broken it shows what\n"
+    "can be reached from its start.\n",
 };
 
 const struct help help_free = {

@@ -44,8 +44,9 @@ static void print_finding(const struct bytes *image, uint64_t checked)
 void print_check_json(const struct bytes *image, uint64_t checked, struct bm_counts counts)
 {
     if (BM_NUMBER(checked) == 0)
-        printf("{\"sound\":true,\"files\":%u,\"free\":%u,\"held\":%u,\"aside\":%u}\n", (unsigned)counts.files,
-               (unsigned)counts.free, (unsigned)counts.held, (unsigned)counts.aside);
+        printf("{\"sound\":true,\"files\":%u,\"free\":%u,\"held\":%u,\"bad\":%u,\"reserved\":%u}\n",
+               (unsigned)counts.files, (unsigned)counts.free, (unsigned)counts.held, (unsigned)counts.bad,
+               (unsigned)counts.reserved);
     else
         print_finding(image, checked);
 }
@@ -112,16 +113,16 @@ static void print_files(const struct bytes *image, const char *pattern)
 
 uint32_t print_list_json(const struct bytes *image, const char *pattern)
 {
-    uint8_t out[BM_SPACE_SIZE];
-    uint32_t number = BM_NUMBER(bm_free_space(IMAGE, out, sizeof out));
+    struct room room;
+    uint32_t number = find_room(image, &room);
     if (number == BM_NOT_OF_A_KIND)
         return number;
     printf("{\"sound\":%s,\"label\":", bool_word(number == 0));
     print_label(image);
     if (number == 0)
-        printf(",\"free\":%lu", free_bytes(bm_space_of(out)));
+        printf(",\"free\":%lu,\"bad\":%lu,\"reserved\":%lu", room.free, room.bad, room.reserved);
     else
-        printf(",\"free\":null");
+        printf(",\"free\":null,\"bad\":null,\"reserved\":null");
     printf(",\"files\":[");
     print_files(image, pattern);
     printf("]}\n");

@@ -10,7 +10,8 @@
 /* The first cluster; the signs in a line. */
 enum { FIRST = 2, LINE = 64 };
 
-static const char letters[] = "abcdefghijklmnopqrstuvwxyzABCDEFGHIJKLMNOPQRSTUVWXYZ";
+/* The files' letters. r and x are not among them: they are signs of clusters that no file holds. */
+static const char letters[] = "abcdefghijklmnopqstuvwyzABCDEFGHIJKLMNOPQRSTUVWXYZ";
 
 enum { LETTERS = sizeof letters - 1 };
 
@@ -19,7 +20,8 @@ static const struct {
     const char *what;
 } signs[] = {
     {'.', "free"},
-    {'x', "bad, or set aside"},
+    {'x', "bad"},
+    {'r', "reserved"},
     {'*', "in two files or more"},
     {'?', "in use, but in no file"},
 };
@@ -39,9 +41,16 @@ static char sign_of(const struct bytes *image, uint32_t cluster, uint32_t value)
     uint32_t holder = BM_VALUE(member_holder(IMAGE, cluster, 0));
     if (holder != 0)
         return BM_VALUE(member_holder(IMAGE, cluster, holder)) != 0 ? '*' : letter_of(image, holder - 1);
-    if (value == MEMBER_FREE)
+    switch (value) {
+    case MEMBER_FREE:
         return '.';
-    return value == MEMBER_ASIDE ? 'x' : '?';
+    case MEMBER_BAD:
+        return 'x';
+    case MEMBER_RESERVED:
+        return 'r';
+    default:
+        return '?';
+    }
 }
 
 /* Prints the clusters, and counts each sign. */

@@ -22,10 +22,11 @@ uint64_t member_slot(const uint8_t *image, size_t image_length, uint32_t slot);
 /* What the table has for a cluster. Clusters count from 2. */
 #define MEMBER_NO_CLUSTER 0u /* nothing: the disk has no such cluster */
 #define MEMBER_FREE 1u
-#define MEMBER_ASIDE 2u
-#define MEMBER_NO_VALUE 3u /* a value that means nothing */
-#define MEMBER_LINK 4u
-#define MEMBER_END 5u
+#define MEMBER_BAD 2u
+#define MEMBER_RESERVED 3u
+#define MEMBER_NO_VALUE 4u /* a value that means nothing */
+#define MEMBER_LINK 5u
+#define MEMBER_END 6u
 
 /* Value: one of these. Refusal: 40 if the image is of no kind. */
 uint64_t member_cluster(const uint8_t *image, size_t image_length, uint32_t cluster);

@@ -16,9 +16,25 @@ void print_text(const char *text)
         putchar(shown(*text));
 }
 
-unsigned long free_bytes(struct bm_space space)
+/* ---- Room ---- */
+
+static unsigned long bytes_of(uint32_t clusters, struct bm_space space)
 {
-    return (unsigned long)space.free * space.cluster_size;
+    return (unsigned long)clusters * space.cluster_size;
+}
+
+uint32_t find_room(const struct bytes *image, struct room *room)
+{
+    uint8_t out[BM_SPACE_SIZE] = {0}, counted[BM_COUNTS_SIZE] = {0};
+    uint64_t answer = bm_free_space(image->at, image->length, out, sizeof out);
+    struct bm_space space = bm_space_of(out);
+    struct bm_counts counts;
+    bm_check(image->at, image->length, counted, sizeof counted);
+    counts = bm_counts_of(counted);
+    room->free = bytes_of(space.free, space);
+    room->bad = bytes_of(counts.bad, space);
+    room->reserved = bytes_of(counts.reserved, space);
+    return BM_NUMBER(answer);
 }
 
 /* ---- The list ---- */
@@ -104,20 +120,28 @@ static void print_files(const struct bytes *image, const char *pattern)
         printf("%9lu file%s%20s bytes\n", files, files == 1 ? " " : "s", digits);
 }
 
+static void print_room(unsigned long bytes, const char *what)
+{
+    char digits[DIGITS_ROOM];
+    group(bytes, digits);
+    printf("%35s bytes %s\n", digits, what);
+}
+
 uint32_t print_list(const char *path, const struct bytes *image, const char *pattern)
 {
-    uint8_t out[BM_SPACE_SIZE];
-    uint64_t answer = bm_free_space(image->at, image->length, out, sizeof out);
-    char digits[DIGITS_ROOM];
-    if (BM_NUMBER(answer) == BM_NOT_OF_A_KIND)
-        return BM_NUMBER(answer);
+    struct room room;
+    uint32_t number = find_room(image, &room);
+    if (number == BM_NOT_OF_A_KIND)
+        return number;
     print_label(path, image);
     print_files(image, pattern);
-    if (BM_NUMBER(answer) == 0) {
-        group(free_bytes(bm_space_of(out)), digits);
-        printf("%35s bytes free\n", digits);
-    }
-    return BM_NUMBER(answer);
+    if (number == 0)
+        print_room(room.free, "free");
+    if (room.bad != 0)
+        print_room(room.bad, "bad");
+    if (room.reserved != 0)
+        print_room(room.reserved, "reserved");
+    return number;
 }
 
 uint32_t print_names(const struct bytes *image, const char *pattern)
@@ -135,13 +159,13 @@ uint32_t print_names(const struct bytes *image, const char *pattern)
 void print_counts(const char *path, struct bm_counts counts)
 {
     print_text(path);
-    printf(": sound; files %u; clusters free %u, held by files %u, set aside %u\n", (unsigned)counts.files,
-           (unsigned)counts.free, (unsigned)counts.held, (unsigned)counts.aside);
+    printf(": sound; files %u; clusters free %u, held by files %u, bad %u, reserved %u\n", (unsigned)counts.files,
+           (unsigned)counts.free, (unsigned)counts.held, (unsigned)counts.bad, (unsigned)counts.reserved);
 }
 
 void print_space(struct bm_space space)
 {
-    printf("%lu bytes free: %u of %u clusters of %u bytes\n", free_bytes(space), (unsigned)space.free,
+    printf("%lu bytes free: %u of %u clusters of %u bytes\n", bytes_of(space.free, space), (unsigned)space.free,
            (unsigned)space.clusters, (unsigned)space.cluster_size);
 }
 

@@ -78,10 +78,14 @@ static void store(void)
 static void look(void)
 {
     struct bm_entry_fields entry;
+    struct bm_counts counts;
     uint32_t slot = 0;
     expect(bm_next_entry(IMAGE, &slot, &entry) && is_text(entry.name, "DAY001.LOG"), "the entry's name");
     expect(entry.size == sizeof line && entry.stamp.step == 29 && bm_has_date(&entry.stamp), "its size and stamp");
-    expect(BM_NUMBER(bm_check(IMAGE, out, sizeof out)) == 0 && bm_counts_of(out).free == 353, "check's counts");
+    expect(BM_NUMBER(bm_check(IMAGE, out, sizeof out)) == 0, "check");
+    counts = bm_counts_of(out);
+    expect(counts.files == 1 && counts.free == 353 && counts.held == 1, "its counts: files, free, held");
+    expect(counts.bad == 0 && counts.reserved == 0, "its counts: bad, reserved");
     expect(BM_NUMBER(bm_free_space(IMAGE, out, sizeof out)) == 0 && bm_space_of(out).cluster_size == 1024, "free space");
     expect(BM_NUMBER(bm_open(IMAGE, TABLE, day, sizeof day, BM_READ)) == 0, "open");
     expect(BM_VALUE(bm_read(IMAGE, TABLE, 0, back, sizeof back)) == sizeof line && back[4] == '0', "read");

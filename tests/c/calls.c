@@ -4,6 +4,7 @@
 int main(void)
 {
     try_volumes();
+    try_worn();
     try_find();
     try_files();
     try_contents();

@@ -38,19 +38,19 @@ int answers(uint64_t answer, uint32_t number, uint32_t value)
     return BM_NUMBER(answer) == number && BM_VALUE(answer) == value;
 }
 
+static int is_word(const uint8_t *at, uint32_t word)
+{
+    return at[0] == (word & 0xFF) && at[1] == (word >> 8 & 0xFF) && at[2] == (word >> 16 & 0xFF) && at[3] == word >> 24;
+}
+
 int has_words(const uint8_t *out, uint32_t a, uint32_t b, uint32_t c, uint32_t d)
 {
-    uint32_t words[4];
-    int n, k;
-    words[0] = a;
-    words[1] = b;
-    words[2] = c;
-    words[3] = d;
-    for (n = 0; n < 4; n++)
-        for (k = 0; k < 4; k++)
-            if (out[4 * n + k] != ((words[n] >> (8 * k)) & 0xFF))
-                return 0;
-    return 1;
+    return is_word(out, a) && is_word(out + 4, b) && is_word(out + 8, c) && is_word(out + 12, d);
+}
+
+int has_counts(const uint8_t *out, uint32_t files, uint32_t unused, uint32_t held, uint32_t bad, uint32_t reserved)
+{
+    return has_words(out, files, unused, held, bad) && is_word(out + 16, reserved);
 }
 
 const struct kind kinds[4] = {

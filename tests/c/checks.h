@@ -26,6 +26,9 @@ int answers(uint64_t answer, uint32_t number, uint32_t value);
 /* Whether out begins with these four words, low byte first. */
 int has_words(const uint8_t *out, uint32_t a, uint32_t b, uint32_t c, uint32_t d);
 
+/* Whether out begins with these five counts of check, as words. */
+int has_counts(const uint8_t *out, uint32_t files, uint32_t unused, uint32_t held, uint32_t bad, uint32_t reserved);
+
 /* ---- The kinds, from the specification's table ---- */
 
 struct kind {
@@ -58,6 +61,7 @@ void lay_out_listing(uint8_t *image);
 /* ---- The tests ---- */
 
 void try_volumes(void);
+void try_worn(void);
 void try_find(void);
 void try_files(void);
 void try_contents(void);

@@ -92,7 +92,8 @@ static void try_counts(const uint8_t *image)
     puts("-- counts and space");
     bm_check(image, BM_IMAGE_SIZE_FE, out, sizeof out);
     counts = bm_counts_of(out);
-    expect(counts.files == 2 && counts.free == 309 && counts.held == 4 && counts.aside == 0, "check's counts");
+    expect(counts.files == 2 && counts.free == 309 && counts.held == 4 && counts.bad == 0 && counts.reserved == 0,
+           "check's counts");
     bm_free_space(image, BM_IMAGE_SIZE_FE, out, sizeof out);
     space = bm_space_of(out);
     expect(space.free == 309 && space.clusters == 313 && space.cluster_size == 512, "free space, clusters of a sector");
@@ -112,12 +113,12 @@ static void try_space_of_fd(void)
 /* Numbers whose bytes all differ. */
 static void try_numbers(void)
 {
-    static const uint8_t bytes[16] = {1, 2, 3, 4, 5, 6, 7, 8, 9, 10, 11, 12, 13, 14, 15, 240};
+    static const uint8_t bytes[20] = {1, 2, 3, 4, 5, 6, 7, 8, 9, 10, 11, 12, 13, 14, 15, 16, 17, 18, 19, 240};
     struct bm_counts counts = bm_counts_of(bytes);
-    expect(bm_number_2(bytes + 14) == 0xF00F && bm_number_4(bytes + 12) == 0xF00F0E0Du, "numbers, low byte first");
+    expect(bm_number_2(bytes + 18) == 0xF013 && bm_number_4(bytes + 16) == 0xF0131211u, "numbers, low byte first");
     expect(counts.files == 0x04030201u && counts.free == 0x08070605u && counts.held == 0x0C0B0A09u &&
-               counts.aside == 0xF00F0E0Du,
-           "four words in their order");
+               counts.bad == 0x100F0E0Du && counts.reserved == 0xF0131211u,
+           "five words in their order");
 }
 
 /* ---- Entries ---- */

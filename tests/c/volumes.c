@@ -9,10 +9,11 @@
 
 static void try_blank_system_area(const struct kind *kind, const uint8_t *image)
 {
-    struct block out = new_block(20);
-    uint64_t answer = bm_check_system(image, kind->system_size, out.bytes, 16);
-    expect(answers(answer, 0, 0) && has_words(out.bytes, 0, kind->clusters, 0, 0), "check_system: the area is sound");
-    expect(guards_stand(&out) && all_are(out.bytes + 16, 4, OLD_BYTE), "check_system: bytes past the counts stay");
+    struct block out = new_block(24);
+    uint64_t answer = bm_check_system(image, kind->system_size, out.bytes, 20);
+    expect(answers(answer, 0, 0) && has_counts(out.bytes, 0, kind->clusters, 0, 0, 0),
+           "check_system: the area is sound");
+    expect(guards_stand(&out) && all_are(out.bytes + 20, 4, OLD_BYTE), "check_system: bytes past the counts stay");
     answer = bm_check_system(image, kind->image_size, NULL, 0);
     expect(answers(answer, 0, 0), "check_system: bytes past the area are ignored");
     answer = bm_check_system(image, kind->system_size - 1, NULL, 0);
@@ -38,7 +39,7 @@ static void try_blank(const struct kind *kind)
 {
     struct block image = new_block(kind->sectors * 512);
     struct block wanted = new_block(kind->sectors * 512);
-    struct block out = new_block(20);
+    struct block out = new_block(24);
     uint64_t answer;
     printf("-- a blank %s\n", kind->name);
     lay_out_blank(kind, wanted.bytes);
@@ -49,13 +50,13 @@ static void try_blank(const struct kind *kind)
     expect(guards_stand(&image), "format: nothing outside the image");
     answer = bm_check(image.bytes, image.length, out.bytes, out.length);
     expect(answers(answer, 0, 0), "check: sound");
-    expect(has_words(out.bytes, 0, kind->clusters, 0, 0), "check: no files, all clusters free");
-    expect(guards_stand(&out) && all_are(out.bytes + 16, 4, OLD_BYTE), "check: bytes past the counts stay");
+    expect(has_counts(out.bytes, 0, kind->clusters, 0, 0, 0), "check: no files, all clusters free");
+    expect(guards_stand(&out) && all_are(out.bytes + 20, 4, OLD_BYTE), "check: bytes past the counts stay");
     memset(out.bytes, OLD_BYTE, out.length);
     answer = bm_free_space(image.bytes, image.length, out.bytes, out.length);
     expect(answers(answer, 0, kind->clusters), "free space: all clusters");
     expect(has_words(out.bytes, kind->clusters, kind->clusters, 512, kind->per_cluster), "free space: four words");
-    expect(guards_stand(&out) && all_are(out.bytes + 16, 4, OLD_BYTE), "free space: bytes past the words stay");
+    expect(guards_stand(&out) && all_are(out.bytes + 16, 8, OLD_BYTE), "free space: bytes past the words stay");
     try_blank_system_area(kind, image.bytes);
     try_blank_entries(kind, image.bytes);
     expect(memcmp(image.bytes, wanted.bytes, image.length) == 0, "only format altered the image");
@@ -95,8 +96,8 @@ static void try_short_out(const uint8_t *image)
 {
     struct block out = new_block(21);
     size_t size = BM_IMAGE_SIZE_FE;
-    expect(answers(bm_check(image, size, out.bytes, 15), 0, 0), "check: the same with a short out");
-    expect(answers(bm_check_system(image, size, out.bytes, 15), 0, 0), "check_system: the same with a short out");
+    expect(answers(bm_check(image, size, out.bytes, 19), 0, 0), "check: the same with a short out");
+    expect(answers(bm_check_system(image, size, out.bytes, 19), 0, 0), "check_system: the same with a short out");
     expect(answers(bm_free_space(image, size, out.bytes, 15), 0, 309), "free space: the same with a short out");
     expect(answers(bm_entry(image, size, 0, out.bytes, 21), 0, 1), "entry: the same with a short out");
     expect(guards_stand(&out) && all_are(out.bytes, 21, OLD_BYTE), "a short out stays as it came");
@@ -143,15 +144,15 @@ static void try_listing_volume(void)
 {
     struct block image = new_block(BM_IMAGE_SIZE_FE);
     struct block before = new_block(BM_IMAGE_SIZE_FE);
-    struct block out = new_block(16);
+    struct block out = new_block(20);
     puts("-- the volume of the listing");
     lay_out_listing(image.bytes);
     memcpy(before.bytes, image.bytes, image.length);
-    expect(answers(bm_check(image.bytes, image.length, out.bytes, 16), 0, 0), "check: sound");
-    expect(has_words(out.bytes, 2, 309, 4, 0), "check: 2 files, 309 free, 4 held, 0 aside");
-    memset(out.bytes, OLD_BYTE, 16);
-    expect(answers(bm_check_system(image.bytes, BM_SYSTEM_SIZE_FE, out.bytes, 16), 0, 0), "check_system: sound");
-    expect(has_words(out.bytes, 2, 309, 4, 0), "check_system: the same counts");
+    expect(answers(bm_check(image.bytes, image.length, out.bytes, 20), 0, 0), "check: sound");
+    expect(has_counts(out.bytes, 2, 309, 4, 0, 0), "check: 2 files, 309 free, 4 held, 0 bad, 0 reserved");
+    memset(out.bytes, OLD_BYTE, 20);
+    expect(answers(bm_check_system(image.bytes, BM_SYSTEM_SIZE_FE, out.bytes, 20), 0, 0), "check_system: sound");
+    expect(has_counts(out.bytes, 2, 309, 4, 0, 0), "check_system: the same counts");
     expect(answers(bm_free_space(image.bytes, image.length, out.bytes, 16), 0, 309), "free space: 309");
     expect(has_words(out.bytes, 309, 313, 512, 1), "free space: 309 of 313 clusters of 1 sector of 512");
     try_entries(image.bytes);
@@ -183,6 +184,9 @@ static const struct change changes[] = {
     {"a directory is finding 4 at slot 1", 4, 1, ROOT + 32 + 11, 0x10, 0},
     {"a size too large is finding 5 at slot 0", 5, 0, ROOT + 29, 0x02, 0},
     {"a chain that ends early is finding 5 at slot 1", 5, 1, ROOT + 32 + 26, 0x04, 0},
+    {"a chain that ends with FF7 is finding 5 at slot 1", 5, 1, COPY_1 + 7, 0x70, 1},
+    {"a chain that ends with FF6 is finding 5 at slot 1", 5, 1, COPY_1 + 7, 0x60, 1},
+    {"a chain that ends with FF0 is finding 5 at slot 1", 5, 1, COPY_1 + 7, 0x00, 1},
     {"an end value in no file is finding 7 at cluster 200", 7, 200, COPY_1 + 300, 0xFF, 1},
 };
 
@@ -251,8 +255,8 @@ static void try_label(void)
     lay_out_listing(image.bytes);
     put_entry(image.bytes + ROOT + 64, "\xE5LD     LOG", 0x20, 0, 9, 9);
     put_entry(image.bytes + ROOT + 96, "SCALE      ", 0x08, 0x3500, 77, 7);
-    expect(answers(bm_check(image.bytes, image.length, out.bytes, 16), 0, 0), "check: sound");
-    expect(has_words(out.bytes, 2, 309, 4, 0), "check: neither counts as a file");
+    expect(answers(bm_check(image.bytes, image.length, out.bytes, 20), 0, 0), "check: sound");
+    expect(has_counts(out.bytes, 2, 309, 4, 0, 0), "check: neither counts as a file");
     expect(answers(bm_entry(image.bytes, image.length, 2, out.bytes, 22), 0, 0), "entry: none for an erased slot");
     expect(answers(bm_entry(image.bytes, image.length, 3, out.bytes, 22), 0, 1), "entry: the label");
     expect(memcmp(out.bytes, label, 22) == 0, "entry: the label as stored");

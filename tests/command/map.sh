@@ -46,7 +46,7 @@ b  DAY001.LOG         512 bytes
 ?  in use, but in no file: 3 clusters
 END
 
-# Clusters 200 and 201: an end, and one that is set aside.
+# Clusters 200 and 201: an end, and one that is bad.
 cp listed.img broken.img
 for copy in 512 1024; do poke broken.img $((copy + 300)) '\xFF\x7F\xFF'; done
 map "finding 7" broken.img <<END
@@ -59,7 +59,7 @@ $(row 258)
 a  TARE.KEY            40 bytes
 b  DAY001.LOG        1025 bytes
 .  free: 307 clusters
-x  bad, or set aside: 1 cluster
+x  bad: 1 cluster
 ?  in use, but in no file: 1 cluster
 END
 
@@ -79,26 +79,38 @@ b  DAY001.LOG        1025 bytes
 ?  in use, but in no file: 1 cluster
 END
 
-echo "-- more files than letters, and clusters of the last line"
+echo "-- more files than letters, which are a to z without r and x, and A to Z; and clusters of the last line"
 cp 160.img many.img
 printf 1 >one
 mkdir -p folder
 names=()
-for n in $(seq 54); do
+for n in $(seq 52); do
   cp one "folder/N$n"
   names+=("folder/N$n")
 done
 balladmoor put many.img . "${names[@]}"
-for n in 1 27 52 53; do balladmoor delete many.img "N$n"; done
+for n in 1 27 50 51; do balladmoor delete many.img "N$n"; done
 balladmoor put many.img LAST one
 # The new file has the first file's slot and cluster; where others were deleted, clusters are free.
+ends 0 "49 files" balladmoor map many.img
+prints "$(row 2 abcdefghijklmnopqstuvwyzAB.CDEFGHIJKLMNOPQRSTUVWX..Y)"
+balladmoor put many.img . folder/N50 folder/N51
 ends 0 "51 files" balladmoor map many.img
-prints "$(row 2 abcdefghijklmnopqrstuvwxyz.ABCDEFGHIJKLMNOPQRSTUVWX..Y)"
-balladmoor put many.img . folder/N52 folder/N53
-ends 0 "53 files" balladmoor map many.img
-prints "$(row 2 abcdefghijklmnopqrstuvwxyzABCDEFGHIJKLMNOPQRSTUVWXYZ.+)"
-prints "$(printf '+  %-12s %9d bytes' N54 1)"
+prints "$(row 2 abcdefghijklmnopqstuvwyzABCDEFGHIJKLMNOPQRSTUVWXYZ.+)"
+prints "$(printf '+  %-12s %9d bytes' N52 1)"
+check ".. and no line for r or x" [ "$(grep -c '^[rx] ' "$made/out")" -eq 0 ]
 rm -r folder
+
+# Clusters 60 to 62 of that disk: one bad, two reserved. The 18th file has s, the 24th z.
+for copy in 512 1024; do poke many.img $((copy + 90)) '\xF7\x0F\xFF\xF6\x0F'; done
+ends 0 "51 files, one bad cluster, two reserved" balladmoor map many.img
+prints "$(row 2 abcdefghijklmnopqstuvwyzABCDEFGHIJKLMNOPQRSTUVWXYZ.+......xrr)"
+prints "$(printf 's  %-12s %9d bytes' N18 1)"
+prints "$(printf 'z  %-12s %9d bytes' N24 1)"
+check ".. one line for x and one for r" diff <(grep '^[rx] ' "$made/out") - <<'END'
+x  bad: 1 cluster
+r  reserved: 2 clusters
+END
 head -c 160256 /dev/zero >rest
 cp 160.img full.img
 balladmoor put full.img REST rest

@@ -9,6 +9,16 @@ import sys
 # Kind byte: sectors, sectors of a table, of the root, of a cluster.
 KINDS = {0xFE: (320, 1, 4, 1), 0xFF: (640, 1, 7, 2), 0xFC: (360, 2, 4, 1), 0xFD: (720, 2, 7, 2)}
 
+# The files' letters, and the signs of clusters that are not one file's.
+LETTERS = [letter for letter in string.ascii_letters if letter not in "rx"]
+SIGNS = {
+    ".": "free",
+    "x": "bad",
+    "r": "reserved",
+    "*": "in two files or more",
+    "?": "in use, but in no file",
+}
+
 
 class Volume:
     def __init__(self, seed):
@@ -24,7 +34,8 @@ class Volume:
         return self.random.randint(2, self.last)
 
     def fill_table(self):
-        values = [self.any_cluster] * 12 + [lambda: 0xFFF, lambda: 0xFF8, lambda: 0xFF7, lambda: 0xFF0, lambda: 1]
+        values = [self.any_cluster] * 12
+        values += [lambda: 0xFFF, lambda: 0xFF8, lambda: 0xFF7, lambda: 0xFF6, lambda: 0xFF0, lambda: 1]
         used = self.random.random()
         table = [0xF00 | self.kind, 0xFFF]
         for _ in range(2, self.last + 1):
@@ -63,7 +74,7 @@ class Volume:
         return met
 
     def signs(self):
-        letters = string.ascii_letters + "+" * len(self.starts)
+        letters = LETTERS + ["+"] * len(self.starts)
         held = {}
         for letter, start in zip(letters, self.starts):
             for cluster in self.chain(start):
@@ -73,20 +84,28 @@ class Volume:
 
 def sign_of(value):
     """The sign of a cluster that no file holds."""
-    return "." if value == 0 else "x" if 0xFF0 <= value <= 0xFF7 else "?"
+    return "." if value == 0 else "x" if value == 0xFF7 else "r" if 0xFF0 <= value <= 0xFF6 else "?"
+
+
+def lines_below(signs):
+    """What the map says of these signs below."""
+    counts = {sign: signs.count(sign) for sign in SIGNS}
+    return [f"{sign}  {SIGNS[sign]}: {count} cluster{'s' * (count != 1)}" for sign, count in counts.items() if count]
 
 
 def shown(command, image):
-    """The signs of the command's map."""
+    """The signs of the command's map, and its lines below that are not a file's."""
     done = subprocess.run([*command, "map", "-"], input=image, stdout=subprocess.PIPE, check=True)
-    lines = done.stdout.decode().partition("\n\n")[0].splitlines()
-    return [sign for line in lines for sign in line[6:]]
+    above, _, below = done.stdout.decode().partition("\n\n")
+    signs = [sign for line in above.splitlines() for sign in line[6:]]
+    return signs, [line for line in below.splitlines() if line[0] in SIGNS]
 
 
 def main():
     for seed in range(int(sys.argv[1])):
         volume = Volume(seed)
-        if shown(sys.argv[2:], bytes(volume.image)) != volume.signs():
+        signs = volume.signs()
+        if shown(sys.argv[2:], bytes(volume.image)) != (signs, lines_below(signs)):
             sys.exit(f"volume {seed}: the maps differ")
 
 

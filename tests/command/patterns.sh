@@ -71,8 +71,8 @@ ends 0 "list BOTH.KEY" balladmoor list days.img BOTH.KEY
 prints "BOTH     KEY         9 1983-09-01  18:05  -HSA"
 prints "$(printf '%9d file %20d bytes' 1 9)"
 ends 0 "list --json '*'" balladmoor list --json days.img '*'
-holds "that file alone" '{"sound": true, "label": "DAY003  LOG", "free": 155136, "files": [{"name": "NOTE",
-  "directory": false, "size": 5, "date": "1983-09-01", "time": "18:05:58",
+holds "that file alone" '{"sound": true, "label": "DAY003  LOG", "free": 155136, "bad": 0, "reserved": 0,
+  "files": [{"name": "NOTE", "directory": false, "size": 5, "date": "1983-09-01", "time": "18:05:58",
   "read_only": false, "hidden": false, "system": false, "archive": true}]}'
 ends 0 "of an image from standard input" balladmoor list --names - 'N*' <days.img
 printed NOTE

@@ -22,7 +22,7 @@ while read -r size byte length clusters cluster; do
   ends 0 "free $size" balladmoor free "$size.img"
   prints "$((clusters * cluster)) bytes free: $clusters of $clusters clusters of $cluster bytes"
   ends 0 "check $size" balladmoor check "$size.img"
-  prints "$size.img: sound; files 0; clusters free $clusters, held by files 0, set aside 0"
+  prints "$size.img: sound; files 0; clusters free $clusters, held by files 0, bad 0, reserved 0"
   ends 0 "format $byte" balladmoor format "$byte" "$byte.img"
   check ".. is the same" cmp "$size.img" "$byte.img"
 done <<'END'
@@ -53,7 +53,7 @@ prints "DAY001   LOG      1025 1983-09-01  18:05  ---A"
 prints "        2 files               1 065 bytes"
 prints "                            158 208 bytes free"
 ends 0 "check" balladmoor check disk.img
-prints "disk.img: sound; files 2; clusters free 309, held by files 4, set aside 0"
+prints "disk.img: sound; files 2; clusters free 309, held by files 4, bad 0, reserved 0"
 ends 0 "get to a file" balladmoor get disk.img tare.key tare.back
 check ".. the bytes that were put" cmp tare tare.back
 ends 0 "get under its own name" balladmoor get disk.img DAY001.LOG

@@ -20,7 +20,7 @@ check "twelve verbs" [ "$(grep -c '^  [a-z]' "$made/short")" -eq 12 ]
 ends 2 "help for a verb that there is not" balladmoor help copy
 cp 160.img ./--json
 ends 0 "-- ends the options" balladmoor check -- --json
-prints "--json: sound; files 0; clusters free 313, held by files 0, set aside 0"
+prints "--json: sound; files 0; clusters free 313, held by files 0, bad 0, reserved 0"
 rm ./--json
 
 echo "-- several files are put"
@@ -119,15 +119,16 @@ holds() {
   check ".. is $1" python3 -c 'import json, sys; sys.exit(json.load(sys.stdin) != json.loads(sys.argv[1]))' "$2" <"$made/out"
 }
 ends 0 "check --json" balladmoor check --json listed.img
-holds "sound" '{"sound": true, "files": 2, "free": 309, "held": 4, "aside": 0}'
+holds "sound" '{"sound": true, "files": 2, "free": 309, "held": 4, "bad": 0, "reserved": 0}'
 ends 0 "list --json" balladmoor list --json listed.img
 tare_json='{"name": "TARE.KEY", "directory": false, "size": 40, "date": "1983-09-01", "time": "06:40:00",
   "read_only": true, "hidden": false, "system": false, "archive": true}'
 day_json='{"name": "DAY001.LOG", "directory": false, "size": 1025, "date": "1983-09-01", "time": "18:05:58",
   "read_only": false, "hidden": false, "system": false, "archive": true}'
-holds "all of it" "{\"sound\": true, \"label\": null, \"free\": 158208, \"files\": [$tare_json, $day_json]}"
+holds "all of it" "{\"sound\": true, \"label\": null, \"free\": 158208, \"bad\": 0, \"reserved\": 0,
+  \"files\": [$tare_json, $day_json]}"
 ends 0 "list --json of no files" balladmoor list --json 160.img
-holds "an empty list" '{"sound": true, "label": null, "free": 160256, "files": []}'
+holds "an empty list" '{"sound": true, "label": null, "free": 160256, "bad": 0, "reserved": 0, "files": []}'
 
 # A label, a name with signs that JSON marks, no date and no time.
 cp listed.img other.img
@@ -135,7 +136,8 @@ poke other.img $((1536 + 32)) 'A"B\\\x1BC  '
 poke other.img $((1536 + 32 + 22)) '\x00\xC0\x00\x00'
 poke other.img $((1536 + 64)) 'OUR SCALE  \x08'
 ends 0 "list --json of other makers' names" balladmoor list --json other.img
-holds "valid" "{\"sound\": true, \"label\": \"OUR SCALE\", \"free\": 158208, \"files\": [$tare_json,
+holds "valid" "{\"sound\": true, \"label\": \"OUR SCALE\", \"free\": 158208, \"bad\": 0, \"reserved\": 0,
+  \"files\": [$tare_json,
   {\"name\": \"A\\\"B\\\\?C.LOG\", \"directory\": false, \"size\": 1025, \"date\": null, \"time\": null,
    \"read_only\": false, \"hidden\": false, \"system\": false, \"archive\": true}]}"
 
@@ -153,7 +155,8 @@ cp listed.img broken.img
 poke broken.img $((1536 + 32 + 11)) '\x10'
 broken_json 4 '{"sound": false, "finding": 4, "place": 1, "names": ["DAY001.LOG"], "lost": 0}'
 ends 1 "list --json of a directory" balladmoor list --json broken.img
-holds "marked" "{\"sound\": false, \"label\": null, \"free\": null, \"files\": [$tare_json,
+holds "marked" "{\"sound\": false, \"label\": null, \"free\": null, \"bad\": null, \"reserved\": null,
+  \"files\": [$tare_json,
   {\"name\": \"DAY001.LOG\", \"directory\": true, \"size\": 1025, \"date\": \"1983-09-01\", \"time\": \"18:05:58\",
    \"read_only\": false, \"hidden\": false, \"system\": false, \"archive\": false}]}"
 ends 1 "list of a directory" balladmoor list broken.img

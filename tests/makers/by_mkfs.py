@@ -5,8 +5,8 @@ import struct
 
 from as_mdir import free_of
 from counts import expect
-from exchange import content, contents, exchange, read_by_us
-from volume import DISKETTES, Volume, ran
+from exchange import content, contents, exchange, fill_by_us, held, read_by_us
+from volume import DISKETTES, Volume, ended, ran
 
 # What gives the layout of each kind. Without -g it takes 16 sectors a track, and drops what does not fill a track.
 KINDS = {
@@ -15,6 +15,10 @@ KINDS = {
     180: "-g 1/9 -F 12 -f 2 -s 1 -r 64 -M 0xFC",
     360: "-g 2/9 -F 12 -f 2 -s 2 -r 112 -M 0xFD",
 }
+
+# Blocks of 1,024 bytes that it may be told are bad, and values of reserved clusters, behind the files.
+BAD = (20, 30)
+RESERVED = {150 + n: 0xFF0 + n for n in range(7)}
 
 
 def formatted(folder, kilobytes, words):
@@ -33,19 +37,74 @@ def try_kind(folder, kilobytes):
     exchange(volume, contents())
 
 
-def try_bad_blocks(folder, kilobytes):
-    # Bad blocks, of 1,024 bytes here, get table entries of FF7: set aside. No call takes them.
+def with_bad_blocks(folder, kilobytes):
+    """A volume with files, whose maker was told of bad blocks: their clusters have FF7 in the table."""
     listed = os.path.join(folder, "bad")
     with open(listed, "w") as file:
-        file.write("20\n30\n")
+        file.writelines(f"{block}\n" for block in BAD)
     volume = formatted(folder, kilobytes, f"{KINDS[kilobytes]} -l {listed}")
     volume.title = f"mkfs.fat with bad blocks, {kilobytes}K"
-    volume.aside = 2 * 1024 // volume.cluster_bytes
+    volume.bad = len(BAD) * 1024 // volume.cluster_bytes
     volume.copy_all(contents())
-    blocks = [volume.bytes()[1024 * block :][:1024] for block in (20, 30)]
+    return volume
+
+
+def bad_blocks(volume):
+    """Their bytes."""
+    return [volume.bytes()[1024 * block :][:1024] for block in BAD]
+
+
+def try_bad_blocks(folder, kilobytes):
+    volume = with_bad_blocks(folder, kilobytes)
+    before = bad_blocks(volume)
     exchange(volume, contents())
-    after = [volume.bytes()[1024 * block :][:1024] for block in (20, 30)]
-    expect(after == blocks, True, f"{volume.title}: what is set aside keeps its bytes")
+    expect(bad_blocks(volume) == before, True, f"{volume.title}: bad blocks keep their bytes")
+
+
+def put_reserved(volume):
+    """Puts the values of RESERVED into both copies of the table, by hand; half a byte of each word is a neighbour's."""
+    image = bytearray(volume.bytes())
+    table = struct.unpack_from("<H", image, 22)[0]
+    for copy in range(2):
+        for cluster, value in RESERVED.items():
+            at = 512 * (1 + copy * table) + cluster * 3 // 2
+            word = struct.unpack_from("<H", image, at)[0]
+            word = word & 0x000F | value << 4 if cluster % 2 else word & 0xF000 | value
+            struct.pack_into("<H", image, at, word)
+    with open(volume.path, "wb") as file:
+        file.write(image)
+    volume.reserved = len(RESERVED)
+
+
+def reserved_clusters(volume):
+    """Their bytes."""
+    begins = [512 * volume.first_data + (cluster - 2) * volume.cluster_bytes for cluster in RESERVED]
+    return [volume.bytes()[begin:][: volume.cluster_bytes] for begin in begins]
+
+
+def counted(volume, files, what):
+    """Sound, with bad and with reserved clusters, and our list says how many bytes each sort has."""
+    what = f"{volume.title}, {what}"
+    used = held(volume, files)
+    lines = volume.expect_counts(len(files), volume.clusters - used - volume.bad - volume.reserved, used, what)
+    expect(lines[-2:], volume.lines_below(), f"{what}: our list ends with both")
+    read_by_us(volume, files, what)
+
+
+def try_reserved(folder, kilobytes):
+    # No maker here has such values: mtools does not read the volume then, and fsck.fat would free the clusters.
+    volume = with_bad_blocks(folder, kilobytes)
+    volume.title = f"mkfs.fat with bad blocks, and reserved clusters put there by hand, {kilobytes}K"
+    put_reserved(volume)
+    [(status, shown, _)] = ended(["mdir", "-i", volume.path, "::"])
+    expect((status, shown), (1, b""), f"{volume.title}: mdir does not read it")
+    volume.expect_fsck_complains("the maker's files")
+    files, before = contents(), (bad_blocks(volume), reserved_clusters(volume))
+    counted(volume, files, "the maker's files")
+    fill_by_us(volume, files)
+    counted(volume, files, "filled by our command")
+    after = (bad_blocks(volume), reserved_clusters(volume))
+    expect(after == before, True, f"{volume.title}: bad and reserved clusters keep their bytes")
 
 
 def try_usual(folder):
@@ -97,6 +156,7 @@ def try_all(folder):
     for kilobytes in DISKETTES:
         try_kind(folder, kilobytes)
         try_bad_blocks(folder, kilobytes)
+    try_reserved(folder, 360)
     try_usual(folder)
     try_other_layouts(folder)
     try_more_than_the_maker(folder)

@@ -137,7 +137,8 @@ def change_by_us(volume, files):
 
 def fill_by_us(volume, files):
     """Puts a file that leaves no cluster free; one byte more finds no room, before and after."""
-    room = (volume.clusters - held(volume, files) - volume.aside) * volume.cluster_bytes
+    free = volume.clusters - held(volume, files) - volume.bad - volume.reserved
+    room = free * volume.cluster_bytes
     data = content("ours REST.BIN", room + 1)
     before = volume.bytes()
     status, said = volume.put("REST.BIN", data)

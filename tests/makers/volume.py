@@ -63,7 +63,7 @@ class Volume:
     def __init__(self, folder, kilobytes, maker):
         self.folder = folder
         self.title = f"{maker}, {kilobytes}K"
-        self.aside = 0
+        self.bad = self.reserved = 0
         if kilobytes in DISKETTES:
             self.kind, self.clusters, self.cluster_bytes, self.first_data = DISKETTES[kilobytes]
         self.path = os.path.join(folder, "volume")
@@ -134,10 +134,10 @@ class Volume:
 
     def expect_fsck_passes(self, files, held, what):
         """fsck.fat finds nothing, and counts the files and clusters as the specification does."""
-        # Its only line is the sum; any finding is a line more. It counts the label as a file, and the clusters set
-        # aside with those held.
+        # Its only line is the sum; any finding is a line more. It counts the label as a file, and bad clusters with
+        # those held.
         files += len(self.slots_with(0x08))
-        lines = [f"{self.path}: {files} files, {held + self.aside}/{self.clusters} clusters"]
+        lines = [f"{self.path}: {files} files, {held + self.bad}/{self.clusters} clusters"]
         said = self.fsck(what)
         if said is not None:
             expect(said, (0, lines), f"{what}: fsck.fat finds nothing")
@@ -172,15 +172,20 @@ class Volume:
 
     # ---- What must come out.
 
+    def lines_below(self):
+        """What our list has below mdir's lines: the bytes of bad and of reserved clusters, if there are any."""
+        counts = {"bad": self.bad, "reserved": self.reserved}
+        return [below(sort, count * self.cluster_bytes) for sort, count in counts.items() if count]
+
     def expect_judged(self, verdict, what):
         """The independent implementation says so."""
         expect(ran(JUDGE, input=self.bytes()).decode(), f"{verdict}\n", f"{what}: {verdict}")
 
     def expect_counts(self, files, free, held, what):
         """Sound with these counts, by the independent implementation and by our check; our list's lines."""
-        self.expect_judged(f"sound {files} {free} {held} {self.aside}", what)
-        counts = f"files {files}; clusters free {free}, held by files {held}, set aside {self.aside}"
-        sound = f"{self.path}: sound; {counts}\n".encode()
+        self.expect_judged(f"sound {files} {free} {held} {self.bad} {self.reserved}", what)
+        counts = f"clusters free {free}, held by files {held}, bad {self.bad}, reserved {self.reserved}"
+        sound = f"{self.path}: sound; files {files}; {counts}\n".encode()
         checked, (status, lines, said) = ended(self.command("check"), self.command("list"))
         expect(checked, (0, sound, ""), f"{what}: our check says so")
         expect((status, said), (0, ""), f"{what}: our list ends well")
@@ -193,9 +198,10 @@ class Volume:
         files = files_of(shown)
         free = free_of(shown) // self.cluster_bytes
         held = sum(-(-size // self.cluster_bytes) for _, size in files)
-        expect(free + held + self.aside, self.clusters, f"{what}: each cluster is free, held or set aside")
+        total = free + held + self.bad + self.reserved
+        expect(total, self.clusters, f"{what}: each cluster is free, held, bad or reserved")
         lines = self.expect_counts(len(files), free, held, what)
-        wanted = our_list(shown, self.path, self.marks_by_mattrib())
+        wanted = our_list(shown, self.path, self.marks_by_mattrib()) + self.lines_below()
         expect(lines, wanted, f"{what}: our list is mdir's")
 
     def expect_finding(self, finding, place, what):
@@ -211,6 +217,11 @@ class Volume:
         others = (1, None if finding == 1 else (finding, place), number)
         expect(says, [checked, others, others, others], f"{what}: our check says so, and list, get, put refuse")
         expect(self.bytes() == before, True, f"{what}: nothing is altered")
+
+
+def below(sort, count):
+    """A line of our list with a number of bytes, in groups of three digits as mdir has them."""
+    return f"{count:,}".replace(",", " ").rjust(35) + f" bytes {sort}"
 
 
 def found(said):

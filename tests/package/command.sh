@@ -16,6 +16,11 @@ options() {
   grep -o -e '--[a-z-]*' | sort -u
 }
 
+# flat: what comes in as one line, with single spaces and no word in two pieces.
+flat() {
+  tr -s ' \n' ' ' | sed 's/‐ //g'
+}
+
 same "the version" "balladmoor $(cat VERSION)" "$(balladmoor --version)"
 verbs=$(balladmoor --help | sed -n 's/^  \([a-z][a-z]*\) .*/\1/p' | sort)
 check "the help has verbs" [ "$(wc -l <<<"$verbs")" -ge 12 ]
@@ -32,6 +37,15 @@ for verb in $verbs; do
     check "the manual page has: $line" grep -qF -e "$line" "$made/page"
   done < <(sed -n 's/^ *\([{"].*\)/\1/p' "$made/help")
 done
+# the verb, and what its help and the manual page must say
+while IFS='|' read -r verb words; do
+  check "help $verb has: $words" grep -qF -e "$words" <(balladmoor help "$verb" | flat)
+  check "the manual page has it too" grep -qF -e "$words" <(flat <"$made/page")
+done <<'END'
+check|Bad: the disk is worn there. Reserved: kept from files, which says nothing of wear.
+list|the free bytes, then those of bad and those of reserved clusters, if there are any.
+map|(a to z without r and x, A to Z, + for all others), . free, x bad, r reserved,
+END
 same "the exit statuses" "$(balladmoor --help | sed -n '/^Exit status/,$p' | grep -o '\b[0-9]\b')" \
   "$(sed -n '/^EXIT STATUS/,/^[B-Z]/s/^ *\([0-9]\) .*/\1/p' "$made/page")"
 

@@ -31,7 +31,8 @@ fn list(text: &mut String, volume: &Sound, area: &[u8]) -> std::fmt::Result {
     writeln!(text, "clusters={}", volume.kind.clusters())?;
     writeln!(text, "free={}", counts.free)?;
     writeln!(text, "held={}", counts.held)?;
-    writeln!(text, "aside={}", counts.aside)?;
+    writeln!(text, "bad={}", counts.bad)?;
+    writeln!(text, "reserved={}", counts.reserved)?;
     writeln!(text, "files={}", counts.files)?;
     let files = entries(volume.kind, area)
         .iter()

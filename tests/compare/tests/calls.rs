@@ -3,7 +3,7 @@
 mod common;
 
 use common::{Desk, EVENING};
-use compare::volume::{entry, format, open, view, view_number};
+use compare::volume::{entry, format, free_space, open, view, view_number};
 
 /// A FE volume with a file LONG of 1,025 bytes in slot 0, all closed.
 fn desk() -> Desk {
@@ -274,7 +274,7 @@ fn a_write_of_nothing_changes_nothing() {
         .copy_from_slice(&record(1, 1, 7, 0, 313 * 512 - 1));
     assert_eq!(desk.write(0, b"xy"), (0, 1));
     assert_eq!(desk.record(0), record(1, 1, 1, 0, 313 * 512));
-    assert_eq!(desk.counts(), [1, 0, 313, 0]);
+    assert_eq!(desk.counts(), [1, 0, 313, 0, 0]);
 }
 
 #[test]
@@ -391,6 +391,23 @@ fn mode_replaces_the_attribute_of_read_only_files_too() {
     }
     // Hidden and system files open too.
     assert_eq!(desk.open("LONG", 2), (0, 0));
+}
+
+/// Bad and reserved clusters are not free, and have no words of their own.
+#[test]
+fn free_space_puts_four_words() {
+    let mut desk = desk();
+    desk.set_value(10, 0xFF7);
+    desk.set_value(11, 0xFF0);
+    let words = [308, 313, 512, 1].map(u32::to_le_bytes).concat();
+    for length in 0..=24 {
+        let mut out = [7; 24];
+        assert_eq!(free_space(&desk.image, &mut out[..length]), 308);
+        let put = if length < 16 { &[] } else { &words[..] };
+        let (front, rest) = out.split_at(put.len());
+        assert_eq!(front, put, "out of {length} bytes");
+        assert!(rest.iter().all(|&byte| byte == 7), "out of {length} bytes");
+    }
 }
 
 #[test]

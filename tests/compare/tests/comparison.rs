@@ -12,11 +12,12 @@ use compare::comparison::seeds::over_seeds;
 use compare::comparison::tally::{rows, Tally};
 use compare::comparison::{compare_seed, history, singles, Library, CALLS_OF_A_SEED};
 use compare::volume::answer::number;
-use compare::volume::find;
 use compare::volume::kind::Kind;
+use compare::volume::{check_system, find};
 use compare::volumes::calls::{perform, Call, Scene};
 use compare::volumes::finds::Search;
 use compare::volumes::random::Random;
+use compare::volumes::random_calls::buffer_for;
 use compare::volumes::scenes::history_scene;
 use compare::volumes::texts::callers_form;
 use compare::volumes::word;
@@ -45,6 +46,12 @@ fn report(library: Library) -> String {
 /// The same of the histories alone.
 fn report_of_histories(library: Library) -> String {
     let compare = |seed| history::compare(seed, library, GUARD, &mut Tally::default()).err();
+    (0..SEEDS).find_map(compare).unwrap_or_default()
+}
+
+/// The same of the single calls alone.
+fn report_of_singles(library: Library) -> String {
+    let compare = |seed| singles::compare(seed, library, GUARD, &mut Tally::default()).err();
     (0..SEEDS).find_map(compare).unwrap_or_default()
 }
 
@@ -101,7 +108,17 @@ fn each_sort_of_fault_is_told() {
     }
 }
 
-const FAULTS_OF_READING: [(&str, Library); 3] = [
+/// The plain Rust, but this byte of check's counts is wrong when files are read
+/// back.
+fn count_misread(call: &Call, scene: &mut Scene<Guarded>, at: usize) -> u64 {
+    let answer = perform(call, scene);
+    if let (Call::Check, READING_TABLE) = (call, scene.table.len()) {
+        scene.buffer[at] ^= 1;
+    }
+    answer
+}
+
+const FAULTS_OF_READING: [(&str, Library); 5] = [
     ("the content by the history differs", |call, scene| {
         let answer = perform(call, scene);
         if let (Call::Read { .. }, READING_TABLE, true) = (call, scene.table.len(), answer > 0) {
@@ -116,11 +133,13 @@ const FAULTS_OF_READING: [(&str, Library); 3] = [
         }
     }),
     ("check answers 0/0 and counts", |call, scene| {
-        let answer = perform(call, scene);
-        if let (Call::Check, READING_TABLE) = (call, scene.table.len()) {
-            scene.buffer[4] ^= 1;
-        }
-        answer
+        count_misread(call, scene, 4)
+    }),
+    ("check answers 0/0 and counts", |call, scene| {
+        count_misread(call, scene, 12)
+    }),
+    ("check answers 0/0 and counts", |call, scene| {
+        count_misread(call, scene, 16)
     }),
 ];
 
@@ -132,6 +151,100 @@ fn files_are_compared_by_reading() {
         let call = call.and_then(|rest| rest.split(',').next()?.parse::<u64>().ok());
         assert!(call.is_some_and(|call| call % 50 == 0), "{report}");
         assert!(report.contains(told), "{told}: {report}");
+    }
+}
+
+/// The plain Rust, but the counts that check puts are altered.
+fn counts_altered(call: &Call, scene: &mut Scene<Guarded>, alter: fn(&mut [u32; 5])) -> u64 {
+    let answer = perform(call, scene);
+    let put = scene.buffer.get_mut(..20);
+    if let (Call::Check | Call::CheckSystem, 0, Some(put)) = (call, answer, put) {
+        let mut counts = [0, 4, 8, 12, 16].map(|at| word(put, at));
+        alter(&mut counts);
+        put.copy_from_slice(counts.map(u32::to_le_bytes).as_flattened());
+    }
+    answer
+}
+
+/// The plain Rust, but check puts so many bytes of its counts where `out` is
+/// this long.
+fn counts_cut(
+    call: &Call,
+    scene: &mut Scene<Guarded>,
+    bytes: fn(out: usize) -> Option<usize>,
+) -> u64 {
+    let before = scene.buffer.to_vec();
+    let answer = perform(call, scene);
+    let bytes = bytes(before.len());
+    if let (Call::Check | Call::CheckSystem, 0, Some(bytes)) = (call, answer, bytes) {
+        let mut counts = [0; 20];
+        check_system(&scene.image, &mut counts);
+        scene.buffer.copy_from_slice(&before);
+        scene.buffer[..bytes].copy_from_slice(&counts[..bytes]);
+    }
+    answer
+}
+
+const FAULTS_OF_CHECK: [(&str, Library); 8] = [
+    ("FF7 counted as reserved", |call, scene| {
+        counts_altered(call, scene, |counts| {
+            counts[4] += counts[3];
+            counts[3] = 0;
+        })
+    }),
+    ("FF0 to FF6 counted as bad", |call, scene| {
+        counts_altered(call, scene, |counts| {
+            counts[3] += counts[4];
+            counts[4] = 0;
+        })
+    }),
+    ("both counted into each", |call, scene| {
+        counts_altered(call, scene, |counts| {
+            let both = counts[3] + counts[4];
+            counts[3..].fill(both);
+        })
+    }),
+    ("bad and reserved exchanged", |call, scene| {
+        counts_altered(call, scene, |counts| counts.swap(3, 4))
+    }),
+    ("16 bytes in an out of 16 to 19", |call, scene| {
+        counts_cut(call, scene, |out| (16..20).contains(&out).then_some(16))
+    }),
+    ("16 bytes in any longer out", |call, scene| {
+        counts_cut(call, scene, |out| (20 <= out).then_some(16))
+    }),
+    ("as many bytes as a short out has", |call, scene| {
+        counts_cut(call, scene, |out| (out < 20).then_some(out))
+    }),
+    ("20 bytes are too few", |call, scene| {
+        counts_cut(call, scene, |out| (out == 20).then_some(0))
+    }),
+];
+
+#[test]
+fn faults_of_check_are_told() {
+    for (fault, library) in FAULTS_OF_CHECK {
+        let report = report_of_singles(library);
+        assert!(report.contains(" check"), "{fault}: {report}");
+        assert!(report.contains("both answer 0/0"), "{fault}: {report}");
+        assert!(report.contains("the buffer differs"), "{fault}: {report}");
+        // By a call of the history, or when its files are read back.
+        let report = report_of_histories(library);
+        assert!(report.starts_with("history, call "), "{fault}: {report}");
+        assert!(report.contains(" check"), "{fault}: {report}");
+    }
+}
+
+/// The lengths from 0 to 24 bytes, and longer ones.
+#[test]
+fn each_length_of_checks_out_comes() {
+    for call in [Call::Check, Call::CheckSystem] {
+        let mut times = [0; 25];
+        for seed in 0..4000 {
+            let length = buffer_for(&call, &mut Random::new(seed)).len();
+            times[length.min(24)] += 1;
+        }
+        assert!(times.iter().all(|&times| times >= 50), "{times:?}");
     }
 }
 

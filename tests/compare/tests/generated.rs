@@ -2,10 +2,13 @@
 
 mod common;
 
+use std::ops::RangeInclusive;
+
 use common::{halves, letter, words};
 use compare::volume::check::{examined_image, examined_system_area, Counts, Sound};
 use compare::volume::kind::{Kind, KINDS};
 use compare::volume::{check, check_system};
+use compare::volumes::bad_or_reserved::{sorts, SORTS};
 use compare::volumes::broken::{break_copies, break_kind, break_plan};
 use compare::volumes::damage::{flip_byte, flip_root_byte, flip_table_byte, lengths};
 use compare::volumes::plan::Plan;
@@ -16,10 +19,10 @@ const ROUNDS: u64 = 400;
 
 /// What the plan says that check must count.
 fn planned_counts(plan: &Plan) -> Counts {
-    let aside = plan
-        .values
-        .iter()
-        .filter(|value| (0xFF0..=0xFF7).contains(*value));
+    let clusters = |values: RangeInclusive<u16>| {
+        let wanted = plan.values.iter().filter(|&value| values.contains(value));
+        wanted.count() as u32
+    };
     Counts {
         files: plan.files.len() as u32,
         free: plan.free_clusters().len() as u32,
@@ -28,7 +31,8 @@ fn planned_counts(plan: &Plan) -> Counts {
             .iter()
             .map(|file| file.clusters.len() as u32)
             .sum(),
-        aside: aside.count() as u32,
+        bad: clusters(0xFF7..=0xFF7),
+        reserved: clusters(0xFF0..=0xFF6),
     }
 }
 
@@ -47,30 +51,32 @@ fn sound_volumes_of_each_kind_are_sound_with_their_counts() {
             let plan = sound_plan_of(kind, &mut Random::new(seed));
             let image = plan.image();
             let counts = planned_counts(&plan);
-            let mut out = [0xAA; 18];
+            let mut out = [0xAA; 22];
             assert_eq!(found(kind, &image), (0, 0), "seed {seed}");
             assert_eq!(check(&image, &mut out), 0);
             let Counts {
                 files,
                 free,
                 held,
-                aside,
+                bad,
+                reserved,
             } = counts;
-            assert_eq!(words(&out[..16]), [files, free, held, aside]);
-            assert_eq!(out[16..], [0xAA; 2]);
+            assert_eq!(words(&out), [files, free, held, bad, reserved]);
+            assert_eq!(out[20..], [0xAA; 2]);
+            assert_eq!(free + held + bad + reserved, kind.clusters() as u32);
             assert_eq!(letter::check_area(kind, &image), Ok(counts));
         }
     }
 }
 
 /// The features of a plan that a sound volume may or may not have.
-fn features(plan: &Plan) -> [bool; 13] {
+fn features(plan: &Plan) -> Vec<bool> {
     let is_live = |slot: &&[u8; 32]| slot[0] != 0 && slot[0] != 0xE5;
     let any_live = |test: fn(&[u8; 32]) -> bool| plan.slots.iter().filter(is_live).any(test);
     let any_value = |low, high| plan.values.iter().any(|value| (low..=high).contains(value));
     let jumps = |pair: &[u16]| pair[1] != pair[0] + 1;
     let last = plan.kind.last_cluster() + 1;
-    [
+    let mut features = vec![
         plan.files
             .iter()
             .any(|file| file.clusters.windows(2).any(jumps)),
@@ -79,7 +85,7 @@ fn features(plan: &Plan) -> [bool; 13] {
         any_live(|slot| slot[11] & 0x09 == 0x01),
         any_live(|slot| slot[11] & 0x0E == 0x06),
         any_value(0xFF8, 0xFFE),
-        any_value(0xFF0, 0xFF7),
+        any_value(0xFF1, 0xFF5),
         plan.table_rest[last * 3 / 2 + 1..]
             .iter()
             .any(|&byte| byte != 0),
@@ -88,21 +94,41 @@ fn features(plan: &Plan) -> [bool; 13] {
         plan.slots.iter().all(|slot| slot[0] != 0),
         plan.files.is_empty(),
         plan.free_clusters().is_empty(),
-    ]
+    ];
+    features.extend(sorts(&plan.values));
+    features
 }
 
 #[test]
 fn sound_volumes_show_all_features() {
     for kind in &KINDS {
-        let mut times = [0; 13];
+        let mut times = [0; 13 + SORTS.len()];
         for seed in 0..ROUNDS {
             let features = features(&sound_plan_of(kind, &mut Random::new(seed)));
+            assert_eq!(features.len(), times.len());
             for (times, shown) in times.iter_mut().zip(features) {
                 *times += u32::from(shown);
             }
         }
         assert!(times.iter().all(|&times| times >= 10), "{times:?}");
     }
+}
+
+/// The comparison counts these sorts.
+#[test]
+fn sorts_of_bad_and_reserved_clusters() {
+    let named = |values: &[u16]| {
+        let sorts = SORTS.iter().zip(sorts(values));
+        let names: Vec<&str> = sorts.filter(|(_, is)| *is).map(|(name, _)| *name).collect();
+        names.join(", ")
+    };
+    assert_eq!(named(&[]), "");
+    assert_eq!(named(&[0x000, 0x002, 0xFEF, 0xFF8, 0xFFF]), "");
+    assert_eq!(named(&[0, 0xFF7, 0xFF7]), "bad only, FF7");
+    assert_eq!(named(&[0xFF1, 0xFF5]), "reserved only");
+    assert_eq!(named(&[0xFF6]), "reserved only, FF6");
+    assert_eq!(named(&[0xFF7, 0xFF3]), "both, FF7");
+    assert_eq!(named(&[0xFF0, 0xFF6, 0xFF7]), "both, FF0, FF6, FF7");
 }
 
 #[test]

@@ -16,7 +16,7 @@ fn listed(name: &[u8; 11], time: u16, date: u16) -> String {
     let (head, file) = text.split_at(text.find("file=").expect("a file"));
     assert_eq!(
         head,
-        "sound=yes\nkind=FC\nclusters=351\nfree=351\nheld=0\naside=0\nfiles=1\n"
+        "sound=yes\nkind=FC\nclusters=351\nfree=351\nheld=0\nbad=0\nreserved=0\nfiles=1\n"
     );
     file.to_string()
 }
@@ -78,7 +78,7 @@ fn dates_and_times_each_by_itself() {
 }
 
 #[test]
-fn labels_erased_slots_and_set_aside_clusters() {
+fn labels_erased_slots_and_a_bad_cluster() {
     let mut desk = Desk::new(0xFD);
     desk.put("A", b"1");
     desk.put("B", b"2");
@@ -87,9 +87,24 @@ fn labels_erased_slots_and_set_aside_clusters() {
     desk.slot(2)[11] = 0x28;
     desk.slot(2)[26..].fill(0x99);
     desk.set_value(355, 0xFF7);
-    let text = "sound=yes\nkind=FD\nclusters=354\nfree=352\nheld=1\naside=1\nfiles=1\n\
+    let text = "sound=yes\nkind=FD\nclusters=354\nfree=352\nheld=1\nbad=1\nreserved=0\nfiles=1\n\
         file=B\nattr=20\nsize=1\nstart=3\ndate=1983-09-01\ntime=06:40:00\n";
     assert_eq!(listing(&desk.image), text);
+}
+
+#[test]
+fn bad_and_reserved_clusters() {
+    let mut desk = Desk::new(0xFE);
+    let head = "sound=yes\nkind=FE\nclusters=313\n";
+    for (cluster, value, counts) in [
+        (2, 0xFF6, "free=312\nheld=0\nbad=0\nreserved=1\nfiles=0\n"),
+        (314, 0xFF7, "free=311\nheld=0\nbad=1\nreserved=1\nfiles=0\n"),
+        (3, 0xFF0, "free=310\nheld=0\nbad=1\nreserved=2\nfiles=0\n"),
+        (313, 0xFF0, "free=309\nheld=0\nbad=1\nreserved=3\nfiles=0\n"),
+    ] {
+        desk.set_value(cluster, value);
+        assert_eq!(listing(&desk.image), format!("{head}{counts}"));
+    }
 }
 
 #[test]
@@ -100,7 +115,7 @@ fn findings() {
         listing(&desk.image[..5119]),
         "sound=no\nfinding=1\nplace=0\n"
     );
-    let blank = "sound=yes\nkind=FF\nclusters=315\nfree=315\nheld=0\naside=0\nfiles=0\n";
+    let blank = "sound=yes\nkind=FF\nclusters=315\nfree=315\nheld=0\nbad=0\nreserved=0\nfiles=0\n";
     assert_eq!(listing(&desk.image[..5120]), blank);
     desk.set_value(316, 0xFFF);
     assert_eq!(listing(&desk.image), "sound=no\nfinding=7\nplace=316\n");

@@ -106,15 +106,17 @@ fn other_findings_are_no_hindrance() {
 
 #[test]
 fn chains_that_do_not_fit_the_size() {
-    let spoilt: [fn(&mut Desk); 13] = [
+    let spoilt: [fn(&mut Desk); 15] = [
         // A start of 0, 1, past the last cluster, or with bits above the 12.
         |desk| desk.slot(0)[26] = 0,
         |desk| desk.slot(0)[26] = 1,
         |desk| desk.slot(0)[26..28].copy_from_slice(&315_u16.to_le_bytes()),
         |desk| desk.slot(0)[27] = 0x10,
-        // A value that is free, set aside or nothing, too early an end, a
+        // A value that is free, reserved, bad or nothing, too early an end, a
         // chain that goes on, one that circles.
         |desk| set(desk, 3, 0),
+        |desk| set(desk, 4, 0xFF0),
+        |desk| set(desk, 4, 0xFF6),
         |desk| set(desk, 4, 0xFF7),
         |desk| set(desk, 4, 1),
         |desk| set(desk, 3, 0xFFF),

@@ -3,6 +3,8 @@
 mod common;
 
 use common::{halves, Desk};
+use compare::volume::kind::{Kind, KINDS};
+use compare::volume::table::{is_bad, is_end, is_reserved};
 use compare::volume::{check, check_system};
 
 /// Two files: LONG of three clusters in slot 0, SHORT of one in slot 1.
@@ -81,7 +83,7 @@ fn values_that_mean_nothing() {
     assert_eq!(after(|desk| desk.set_value(314, 0x13B)), (3, 314));
     for value in 0xFF0..=0xFF7 {
         assert_eq!(after(|desk| desk.set_value(200, value)), (0, 0));
-        // Set aside is no end.
+        // Bad or reserved is no end.
         assert_eq!(after(|desk| desk.set_value(4, value)), (5, 0));
     }
     for value in 0xFF8..=0xFFF {
@@ -227,17 +229,93 @@ fn system_areas() {
     assert_eq!(check_system(&long, &mut []), 0);
 }
 
+type Check = fn(&[u8], &mut [u8]) -> u64;
+
+/// Check and check on the system area, which here are given the same bytes.
+const CHECKS: [Check; 2] = [check, check_system];
+
 #[test]
-fn out_is_filled_only_where_it_is_long_enough_and_the_volume_sound() {
+fn out_is_filled_only_where_it_is_long_enough() {
     let mut desk = desk();
-    let mut out = [7; 20];
-    assert_eq!(check(&desk.image, &mut out[..15]), 0);
-    assert_eq!(out, [7; 20]);
-    assert_eq!(check(&desk.image, &mut out), 0);
-    assert_eq!(common::words(&out), [2, 309, 4, 0]);
-    assert_eq!(out[16..], [7; 4]);
+    for (cluster, value) in [(10, 0xFF7), (11, 0xFF0), (12, 0xFF6)] {
+        desk.set_value(cluster, value);
+    }
+    let counts = [2, 306, 4, 1, 2].map(u32::to_le_bytes).concat();
+    for check in CHECKS {
+        for length in 0..=24 {
+            let mut out = [7; 24];
+            assert_eq!(check(&desk.image, &mut out[..length]), 0);
+            let put = if length < 20 { &[] } else { &counts[..] };
+            let (front, rest) = out.split_at(put.len());
+            assert_eq!(front, put, "out of {length} bytes");
+            assert!(rest.iter().all(|&byte| byte == 7), "out of {length} bytes");
+        }
+    }
+}
+
+#[test]
+fn out_is_left_as_it_came_where_the_volume_is_not_sound() {
+    let mut desk = desk();
+    desk.set_value(99, 0xFF7);
     desk.set_value(100, 0xFFF);
-    let mut out = [7; 16];
-    assert_eq!(halves(check(&desk.image, &mut out)), (7, 100));
-    assert_eq!(out, [7; 16]);
+    for check in CHECKS {
+        for length in 0..=24 {
+            let mut out = [7; 24];
+            let answer = check(&desk.image, &mut out[..length]);
+            assert_eq!(halves(answer), (7, 100));
+            assert_eq!(out, [7; 24], "out of {length} bytes");
+        }
+    }
+}
+
+/// What check must answer, and count, where a blank volume's last cluster has
+/// this value.
+fn by_the_values_meaning(kind: &Kind, value: u16) -> ((u32, u32), [u32; 5]) {
+    let last = kind.last_cluster() as u32;
+    let free = kind.clusters() as u32;
+    match u32::from(value) {
+        0 => ((0, 0), [0, free, 0, 0, 0]),
+        link if 2 <= link && link <= last => ((7, last), [0; 5]),
+        0xFF0..=0xFF6 => ((0, 0), [0, free - 1, 0, 0, 1]),
+        0xFF7 => ((0, 0), [0, free - 1, 0, 1, 0]),
+        0xFF8..=0xFFF => ((7, last), [0; 5]),
+        _ => ((3, last), [0; 5]),
+    }
+}
+
+#[test]
+fn a_value_has_one_meaning() {
+    for kind in &KINDS {
+        let mut desk = Desk::new(u32::from(kind.byte));
+        for value in 0..0x1000 {
+            let meanings = [
+                value == 0,
+                kind.has_cluster(value),
+                is_reserved(value),
+                is_bad(value),
+                is_end(value),
+            ];
+            let meant = meanings.iter().filter(|&&meant| meant).count();
+            desk.set_value(kind.last_cluster() as u16, value);
+            let mut out = [0; 20];
+            let answer = halves(check(&desk.image, &mut out));
+            assert_eq!(meant, usize::from(answer.0 != 3), "{value:03X}");
+            let expected = by_the_values_meaning(kind, value);
+            assert_eq!((answer, common::words(&out)), expected, "{value:03X}");
+        }
+    }
+}
+
+#[test]
+fn each_bad_or_reserved_value_once() {
+    for kind in &KINDS {
+        let clusters = kind.clusters() as u32;
+        for first in [2, kind.last_cluster() as u16 - 7] {
+            let mut desk = Desk::new(u32::from(kind.byte));
+            for (cluster, value) in (first..).zip(0xFF0..=0xFF7) {
+                desk.set_value(cluster, value);
+            }
+            assert_eq!(desk.counts(), [0, clusters - 8, 0, 1, 7]);
+        }
+    }
 }

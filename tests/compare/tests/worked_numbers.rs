@@ -96,7 +96,7 @@ fn a_blank_fd_and_its_room() {
     assert_eq!(desk.write(0, &[7; 362_497]), (0, 362_496));
     assert_eq!(desk.write(0, &[7; 362_497]), (0, 0));
     assert_eq!(desk.write(0, &[7]), (0, 0));
-    assert_eq!(desk.counts(), [1, 0, 354, 0]);
+    assert_eq!(desk.counts(), [1, 0, 354, 0, 0]);
 }
 
 #[test]
@@ -142,7 +142,7 @@ fn the_listing_case() {
     let begin = [0xFE, 0xFF, 0xFF, 0xFF, 0x4F, 0x00, 0x05, 0xF0, 0xFF];
     assert_eq!(desk.image[512..521], begin);
     assert_eq!(desk.image[1024..1033], begin);
-    let text = "sound=yes\nkind=FE\nclusters=313\nfree=309\nheld=4\naside=0\nfiles=2\n\
+    let text = "sound=yes\nkind=FE\nclusters=313\nfree=309\nheld=4\nbad=0\nreserved=0\nfiles=2\n\
         file=TARE.KEY\nattr=21\nsize=40\nstart=2\ndate=1983-09-01\ntime=06:40:00\n\
         file=DAY001.LOG\nattr=20\nsize=1025\nstart=3\ndate=1983-09-01\ntime=18:05:58\n";
     assert_eq!(listing(&desk.image[..7 * 512]), text);

@@ -115,21 +115,22 @@ fn with_new_file(mut scene: Scene) -> Scene {
     scene
 }
 
-fn check(library: &Library, scene: &mut Scene, times: u32, answer: u64, counts: [u8; 16]) {
+fn check(library: &Library, scene: &mut Scene, times: u32, answer: u64, counts: [u8; 20]) {
     for _ in 0..times {
-        let mut out = [0; 16];
+        let mut out = [0; 20];
         assert_eq!((library.check)(black_box(&scene.image), &mut out), answer);
         assert_eq!(out, counts);
     }
 }
 
 fn check_half_full(library: &Library, scene: &mut Scene, times: u32) {
-    let counts = [59, 0, 0, 0, 177, 0, 0, 0, 177, 0, 0, 0, 0, 0, 0, 0];
+    let mut counts = [0; 20];
+    [counts[0], counts[4], counts[8]] = [59, 177, 177];
     check(library, scene, times, 0, counts);
 }
 
 fn check_shared(library: &Library, scene: &mut Scene, times: u32) {
-    check(library, scene, times, packed(6, 2), [0; 16]);
+    check(library, scene, times, packed(6, 2), [0; 20]);
 }
 
 /// Weighings of 32 bytes, one after the other.

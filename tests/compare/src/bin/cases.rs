@@ -160,7 +160,7 @@ fn labels(cases: &mut Vec<Case>) {
     }
 }
 
-/// Table values: set aside, and each end value, on one volume.
+/// Table values: each reserved one, bad, and each end value, on one volume.
 fn values(cases: &mut Vec<Case>) {
     let mut plan = Plan::blank(&KINDS[3]);
     for n in 0..8 {

@@ -4,10 +4,11 @@
 //! Makes COUNT volumes from the seeds SEED (0), SEED + 1 and so on. On each,
 //! every such call is made on both libraries, format on one of sixteen. The
 //! seed picks lengths, slots, names, patterns and kinds among those that
-//! matter. Answers and all bytes of all buffers must agree, and so must the
-//! guard bytes around the buffers. On each sound volume a whole search through
-//! the archive must list what a list made by hand has. The first difference is
-//! printed with its seed and ends the run.
+//! matter; the lengths of `out` for check and free space take turns. Answers
+//! and all bytes of all buffers must agree, and so must the guard bytes around
+//! the buffers. On each sound volume a whole search through the archive must
+//! list what a list made by hand has. The first difference is printed with its
+//! seed and ends the run.
 
 use std::process::ExitCode;
 
@@ -17,9 +18,11 @@ use compare::comparison::search::{compare_search, listed};
 use compare::comparison::seeds::over_seeds;
 use compare::volume::answer::number;
 use compare::volume::kind::{Kind, KINDS, SECTOR};
+use compare::volume::table::values;
+use compare::volumes::bad_or_reserved::{sorts, SORTS};
 use compare::volumes::calls::{perform, perform_on_archive, Scene};
 use compare::volumes::finds::{random_find, Search};
-use compare::volumes::mixed::mixed_image;
+use compare::volumes::mixed::{mixed_image, IN_TURN};
 use compare::volumes::random::Random;
 use compare::volumes::random_calls::random_name;
 use compare::{archive, volume};
@@ -32,6 +35,17 @@ const LEAST: u64 = 500;
 /// which find ends must be met this often; in a short run, once in a thousand
 /// volumes.
 const LEAST_ENDINGS: u64 = 20;
+
+/// Sound volumes of each sort of bad and reserved clusters must be met this
+/// often, and so must each length of `out` on sound volumes; in a short run,
+/// once in a thousand volumes.
+const LEAST_SORTS: u64 = 100;
+
+/// The bytes of check's counts. Free space puts fewer.
+const COUNTS: usize = 20;
+
+/// The lengths of `out`: 0 to some bytes more than the counts have.
+const OUTS: usize = 25;
 
 /// Calls that only read an image, or a part of it, and may fill `out`.
 type Reader = fn(&[u8], &mut [u8]) -> u64;
@@ -49,7 +63,11 @@ struct Trial {
     random: Random,
     /// What check finds; 0 is sound.
     finding: u32,
+    /// The length of `out` whose turn it is.
+    out: usize,
     calls: u64,
+    /// How often each reader met a sound volume with each length of `out`.
+    outs: [[u64; OUTS]; 3],
     /// How often rescue and find ended in each of their ways.
     rescues: [u64; 5],
     finds: [u64; 5],
@@ -65,7 +83,10 @@ impl Trial {
             finding: number(volume::check(&plain, &mut [])),
             plain,
             random: Random::new(!seed),
+            // Volumes of all sorts have this length, and then the next.
+            out: (seed / IN_TURN) as usize % OUTS,
             calls: 0,
+            outs: [[0; OUTS]; 3],
             rescues: [0; 5],
             finds: [0; 5],
             searches: [0; 2],
@@ -89,11 +110,15 @@ impl Trial {
         }
     }
 
-    /// The readers on the whole image.
+    /// The readers on the whole image; where it is sound, once more with an
+    /// `out` that is long enough for what they put there.
     fn read_whole(&mut self) -> Result<(), String> {
-        for reader in &READERS {
-            let out = *self.random.pick(&[0, 15, 16, 16, 20]);
-            self.read(reader, self.plain.len(), out)?;
+        for reader in 0..READERS.len() {
+            self.read(reader, self.plain.len(), self.out)?;
+            if self.finding == 0 {
+                let enough = self.random.between(COUNTS, OUTS - 1);
+                self.read(reader, self.plain.len(), enough)?;
+            }
         }
         Ok(())
     }
@@ -103,19 +128,16 @@ impl Trial {
         let whole = self.plain.len();
         let system = self.random.pick(&KINDS).system_bytes();
         let some = self.random.below(whole + 1);
-        for reader in &READERS {
+        for reader in 0..READERS.len() {
             let length = *self.random.pick(&[0, 512, 513, system - 1, system, some]);
-            self.read(reader, length.min(whole), 16)?;
+            self.read(reader, length.min(whole), COUNTS)?;
         }
         Ok(())
     }
 
-    fn read(
-        &mut self,
-        (name, plain, archive): &(&str, Reader, Reader),
-        length: usize,
-        out: usize,
-    ) -> Result<(), String> {
+    /// One of the readers on the bytes up to some length.
+    fn read(&mut self, reader: usize, length: usize, out: usize) -> Result<(), String> {
+        let (name, plain, archive) = READERS[reader];
         let mut theirs = Guarded::random(out, &mut self.random);
         let mut ours = theirs.to_vec();
         let answers = [
@@ -123,6 +145,7 @@ impl Trial {
             archive(&self.archive[..length], &mut theirs),
         ];
         self.calls += 1;
+        self.outs[reader][out] += u64::from(number(answers[0]) == 0);
         same(answers, "out", &ours, &theirs)
             .map_err(|what| format!("{name}, {length} bytes, out of {out}: {what}"))
     }
@@ -266,13 +289,16 @@ fn ending(numbers: &[u32; 5], answer: u64) -> usize {
     found.expect("a call answers one of its numbers")
 }
 
-/// What was met: volumes by their finding (0: sound), sound ones by kind, how
-/// rescue ended on sound volumes and on others, how find ended, and searches
-/// with the slots that they listed.
+/// What was met: volumes by their finding (0: sound), sound ones by kind and by
+/// their bad and reserved clusters, readers on sound volumes by the length of
+/// `out`, how rescue ended on sound volumes and on others, how find ended, and
+/// searches with the slots that they listed.
 #[derive(Default)]
 struct Met {
     findings: [u64; 8],
     sound: [u64; 4],
+    sorts: [u64; 6],
+    outs: [[u64; OUTS]; 3],
     rescues: [[u64; 5]; 2],
     finds: [u64; 5],
     searches: [u64; 2],
@@ -284,11 +310,11 @@ impl Met {
     fn of(trial: &Trial) -> Met {
         let mut met = Met::default();
         met.findings[trial.finding as usize] = 1;
-        let kind = KINDS
-            .iter()
-            .position(|kind| Kind::of_image(&trial.plain) == Some(kind));
-        if let (0, Some(kind)) = (trial.finding, kind) {
-            met.sound[kind] = 1;
+        if let (0, Some(kind)) = (trial.finding, Kind::of_image(&trial.plain)) {
+            met.sound = KINDS.each_ref().map(|other| u64::from(other == kind));
+            let values = values(kind, &trial.plain[kind.copy_at(0)..]);
+            let clusters = &values[2..=kind.last_cluster()];
+            met.sorts = sorts(clusters).map(u64::from);
         }
         met
     }
@@ -299,6 +325,10 @@ impl Met {
         };
         add(&mut self.findings, &other.findings);
         add(&mut self.sound, &other.sound);
+        add(&mut self.sorts, &other.sorts);
+        for (to, more) in self.outs.iter_mut().zip(&other.outs) {
+            add(to, more);
+        }
         add(&mut self.finds, &other.finds);
         add(&mut self.searches, &other.searches);
         for (to, more) in self.rescues.iter_mut().zip(&other.rescues) {
@@ -313,8 +343,17 @@ impl Met {
             .map(|(kind, times)| format!("{:02X}: {times}", kind.byte))
             .collect();
         println!("sound: {} ({})", self.findings[0], kinds.join(", "));
+        let sorts = SORTS.iter().zip(self.sorts);
+        let sorts: Vec<String> = sorts
+            .map(|(sort, times)| format!("{sort}: {times}"))
+            .collect();
+        println!("sound, with clusters bad or reserved: {}", sorts.join(", "));
         for (finding, times) in self.findings.iter().enumerate().skip(1) {
             println!("finding {finding}: {times}");
+        }
+        for ((name, ..), outs) in READERS.iter().zip(&self.outs) {
+            let longest = OUTS - 1;
+            println!("{name} of sound ones, out of 0 to {longest} bytes: {outs:?}");
         }
         println!(
             "rescue by {RESCUE_NUMBERS:?}: sound {:?}, others {:?}",
@@ -325,14 +364,42 @@ impl Met {
         println!("{searches} whole searches: {slots} slots listed");
     }
 
-    /// What was met fewer than so many times. Rescue refuses no sound volume by
-    /// 40 or 5.
-    fn rare(&self, volumes: u64, endings: u64) -> Option<String> {
-        if let Some(finding) = self.findings.iter().position(|&times| times < volumes) {
-            return Some(format!(
-                "finding {finding} (0: sound) was met fewer than {volumes} times"
-            ));
-        }
+    /// What was met too rarely for a run of so many volumes.
+    fn rare(&self, count: u64) -> Option<String> {
+        let sorts = LEAST_SORTS.min(count / 1000);
+        self.rare_finding(LEAST.min(count / 20))
+            .or_else(|| self.rare_sort(sorts))
+            .or_else(|| self.rare_out(sorts))
+            .or_else(|| self.rare_ending(LEAST_ENDINGS.min(count / 1000)))
+    }
+
+    fn rare_finding(&self, volumes: u64) -> Option<String> {
+        let finding = self.findings.iter().position(|&times| times < volumes)?;
+        Some(format!(
+            "finding {finding} (0: sound) was met fewer than {volumes} times"
+        ))
+    }
+
+    fn rare_sort(&self, volumes: u64) -> Option<String> {
+        let sort = self.sorts.iter().position(|&times| times < volumes)?;
+        Some(format!(
+            "fewer than {volumes} sound volumes had clusters bad or reserved so: {}",
+            SORTS[sort]
+        ))
+    }
+
+    fn rare_out(&self, calls: u64) -> Option<String> {
+        let mut readers = READERS.iter().zip(&self.outs);
+        readers.find_map(|((name, ..), outs)| {
+            let out = outs.iter().position(|&times| times < calls)?;
+            Some(format!(
+                "{name} with out of {out} bytes met fewer than {calls} sound volumes"
+            ))
+        })
+    }
+
+    /// Rescue refuses no sound volume by 40 or 5.
+    fn rare_ending(&self, endings: u64) -> Option<String> {
         let [sound, others] = self.rescues;
         let rescues = [&[sound[0], sound[2], sound[3]], &others[..]].concat();
         let is_rare = |met: &[u64]| met.iter().any(|&times| times < endings);
@@ -349,6 +416,7 @@ fn compare_volume(seed: u64) -> Result<Met, String> {
     let mut met = Met::of(&trial);
     trial.run()?;
     met.calls = trial.calls;
+    met.outs = trial.outs;
     met.rescues[usize::from(trial.finding != 0)] = trial.rescues;
     met.finds = trial.finds;
     met.searches = trial.searches;
@@ -369,7 +437,7 @@ fn compare(count: u64, first: u64) -> bool {
         "{count} volumes, {} calls on each library: all alike",
         met.calls
     );
-    let rare = met.rare(LEAST.min(count / 20), LEAST_ENDINGS.min(count / 1000));
+    let rare = met.rare(count);
     if let Some(rare) = &rare {
         println!("{rare}");
     }

@@ -1,7 +1,7 @@
 //! judge: what check says of the image at standard input.
 //!
-//! Prints one line: `sound`, files, free, held and aside; or `finding`, its
-//! number and its place.
+//! Prints one line: `sound`, files, free, held, bad and reserved; or `finding`,
+//! its number and its place.
 
 use std::io::Read;
 
@@ -10,7 +10,7 @@ use compare::volume::answer::{number, value};
 
 /// A verdict in words.
 fn verdict(image: &[u8]) -> String {
-    let mut out = [0; 16];
+    let mut out = [0; 20];
     let answer = volume::check(image, &mut out);
     if answer != 0 {
         return format!("finding {} {}", number(answer), value(answer));

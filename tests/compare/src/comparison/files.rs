@@ -7,9 +7,11 @@
 //! well, and says where an answer does not fit what went before.
 
 use std::collections::BTreeMap;
+use std::ops::RangeInclusive;
 
 use super::search::lists;
 use crate::volume::kind::Kind;
+use crate::volumes::bad_or_reserved::{BAD, HIGHEST_RESERVED, LOWEST_RESERVED};
 use crate::volumes::calls::Call;
 use crate::volumes::plan::Plan;
 use crate::volumes::texts::stored_form;
@@ -31,8 +33,9 @@ struct Place {
 
 pub struct Files {
     pub kind: &'static Kind,
-    /// Clusters set aside. No call but format alters their number.
-    pub aside: u32,
+    /// Bad and reserved clusters. No call but format alters their numbers.
+    pub bad: u32,
+    pub reserved: u32,
     /// By the 11 name bytes.
     pub files: BTreeMap<[u8; 11], File>,
     /// The 16 places or fewer; `None` is not used.
@@ -85,14 +88,17 @@ impl Files {
             };
             (name, file)
         };
-        let mut files = Files {
+        let clusters = |values: RangeInclusive<u16>| {
+            let wanted = plan.values.iter().filter(|&value| values.contains(value));
+            wanted.count() as u32
+        };
+        Files {
             kind: plan.kind,
-            aside: 0,
+            bad: clusters(BAD..=BAD),
+            reserved: clusters(LOWEST_RESERVED..=HIGHEST_RESERVED),
             files: plan.files.iter().map(file).collect(),
             places: table.chunks_exact(16).take(16).map(place_of).collect(),
-        };
-        files.aside = files.free() - plan.free_clusters().len() as u32;
-        files
+        }
     }
 
     /// The clusters that the files' bytes need.
@@ -102,7 +108,7 @@ impl Files {
     }
 
     pub fn free(&self) -> u32 {
-        self.kind.clusters() as u32 - self.aside - self.held()
+        self.kind.clusters() as u32 - self.held() - self.bad - self.reserved
     }
 
     /// Follows a call that ended well.
@@ -201,7 +207,7 @@ impl Files {
 
     fn format(&mut self) -> Followed {
         self.files.clear();
-        self.aside = 0;
+        (self.bad, self.reserved) = (0, 0);
         Ok(())
     }
 

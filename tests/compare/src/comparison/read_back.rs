@@ -6,11 +6,12 @@ use super::files::{File, Files};
 use super::guarded::Guarded;
 use crate::volume::kind::Kind;
 use crate::volume::names::is_name_byte;
-use crate::volume::table::{is_aside, values};
+use crate::volume::table::{is_bad, is_reserved, values};
 use crate::volumes::calls::{Call, Scene};
 use crate::volumes::texts::{callers_form, without_padding};
 
-/// Each file's entry and bytes, and how many clusters are free, held and aside.
+/// Each file's entry and bytes, and how many clusters are free, held, bad and
+/// reserved.
 pub fn compare_by_reading(files: &Files, both: &Both) -> Result<(), String> {
     let mut copy = Copy {
         both,
@@ -99,13 +100,13 @@ impl Copy<'_> {
     }
 
     /// Check's counts, those by the history and those of the table agree, and
-    /// all clusters are free, held or aside.
+    /// all clusters are free, held, bad or reserved.
     fn compare_totals(&mut self, files: &Files) -> Result<(), String> {
-        let answer = self.call(Call::Check, &[0; 16]);
+        let answer = self.call(Call::Check, &[0; 20]);
         let words = self.scene.buffer.as_chunks().0;
         let counts: Vec<u32> = words.iter().map(|word| u32::from_le_bytes(*word)).collect();
-        let (free, held, aside) = (files.free(), files.held(), files.aside);
-        let by_history = [files.files.len() as u32, free, held, aside];
+        let (free, bad, reserved) = (files.free(), files.bad, files.reserved);
+        let by_history = [files.files.len() as u32, free, files.held(), bad, reserved];
         if answer != 0 || counts != by_history {
             return Err(format!(
                 "check answers {} and counts {counts:?}, the history {by_history:?}",
@@ -113,18 +114,21 @@ impl Copy<'_> {
             ));
         }
         let by_table = table_counts(files.kind, &self.both.plain.image);
-        let total = free + held + aside == files.kind.clusters() as u32;
-        match by_table == [free, aside] && total {
+        let total: u32 = counts[1..].iter().sum();
+        match by_table == [free, bad, reserved] && total == files.kind.clusters() as u32 {
             true => Ok(()),
             false => Err(format!("check counts {counts:?}, the table {by_table:?}")),
         }
     }
 }
 
-/// How many clusters are free and set aside by the table's values.
-fn table_counts(kind: &Kind, image: &[u8]) -> [u32; 2] {
+/// How many clusters are free, bad and reserved by the table's values.
+fn table_counts(kind: &Kind, image: &[u8]) -> [u32; 3] {
     let values = values(kind, &image[kind.copy_at(0)..][..kind.fat_bytes()]);
     let values = &values[2..=kind.last_cluster()];
-    let count = |wanted: fn(u16) -> bool| values.iter().filter(|&&value| wanted(value)).count();
-    [count(|value| value == 0) as u32, count(is_aside) as u32]
+    let count = |wanted: fn(u16) -> bool| {
+        let wanted = values.iter().filter(|&&value| wanted(value));
+        wanted.count() as u32
+    };
+    [count(|value| value == 0), count(is_bad), count(is_reserved)]
 }

@@ -92,11 +92,7 @@ pub fn put(out: &mut [u8], bytes: &[u8]) {
     }
 }
 
-/// Puts four 32-bit words, low byte first.
-pub fn put_words(out: &mut [u8], words: [u32; 4]) {
-    let mut bytes = [0; 16];
-    for (place, word) in bytes.chunks_exact_mut(4).zip(words) {
-        place.copy_from_slice(&word.to_le_bytes());
-    }
-    put(out, &bytes);
+/// Puts 32-bit words, low byte first.
+pub fn put_words<const COUNT: usize>(out: &mut [u8], words: [u32; COUNT]) {
+    put(out, words.map(u32::to_le_bytes).as_flattened());
 }

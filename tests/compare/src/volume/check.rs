@@ -4,7 +4,7 @@ use super::answer::{packed, put_words, Refusal};
 use super::directory::{attribute, entries, is_label, is_live, name, Entry, NEVER_USED};
 use super::kind::Kind;
 use super::name_set::NameSet;
-use super::table::{is_aside, is_end, values, Values};
+use super::table::{is_bad, is_end, is_reserved, values, Values};
 use super::walks::Walks;
 
 /// The first finding that holds, and its place.
@@ -20,7 +20,15 @@ pub struct Counts {
     pub files: u32,
     pub free: u32,
     pub held: u32,
-    pub aside: u32,
+    pub bad: u32,
+    pub reserved: u32,
+}
+
+impl Counts {
+    /// In the order of `out`.
+    pub const fn words(self) -> [u32; 5] {
+        [self.files, self.free, self.held, self.bad, self.reserved]
+    }
 }
 
 /// A sound volume: its kind, its table entries and the counts.
@@ -50,7 +58,7 @@ pub fn check_system(area: &[u8], out: &mut [u8]) -> u64 {
 fn report(outcome: Result<Sound, Finding>, out: &mut [u8]) -> u64 {
     match outcome {
         Ok(Sound { counts, .. }) => {
-            put_words(out, [counts.files, counts.free, counts.held, counts.aside]);
+            put_words(out, counts.words());
             0
         }
         Err(finding) => packed(finding.number, finding.place),
@@ -76,7 +84,7 @@ fn examined(kind: &'static Kind, area: &[u8]) -> Result<Sound, Finding> {
     let copy = &area[kind.copy_at(0)..][..kind.fat_bytes()];
     compare_copies(copy, &area[kind.copy_at(1)..][..kind.fat_bytes()])?;
     let values = values(kind, copy);
-    let (free, aside) = classify(kind, &values)?;
+    let (free, bad, reserved) = classify(kind, &values)?;
     let entries = entries(kind, area);
     look_at_slots(entries)?;
     let (files, held) = Walks::over(kind, &values).walk_files(entries)?;
@@ -87,7 +95,8 @@ fn examined(kind: &'static Kind, area: &[u8]) -> Result<Sound, Finding> {
             files,
             free,
             held,
-            aside,
+            bad,
+            reserved,
         },
     })
 }
@@ -105,9 +114,9 @@ fn compare_copies(first: &[u8], second: &[u8]) -> Result<(), Finding> {
     }
 }
 
-/// Finding 3, and how many clusters are free and set aside.
-fn classify(kind: &Kind, values: &Values) -> Result<(u32, u32), Finding> {
-    let (mut free, mut aside) = (0, 0);
+/// Finding 3, and how many clusters are free, bad and reserved.
+fn classify(kind: &Kind, values: &Values) -> Result<(u32, u32, u32), Finding> {
+    let (mut free, mut bad, mut reserved) = (0, 0, 0);
     for (cluster, &value) in values
         .iter()
         .enumerate()
@@ -116,13 +125,15 @@ fn classify(kind: &Kind, values: &Values) -> Result<(u32, u32), Finding> {
     {
         if value == 0 {
             free += 1;
-        } else if is_aside(value) {
-            aside += 1;
+        } else if is_bad(value) {
+            bad += 1;
+        } else if is_reserved(value) {
+            reserved += 1;
         } else if !kind.has_cluster(value) && !is_end(value) {
             return Err(finding(3, cluster));
         }
     }
-    Ok((free, aside))
+    Ok((free, bad, reserved))
 }
 
 /// Finding 4: each slot against the slots below it.

@@ -8,8 +8,12 @@ pub const END: u16 = 0xFFF;
 /// The entries of a table, 0 and 1 with them, past the last cluster 0.
 pub type Values = [u16; MOST_CLUSTERS + 2];
 
-pub const fn is_aside(value: u16) -> bool {
-    0xFF0 <= value && value <= 0xFF7
+pub const fn is_reserved(value: u16) -> bool {
+    0xFF0 <= value && value <= 0xFF6
+}
+
+pub const fn is_bad(value: u16) -> bool {
+    value == 0xFF7
 }
 
 pub const fn is_end(value: u16) -> bool {

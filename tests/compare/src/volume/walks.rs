@@ -3,7 +3,7 @@
 use super::check::{finding, Finding};
 use super::directory::{is_plain_file, size, start, Entry};
 use super::kind::{Kind, MOST_CLUSTERS};
-use super::table::{is_aside, is_end, Values};
+use super::table::{is_bad, is_end, is_reserved, Values};
 
 /// The walks over all files' chains. Each cluster is visited twice at most.
 pub struct Walks<'a> {
@@ -89,7 +89,7 @@ impl<'a> Walks<'a> {
     fn lowest_lost(&self) -> Option<usize> {
         (2..=self.kind.last_cluster()).find(|&cluster| {
             let value = self.values[cluster];
-            self.left[cluster] == 0 && value != 0 && !is_aside(value)
+            self.left[cluster] == 0 && value != 0 && !is_bad(value) && !is_reserved(value)
         })
     }
 }

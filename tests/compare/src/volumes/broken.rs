@@ -4,6 +4,7 @@
 //! only, and answers the place of its own finding. It answers `None` where
 //! the volume lacks what is to be broken.
 
+use super::bad_or_reserved::{bad_or_reserved_value, BAD, HIGHEST_RESERVED, LOWEST_RESERVED};
 use super::plan::Plan;
 use super::random::Random;
 use crate::volume::kind::{Kind, SECTOR};
@@ -153,7 +154,9 @@ fn spoil_start(plan: &mut Plan, index: usize, random: &mut Random) {
         0,
         1,
         last + 1,
-        0xFF7,
+        LOWEST_RESERVED,
+        HIGHEST_RESERVED,
+        BAD,
         0xFFF,
         0xFFFF,
         start | 0x1000,
@@ -161,8 +164,10 @@ fn spoil_start(plan: &mut Plan, index: usize, random: &mut Random) {
     ];
     starts.extend(clusters.get(1));
     starts.extend(random.choose(&plan.free_clusters()));
-    let aside = (2..=last).filter(|&n| (0xFF0..0xFF8).contains(&plan.values[usize::from(n)]));
-    starts.extend(random.choose(&aside.collect::<Vec<_>>()));
+    let is_bad_or_reserved =
+        |&n: &u16| (LOWEST_RESERVED..=BAD).contains(&plan.values[usize::from(n)]);
+    let bad_or_reserved: Vec<u16> = (2..=last).filter(is_bad_or_reserved).collect();
+    starts.extend(random.choose(&bad_or_reserved));
     set_start(plan, index, *random.pick(&starts));
 }
 
@@ -182,12 +187,12 @@ fn spoil_size(plan: &mut Plan, index: usize, random: &mut Random) {
 fn spoil_link(plan: &mut Plan, index: usize, random: &mut Random) {
     let clusters = &plan.files[index].clusters;
     let (first, last) = (clusters[0], clusters[clusters.len() - 1]);
-    let aside = 0xFF0 + random.below(8) as u16;
+    let bad_or_reserved = bad_or_reserved_value(random);
     let somewhere = random.between(2, plan.kind.last_cluster()) as u16;
     let at = *random.pick(clusters);
     let value = match at == last {
-        true => *random.pick(&[0, aside, first, last, somewhere]),
-        false => *random.pick(&[0, aside, first, at, 0xFF8, 0xFFF]),
+        true => *random.pick(&[0, bad_or_reserved, first, last, somewhere]),
+        false => *random.pick(&[0, bad_or_reserved, first, at, 0xFF8, 0xFFF]),
     };
     plan.values[usize::from(at)] = value;
 }

@@ -6,11 +6,14 @@ use super::plan::Plan;
 use super::random::Random;
 use super::sound::sound_plan;
 
+/// So many seeds in a row have volumes of all sorts.
+pub const IN_TURN: u64 = 10;
+
 /// The image that belongs to a seed. Of ten seeds in a row two give sound
 /// volumes, each finding has one, and one has damage of any sort.
 pub fn mixed_image(seed: u64) -> Vec<u8> {
     let mut random = Random::new(seed);
-    match seed % 10 {
+    match seed % IN_TURN {
         0 | 1 => sound_plan(&mut random).image(),
         2 => image_of_no_kind(&mut random),
         3 => {

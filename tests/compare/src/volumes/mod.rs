@@ -3,6 +3,7 @@
 //! Nothing here uses the calls themselves: a volume is laid out from a plan
 //! of its own, so that what check must find is known beforehand.
 
+pub mod bad_or_reserved;
 pub mod broken;
 pub mod calls;
 pub mod damage;

@@ -64,7 +64,12 @@ pub fn buffer_for(call: &Call, random: &mut Random) -> Vec<u8> {
         Call::Read { .. } | Call::Rescue { .. } => {
             *random.pick(&[0, 1, 100, 511, 600, 1024, 2000, 5000, 400_000])
         }
-        Call::Check | Call::CheckSystem | Call::FreeSpace | Call::Entry { .. } => {
+        Call::Check | Call::CheckSystem => {
+            // The counts have 20 bytes: each shorter length, and some longer.
+            let any = random.below(25);
+            *random.pick(&[any, any, 20, 100])
+        }
+        Call::FreeSpace | Call::Entry { .. } => {
             *random.pick(&[0, 1, 15, 16, 17, 21, 22, 23, 30, 100])
         }
         _ => 0,

@@ -1,5 +1,6 @@
 //! Sound volumes of all sorts.
 
+use super::bad_or_reserved::{bad_or_reserved_value, reserved_value, BAD};
 use super::plan::{File, Plan};
 use super::random::Random;
 use super::texts::{attribute, good_name, odd_stored_name, stored_form};
@@ -22,7 +23,7 @@ pub fn sound_plan_of(kind: &'static Kind, random: &mut Random) -> Plan {
         put_junk_into_slots(&mut plan, random);
     }
     let mut pool = cluster_pool(kind, random);
-    set_aside(&mut plan, &mut pool, random);
+    put_bad_or_reserved(&mut plan, &mut pool, random);
     fill_slots(&mut plan, &mut pool, random);
     plan
 }
@@ -51,11 +52,17 @@ fn cluster_pool(kind: &Kind, random: &mut Random) -> Vec<u16> {
     pool
 }
 
-fn set_aside(plan: &mut Plan, pool: &mut Vec<u16>, random: &mut Random) {
+/// Some clusters become bad, or reserved, or some of them this and some that.
+fn put_bad_or_reserved(plan: &mut Plan, pool: &mut Vec<u16>, random: &mut Random) {
     let count = *random.pick(&[0, 0, 1, 3, 40, 300]);
+    let sort = random.below(3);
     for _ in 0..random.between(0, count) {
         let cluster = pool.swap_remove(random.below(pool.len()));
-        plan.values[usize::from(cluster)] = 0xFF0 + random.below(8) as u16;
+        plan.values[usize::from(cluster)] = match sort {
+            0 => BAD,
+            1 => reserved_value(random),
+            _ => bad_or_reserved_value(random),
+        };
     }
 }
 

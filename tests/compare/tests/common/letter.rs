@@ -113,7 +113,8 @@ impl Volume<'_> {
             files: self.files().count() as u32,
             free: number(0, 0),
             held: self.files().map(|slot| self.needed(slot)).sum::<u64>() as u32,
-            aside: number(0xFF0, 0xFF7),
+            bad: number(0xFF7, 0xFF7),
+            reserved: number(0xFF0, 0xFF6),
         }
     }
 }

@@ -130,9 +130,9 @@ impl Desk {
         halves(check(&self.image, &mut []))
     }
 
-    /// Files, free, held and aside of a sound volume.
-    pub fn counts(&self) -> [u32; 4] {
-        let mut out = [0; 16];
+    /// Files, free, held, bad and reserved of a sound volume.
+    pub fn counts(&self) -> [u32; 5] {
+        let mut out = [0; 20];
         assert_eq!(check(&self.image, &mut out), 0);
         words(&out)
     }
@@ -174,7 +174,8 @@ impl Desk {
     }
 }
 
-pub fn words(bytes: &[u8]) -> [u32; 4] {
+/// The first words of `out`.
+pub fn words<const COUNT: usize>(bytes: &[u8]) -> [u32; COUNT] {
     let word = |at: usize| u32::from_le_bytes([0, 1, 2, 3].map(|n| bytes[4 * at + n]));
-    [0, 1, 2, 3].map(word)
+    std::array::from_fn(word)
 }

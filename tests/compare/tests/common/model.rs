@@ -209,7 +209,7 @@ impl Model {
         }
     }
 
-    fn put_words(&mut self, words: [usize; 4]) {
+    fn put_words<const COUNT: usize>(&mut self, words: [usize; COUNT]) {
         self.put_out(&words.map(|word| (word as u32).to_le_bytes()).concat());
     }
 
@@ -225,8 +225,10 @@ impl Model {
     fn check(&mut self) -> usize {
         let held = self.plan.files.iter().map(|file| file.clusters.len()).sum();
         let free = self.plan.free_clusters().len();
-        let aside = self.plan.kind.clusters() - free - held;
-        self.put_words([self.plan.files.len(), free, held, aside]);
+        let is_bad = |value: &&u16| **value == 0xFF7;
+        let bad = self.plan.values.iter().filter(is_bad).count();
+        let reserved = self.plan.kind.clusters() - free - held - bad;
+        self.put_words([self.plan.files.len(), free, held, bad, reserved]);
         0
     }
 
