@@ -99,7 +99,7 @@ def operators(module):
     return {sign: name for name in names for sign in name.split("_") if sign}
 
 
-def is_aside(thing):
+def is_apart(thing):
     """Whether it stands among the laws or the aids of the proofs."""
     return bool(re.search(r"/specs/(Laws|Aids)/", thing.path))
 
@@ -114,5 +114,5 @@ def reached(definitions, roots, unread):
         for used in sorted(definitions.uses(thing, thing in unread), key=lambda used: (used.path, used.name)):
             if used not in found:
                 found[used] = thing
-                waiting += [] if is_aside(used) else [used]
+                waiting += [] if is_apart(used) else [used]
     return found

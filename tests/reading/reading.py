@@ -52,7 +52,7 @@ class Reading:
         """The files whose definitions each file names, in what is read of it."""
         named = {}
         for thing in self.reached:
-            used = set() if reach.is_aside(thing) else self.definitions.uses(thing, thing in self.unread)
+            used = set() if reach.is_apart(thing) else self.definitions.uses(thing, thing in self.unread)
             named.setdefault(thing.path, set()).update(other.path for other in used if other.path != thing.path)
         return named
 
@@ -60,12 +60,12 @@ class Reading:
         """A definition is beside the laws and aids exactly where it must be read, and then READING.md cites it."""
         cited = {(path, name) for _, path, name in self.papers[READING].names}
         for item in self.definitions.items():
-            if not reach.is_aside(item):
+            if not reach.is_apart(item):
                 needless = f"{item.where()} is reached by no contract and no promise: it belongs in specs/Aids/"
                 self.tally.check(item in self.reached, needless)
         for thing, by in self.reached.items():
             named = f"{by.where() if by else 'a promise'} names {thing.where()}"
-            self.tally.check(not reach.is_aside(thing), f"{named}, so that it must be read, and is no aid and no law")
+            self.tally.check(not reach.is_apart(thing), f"{named}, so that it must be read, and is no aid and no law")
             is_cited = (thing.path, thing.name) in cited
             self.tally.check(is_cited, f"{thing.where()} must be read, and no row of {READING} cites it")
 

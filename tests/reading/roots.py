@@ -4,7 +4,7 @@ test means."""
 import re
 
 from papers import quoted
-from reach import is_aside
+from reach import is_apart
 from specs import Item
 from words import nested
 
@@ -76,7 +76,7 @@ def proved_by(definitions, module, law, folder):
     if words[0] not in module.imported or not {"→", "≡", "×"}.isdisjoint(words):
         return None
     item, _ = definitions.meaning(module, words[0])
-    return item if item and item.path.startswith(f"{folder}/") and not is_aside(item) else None
+    return item if item and item.path.startswith(f"{folder}/") and not is_apart(item) else None
 
 
 def theorems(definitions, paper, tally):

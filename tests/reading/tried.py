@@ -5,7 +5,7 @@ import re
 
 import page
 from papers import quoted
-from reach import Definitions, is_aside
+from reach import Definitions, is_apart
 from reading import ENUMS, HEADER, READING, UNIQUENESS, Reading
 from roots import TESTS
 from tree import Tree
@@ -177,7 +177,7 @@ def edits_of_code(found):
     yield "a needless definition", item.path, text, "'needless' in"
     call = found.calls[0]
     text = found.tree.text(call.path)
-    aid = next(item for item in found.definitions.items() if is_aside(item) and item.name not in text)
+    aid = next(item for item in found.definitions.items() if is_apart(item) and item.name not in text)
     crate, _, *module = aid.path.removesuffix(".antt").split("/")[1:]
     used = f"ghost use Rattle.{crate}.specs.{'.'.join(module)}.{{{aid.name}}};\n{text}"
     yield "an aid in a contract", call.path, in_contract(used, call, "⌜", f"⌜ {aid.name}"), f"{aid.where()}, so that"
