@@ -10,10 +10,6 @@ use Rattle.chains.specs.Sums.{tally}
 abbrev pub Link : ℕ → ℕ → Type 0
 Link last v = (2 ≤ v) × (v ≤ last)
 
--- "FF8 to FFF the end"
-abbrev pub End : ℕ → Type 0
-End v = (0xff8 ≤ v) × (v ≤ 0xfff)
-
 -- "FF7, a bad cluster"
 abbrev pub Bad : ℕ → Type 0
 Bad v = v ≡ 0xff7
@@ -21,6 +17,10 @@ Bad v = v ≡ 0xff7
 -- "FF0 to FF6, reserved"
 abbrev pub Reserved : ℕ → Type 0
 Reserved v = (0xff0 ≤ v) × (v ≤ 0xff6)
+
+-- "FF8 to FFF the end"
+abbrev pub End : ℕ → Type 0
+End v = (0xff8 ≤ v) × (v ≤ 0xfff)
 
 -- "a link or an end": the value of a cluster in a chain
 abbrev pub Used : ℕ → ℕ → Type 0
@@ -41,14 +41,14 @@ freeb v = eqb v 0
 unfoldable pub linkb : ℕ → ℕ → Bool
 linkb last v = leb 2 v && leb v last
 
-unfoldable pub endb : ℕ → Bool
-endb v = leb 0xff8 v && leb v 0xfff
-
 abbrev pub badb : ℕ → Bool
 badb v = eqb v 0xff7
 
 abbrev pub reservedb : ℕ → Bool
 reservedb v = leb 0xff0 v && leb v 0xff6
+
+unfoldable pub endb : ℕ → Bool
+endb v = leb 0xff8 v && leb v 0xfff
 
 -- "numbers of table values": of how many clusters the value passes a test
 unfoldable pub valueCount : (ℕ → Bool) → ℕ → (ℕ → ℕ) → ℕ

@@ -2,15 +2,15 @@
 use Prim.Native.Nat.{ℕ, _-_}
 use native.Mathlib.Omega.{arith}
 use mathlib.Core.Path.{_≡_, ap}
-use mathlib.Core.Logic.{_≢_, _⊎_, inl, inr}
-use mathlib.Core.Bool.{Bool, false, _||_}
+use mathlib.Core.Logic.{_≢_, _⊎_, _↔_, inl, inr}
+use mathlib.Core.Bool.{Bool, true, false, _||_}
 use Rattle.chains.specs.Aids.Tests.{Says}
 use Rattle.chains.specs.Sums.{bit}
 use Rattle.chains.specs.Aids.Sums.{sumClusters}
 use Rattle.chains.specs.Aids.Sizes.{Geometry}
 use Rattle.chains.specs.Values.{Bad, End, Link, Reserved, Used, Valid, bad, badb, endb, free, freeb, linkb, reserved, reservedb, used, valueCount}
 use Rattle.chains.specs.Aids.Values.{OutOfUse, passesAt}
-use Rattle.chains.specs.Laws.Tests.{false-says, says-and, says-eq, says-le, says-map, says-or, true-says}
+use Rattle.chains.specs.Laws.Tests.{false-says, says-and, says-eq, says-le, says-map, says-or, says-true, true-says}
 use Rattle.chains.specs.Laws.Sums.{tally-sum}
 
 pub says-link : (last v : ℕ) → Says (linkb last v) (Link last v)
@@ -43,6 +43,23 @@ says-valid last v = says-map to back (says-or (says-eq v 0) (says-or (says-link 
     back (used (inr x)) = inr (inr (inl x))
     back (bad x) = inr (inr (inr (inl x)))
     back (reserved x) = inr (inr (inr (inr x)))
+
+-- ---- each test and what it means
+
+pub free-means : (v : ℕ) → (freeb v ≡ true) ↔ (v ≡ 0)
+free-means v = (says-true (says-eq v 0), true-says (says-eq v 0))
+
+pub link-means : (last v : ℕ) → (linkb last v ≡ true) ↔ Link last v
+link-means last v = (says-true (says-link last v), true-says (says-link last v))
+
+pub end-means : (v : ℕ) → (endb v ≡ true) ↔ End v
+end-means v = (says-true (says-end v), true-says (says-end v))
+
+pub bad-means : (v : ℕ) → (badb v ≡ true) ↔ Bad v
+bad-means v = (says-true (says-bad v), true-says (says-bad v))
+
+pub reserved-means : (v : ℕ) → (reservedb v ≡ true) ↔ Reserved v
+reserved-means v = (says-true (says-reserved v), true-says (says-reserved v))
 
 -- no value is of two kinds
 
