@@ -8,18 +8,17 @@ use mathlib.Core.Path.{_≡_, ap}
 use lib.ListN.{length}
 use borrow.Author.Tests.{eq-eqb}
 use Rattle.chains.specs.Sums.{sum, bit}
-use Rattle.chains.specs.Values.{freeb, badb, reservedb, valueCount}
+use Rattle.chains.specs.Values.{freeb, valueCount}
 use Rattle.chains.specs.Aids.Values.{OutOfUse}
 use Rattle.chains.specs.Laws.Sums.{sum-cong, sum-one, sum-zero}
-use Rattle.chains.specs.Laws.Values.{free-one, count-sum, bad-out-of-use, reserved-out-of-use}
+use Rattle.chains.specs.Laws.Values.{free-one, count-sum}
 use Rattle.diskette.specs.Kinds.{named}
 use Rattle.diskette.specs.Aids.Usable.{Usable}
 use Rattle.diskette.specs.Places.{clusters, lastCluster}
 use Rattle.diskette.specs.declared.Kind.{Kind}
 use Rattle.diskette.specs.declared.WhichKind.the-variants.{Known}
-use Rattle.sound.specs.Counts.{freeOf, badOf, reservedOf}
+use Rattle.sound.specs.Counts.{freeOf}
 use Rattle.sound.specs.Files.{valueOf}
-use Rattle.sound.specs.Laws.Geometry.{geometry}
 use Rattle.formatting.specs.Format.{blank, formatted}
 use Rattle.formatting.specs.Laws.Blank.{blank-table, blank-bytes}
 use Rattle.formatting.specs.Laws.Sound.{blank-no-file, blank-on}
@@ -42,18 +41,13 @@ module _ (k : Kind) (u : Usable k) (named-so : named (k .byte) ≡ Known k) wher
       = sum-cong n _ _ (λ i h. free-one (valueOf k (blank k) (i + 2)) (blank-table k u (i + 2))) in
       omega (arith, count-sum freeb (lastCluster k) (valueOf k (blank k)), e, sum-one n)
 
-  blank-none : (t : ℕ → Bool) → OutOfUse (lastCluster k) t → valueCount t (lastCluster k) (valueOf k (blank k)) ≡ 0
+  -- none is bad, none reserved
+  pub blank-none : (t : ℕ → Bool) → OutOfUse (lastCluster k) t → valueCount t (lastCluster k) (valueOf k (blank k)) ≡ 0
   blank-none t o =
       let n : ℕ = lastCluster k - 1 in
       let e : sum n (λ i. bit (t (valueOf k (blank k) (i + 2)))) ≡ sum n (λ i. 0)
       = sum-cong n _ _ (λ i h. ap bit (o .not-free (valueOf k (blank k) (i + 2)) (blank-table k u (i + 2)))) in
       omega (arith, count-sum t (lastCluster k) (valueOf k (blank k)), e, sum-zero n)
-
-  pub blank-bad : badOf k (blank k) ≡ 0
-  blank-bad = blank-none badb (bad-out-of-use (geometry k u))
-
-  pub blank-reserved : reservedOf k (blank k) ≡ 0
-  blank-reserved = blank-none reservedb (reserved-out-of-use (geometry k u))
 
   -- what format makes of any image of that length
   pub formatted-blank : (img : List ℕ) → length img ≡ 512 * k .sectors → formatted (k .byte) img .image ≡ blank k

@@ -14,8 +14,10 @@ use Rattle.chains.specs.Aids.Put.{put}
 use Rattle.chains.specs.Write.{written}
 use Rattle.chains.specs.Laws.Put.{put-same, put-other}
 use Rattle.chains.specs.Sizes.{clustersFor}
+use Rattle.chains.specs.Values.{valueCount}
+use Rattle.chains.specs.Aids.Values.{OutOfUse}
 use Rattle.chains.specs.Laws.Sizes.{clusters-zero}
-use Rattle.diskette.specs.Places.{clusterBytes, rootEntries, slotAt}
+use Rattle.diskette.specs.Places.{clusterBytes, lastCluster, rootEntries, slotAt}
 use Rattle.diskette.specs.declared.Kind.{Kind}
 use Rattle.fields.specs.Fields.{timeOf, dateOf}
 use Rattle.names.specs.Reading.{nameGiven}
@@ -24,8 +26,8 @@ use Rattle.stamps.specs.declared.Packed.the-variants.{Words}
 use Rattle.search.specs.Search.{isFound}
 use Rattle.search.specs.declared.Found.{Found}
 use Rattle.search.specs.declared.Found.the-variants.{At, Nothing}
-use Rattle.sound.specs.Counts.{freeOf, badOf, reservedOf}
-use Rattle.sound.specs.Files.{IsFile}
+use Rattle.sound.specs.Counts.{freeOf}
+use Rattle.sound.specs.Files.{valueOf, IsFile}
 use Rattle.opened.specs.Places.{lowestUnused}
 use Rattle.opened.specs.Records.{withRecord, withPointer, withWritten, cleared}
 use Rattle.calls.specs.Outcome.{Outcome, outcome}
@@ -48,7 +50,7 @@ use Rattle.history.specs.Laws.Given.{given-create, given-write, given-cl
 use Rattle.history.specs.Laws.HasFiles.{HasFiles, GoodFile}
 use Rattle.history.specs.Laws.Meant.{means, for-new, reaches}
 use Rattle.history.specs.Laws.OneFile.{take-all, written-first}
-use Rattle.history.specs.Laws.OneSlot.{Stands, Makes, stands-step, others-step, free-step, bad-step, reserved-step}
+use Rattle.history.specs.Laws.OneSlot.{Stands, Makes, stands-step, others-step, free-step, out-of-use-step}
 use Rattle.history.specs.Laws.Room.{needed}
 use Rattle.history.specs.Laws.Stamped.{stamped-words, same-stamp}
 
@@ -205,19 +207,12 @@ module _ (k : Kind) (w : World) (fs : Files) (n free : ℕ) (x : HasFiles k w fs
       let b : needed k (put-file (archived attr) bs n) ≡ clustersFor (clusterBytes k) (length bs) = ap (needed k) (there (archived attr) bs) in
       omega (arith, e, a, b, free-wrote)
 
-  bad-closed : badOf k (world-closed .image) ≡ 0
-  bad-closed =
-      bad-step k world-wrote (put-file attr bs) (put-file (archived attr) bs) n slot stands-wrote (close 0 stamp) makes-closed
-      ∙ bad-step k world-created (put-file attr []) (put-file attr bs) n slot stands-created (write 0 bs) makes-wrote
-      ∙ bad-step k w fs (put-file attr []) n slot (x .stands) (create s attr stamp) makes-created
-      ∙ x .bad-none
-
-  reserved-closed : reservedOf k (world-closed .image) ≡ 0
-  reserved-closed =
-      reserved-step k world-wrote (put-file attr bs) (put-file (archived attr) bs) n slot stands-wrote (close 0 stamp) makes-closed
-      ∙ reserved-step k world-created (put-file attr []) (put-file attr bs) n slot stands-created (write 0 bs) makes-wrote
-      ∙ reserved-step k w fs (put-file attr []) n slot (x .stands) (create s attr stamp) makes-created
-      ∙ x .reserved-none
+  out-of-use-closed : (t : ℕ → Bool) → OutOfUse (lastCluster k) t → valueCount t (lastCluster k) (valueOf k (world-closed .image)) ≡ 0
+  out-of-use-closed t o =
+      out-of-use-step k world-wrote (put-file attr bs) (put-file (archived attr) bs) n slot stands-wrote (close 0 stamp) makes-closed t o
+      ∙ out-of-use-step k world-created (put-file attr []) (put-file attr bs) n slot stands-created (write 0 bs) makes-wrote t o
+      ∙ out-of-use-step k w fs (put-file attr []) n slot (x .stands) (create s attr stamp) makes-created t o
+      ∙ x .out-of-use-none t o
 
   -- its stamp is there, and those of the others stay
   pub file-stamp : HasStamp k (world-closed .image) n stamp
@@ -255,7 +250,6 @@ module _ (k : Kind) (w : World) (fs : Files) (n free : ℕ) (x : HasFiles k w fs
       | no d ↦ let y = x .below t (omega arith) in (y .0, put-other fs n (some (file name (archived attr) bs)) t d ∙ y .1)
     ];
     free-are = omega (arith, free-closed);
-    bad-none = bad-closed;
-    reserved-none = reserved-closed;
+    out-of-use-none = out-of-use-closed;
     table = table-closed;
   }

@@ -2,14 +2,17 @@
 use Prim.Native.Nat.{ℕ, _-_, _*_, _≤_, _<_}
 use native.Mathlib.Omega.{arith}
 use native.Mathlib.Decide.{ℕ-discrete}
-use mathlib.Core.Bool.{true, false}
+use mathlib.Core.Bool.{Bool, true, false}
 use mathlib.Core.List.{List}
 use mathlib.Core.Logic.{_≢_}
 use mathlib.Core.Option.{some}
 use mathlib.Core.Path.{_≡_, _∙_, subst}
 use lib.ListN.{length, replicate}
 use Rattle.image.specs.Bytes.{Bytes}
-use Rattle.diskette.specs.Places.{clusterBytes, clusters, rootEntries, slotAt}
+use Rattle.chains.specs.Values.{badb, reservedb, valueCount}
+use Rattle.chains.specs.Aids.Values.{OutOfUse}
+use Rattle.chains.specs.Laws.Values.{bad-out-of-use, reserved-out-of-use}
+use Rattle.diskette.specs.Places.{clusterBytes, clusters, lastCluster, rootEntries, slotAt}
 use Rattle.diskette.specs.declared.Kind.{Kind}
 use Rattle.directory.specs.Slots.{NeverUsedAt}
 use Rattle.names.specs.Reading.{nameGiven}
@@ -17,9 +20,12 @@ use Rattle.stamps.specs.Stamps.{packed}
 use Rattle.stamps.specs.declared.Stamp.{Stamp}
 use Rattle.stamps.specs.declared.Packed.the-variants.{Words}
 use Rattle.sound.specs.Counts.{fileCount, freeOf, heldOf, badOf, reservedOf}
+use Rattle.sound.specs.Files.{valueOf}
 use Rattle.sound.specs.Judged.{checkOf}
+use Rattle.sound.specs.Laws.Geometry.{geometry}
 use Rattle.sound.specs.declared.Verdict.the-variants.{Sound}
 use Rattle.calls.specs.Refusals.{badAttr}
+use Rattle.calls.specs.Laws.Ready.{on-usable}
 use Rattle.changes.specs.Files.{File, Files, ShowsAt}
 use Rattle.history.specs.World.{World}
 use Rattle.history.specs.Laws.Begins.{on}
@@ -34,8 +40,7 @@ pub record HasFiles (k : Kind) (w : World) (fs : Files) (n free : ℕ) : Type 0 
   pub never : NeverUsedAt (w .image) (slotAt k n)
   pub below : (t : ℕ) → t < n → (f : File) × (fs t ≡ some f)
   pub free-are : freeOf k (w .image) ≡ free
-  pub bad-none : badOf k (w .image) ≡ 0
-  pub reserved-none : reservedOf k (w .image) ≡ 0
+  pub out-of-use-none : (t : ℕ → Bool) → OutOfUse (lastCluster k) t → valueCount t (lastCluster k) (valueOf k (w .image)) ≡ 0
   pub table : w .table ≡ replicate 16 0
 
 -- what check answers of it
@@ -48,8 +53,11 @@ verdict-of k w fs n free x h =
       | yes e ↦ rw e (x .never)
       | no d ↦ x .stands .above t (omega arith) (f .below)
     ])) in
-    let held : heldOf k (w .image) ≡ clusters k - free = omega (arith, total-of k w (x .stands .begins), x .free-are, x .bad-none, x .reserved-none) in
-    sound-verdict k (w .image) (on (x .stands .begins)) ∙ rw (files, x .free-are, held, x .bad-none, x .reserved-none)
+    let G = geometry k (on-usable (w .image) k (on (x .stands .begins))) in
+    let bad : badOf k (w .image) ≡ 0 = x .out-of-use-none badb (bad-out-of-use G) in
+    let reserved : reservedOf k (w .image) ≡ 0 = x .out-of-use-none reservedb (reserved-out-of-use G) in
+    let held : heldOf k (w .image) ≡ clusters k - free = omega (arith, total-of k w (x .stands .begins), x .free-are, bad, reserved) in
+    sound-verdict k (w .image) (on (x .stands .begins)) ∙ rw (files, x .free-are, held, bad, reserved)
 
 -- what is given for a new file: the calls have no reason to refuse it
 pub record GoodFile (k : Kind) (fs : Files) (free : ℕ) (s : List ℕ) (attr : ℕ) (bs : List ℕ) (stamp : Stamp) : Type 0 where

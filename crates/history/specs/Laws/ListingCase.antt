@@ -31,7 +31,7 @@ use Rattle.changes.specs.Files.{File, file, Files, ShowsAt}
 use Rattle.history.specs.Aids.Ours.{run}
 use Rattle.history.specs.ListingCase.{tareGiven, tareName, dayGiven, dayName, timeThen, fileCalls, listingCalls, listingFiles, ListingEnds, ListingCase}
 use Rattle.history.specs.World.{World, world}
-use Rattle.history.specs.Laws.Blank.{blank-begins, blank-shows, blank-free, blank-bad, blank-reserved, formatted-blank}
+use Rattle.history.specs.Laws.Blank.{blank-begins, blank-shows, blank-free, blank-none, formatted-blank}
 use Rattle.history.specs.Laws.FileMade.{file-stamp, other-stamp, file-answers, file-made}
 use Rattle.history.specs.Laws.HasFiles.{HasFiles, GoodFile, verdict-of}
 
@@ -92,8 +92,7 @@ begins = record {
   never = blank-slot kindFE usable 0 (omega arith);
   below = λ t h. absurd (omega arith);
   free-are = blank-free kindFE usable refl ∙ all-free;
-  bad-none = blank-bad kindFE usable refl;
-  reserved-none = blank-reserved kindFE usable refl;
+  out-of-use-none = blank-none kindFE usable refl;
   table = refl;
 }
 

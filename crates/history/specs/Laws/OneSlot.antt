@@ -1,15 +1,19 @@
 -- One call of which it is known which slot it names, on a volume whose slots above it were never used.
 use Prim.Native.Nat.{ℕ, _+_, _<_}
 use native.Mathlib.Omega.{arith}
+use mathlib.Core.Bool.{Bool}
 use mathlib.Core.Logic.{_≢_}
 use mathlib.Core.Path.{_≡_, refl, _∙_}
-use Rattle.diskette.specs.Places.{rootEntries, slotAt}
+use Rattle.chains.specs.Values.{valueCount}
+use Rattle.chains.specs.Aids.Values.{OutOfUse}
+use Rattle.diskette.specs.Places.{lastCluster, rootEntries, slotAt}
 use Rattle.diskette.specs.declared.Kind.{Kind}
 use Rattle.directory.specs.Entries.{SameBytes}
 use Rattle.directory.specs.Aids.Entries.{SameFields}
 use Rattle.directory.specs.Slots.{NeverUsedAt}
 use Rattle.directory.specs.Laws.Entries.{same-fields}
-use Rattle.sound.specs.Counts.{freeOf, badOf, reservedOf}
+use Rattle.sound.specs.Counts.{freeOf}
+use Rattle.sound.specs.Files.{valueOf}
 use Rattle.calls.specs.Laws.Files.{slot-within}
 use Rattle.changes.specs.Files.{Files, Shows}
 use Rattle.history.specs.Aids.Ours.{step}
@@ -21,7 +25,7 @@ use Rattle.history.specs.Laws.Begins.{on}
 use Rattle.history.specs.Laws.Came.{came-begins, came-shows, came-entries, after-does}
 use Rattle.history.specs.Laws.EveryCall.{came}
 use Rattle.history.specs.Laws.OneNamed.{names-one}
-use Rattle.history.specs.Laws.Room.{needed, free-after, bad-after, reserved-after}
+use Rattle.history.specs.Laws.Room.{needed, free-after, out-of-use-after}
 
 -- the volume has these files, and the slots above n were never used
 pub record Stands (k : Kind) (w : World) (fs : Files) (n : ℕ) : Type 0 where
@@ -63,8 +67,5 @@ module _ (k : Kind) (w : World) (fs gs : Files) (n : ℕ) (below : n < rootEntri
   pub free-step : freeOf k (step w c .image) + needed k (gs n) ≡ freeOf k (w .image) + needed k (fs n)
   free-step = free-after k w c (x .begins) comes n below (y .does .named) (fs n) (gs n) (x .shows n) (stands-step .shows n)
 
-  pub bad-step : badOf k (step w c .image) ≡ badOf k (w .image)
-  bad-step = bad-after k w c (x .begins) comes
-
-  pub reserved-step : reservedOf k (step w c .image) ≡ reservedOf k (w .image)
-  reserved-step = reserved-after k w c (x .begins) comes
+  pub out-of-use-step : (t : ℕ → Bool) → OutOfUse (lastCluster k) t → valueCount t (lastCluster k) (valueOf k (step w c .image)) ≡ valueCount t (lastCluster k) (valueOf k (w .image))
+  out-of-use-step = out-of-use-after k w c (x .begins) comes

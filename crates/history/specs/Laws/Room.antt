@@ -86,7 +86,7 @@ module _ (k : Kind) (w : World) (c : Call) (b : Begins k w) (x : Came k w c) whe
         ∙ ap (λ (n : ℕ). freeOf k (w .image) + n) (chain-needed k (w .image) (on b) s h o before)
 
   -- clusters out of use stay as many
-  out-of-use-after : (t : ℕ → Bool) → OutOfUse (lastCluster k) t → valueCount t (lastCluster k) (valueOf k (step w c .image)) ≡ valueCount t (lastCluster k) (valueOf k (w .image))
+  pub out-of-use-after : (t : ℕ → Bool) → OutOfUse (lastCluster k) t → valueCount t (lastCluster k) (valueOf k (step w c .image)) ≡ valueCount t (lastCluster k) (valueOf k (w .image))
   out-of-use-after t o = by x
     where
       count : List ℕ → ℕ
