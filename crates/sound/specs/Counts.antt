@@ -20,15 +20,19 @@ isFile k l s = isPlain (standingOf l (slotAt k s))
 abbrev pub fileCount : Kind → List ℕ → ℕ
 fileCount k l = tally (isFile k l) (rootEntries k) 0
 
+-- of how many clusters of a volume the value passes a test
+abbrev pub clustersWith : (ℕ → Bool) → Kind → List ℕ → ℕ
+clustersWith t k l = valueCount t (lastCluster k) (valueOf k l)
+
 -- free, bad and reserved "are numbers of table values"
 abbrev pub freeOf : Kind → List ℕ → ℕ
-freeOf k l = valueCount freeb (lastCluster k) (valueOf k l)
+freeOf k l = clustersWith freeb k l
 
 abbrev pub badOf : Kind → List ℕ → ℕ
-badOf k l = valueCount badb (lastCluster k) (valueOf k l)
+badOf k l = clustersWith badb k l
 
 abbrev pub reservedOf : Kind → List ℕ → ℕ
-reservedOf k l = valueCount reservedb (lastCluster k) (valueOf k l)
+reservedOf k l = clustersWith reservedb k l
 
 -- "size divided by cluster bytes, rounded up", of the file in slot s; nothing where there is none
 unfoldable pub heldBy : Kind → List ℕ → ℕ → ℕ

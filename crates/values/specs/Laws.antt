@@ -1,3 +1,4 @@
 -- The laws of the definitions beside this folder.
 pub mod Bits
 pub mod Values
+pub mod Meanings

@@ -1,5 +1,5 @@
 -- The laws of the definitions beside this folder.
-pub mod Meanings
+pub mod Value
 pub mod Paths
 pub mod WalkTurns
 pub mod Tails

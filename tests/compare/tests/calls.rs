@@ -2,7 +2,7 @@
 
 mod common;
 
-use common::{Desk, EVENING};
+use common::{expect_words, Desk, EVENING};
 use compare::volume::{entry, format, free_space, open, view, view_number};
 
 /// A FE volume with a file LONG of 1,025 bytes in slot 0, all closed.
@@ -399,15 +399,7 @@ fn free_space_puts_four_words() {
     let mut desk = desk();
     desk.set_value(10, 0xFF7);
     desk.set_value(11, 0xFF0);
-    let words = [308, 313, 512, 1].map(u32::to_le_bytes).concat();
-    for length in 0..=24 {
-        let mut out = [7; 24];
-        assert_eq!(free_space(&desk.image, &mut out[..length]), 308);
-        let put = if length < 16 { &[] } else { &words[..] };
-        let (front, rest) = out.split_at(put.len());
-        assert_eq!(front, put, "out of {length} bytes");
-        assert!(rest.iter().all(|&byte| byte == 7), "out of {length} bytes");
-    }
+    expect_words(&[308, 313, 512, 1], 308, |out| free_space(&desk.image, out));
 }
 
 #[test]

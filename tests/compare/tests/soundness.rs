@@ -2,7 +2,7 @@
 
 mod common;
 
-use common::{halves, Desk};
+use common::{expect_words, halves, Desk};
 use compare::volume::kind::{Kind, KINDS};
 use compare::volume::table::{is_bad, is_end, is_reserved};
 use compare::volume::{check, check_system};
@@ -240,16 +240,8 @@ fn out_is_filled_only_where_it_is_long_enough() {
     for (cluster, value) in [(10, 0xFF7), (11, 0xFF0), (12, 0xFF6)] {
         desk.set_value(cluster, value);
     }
-    let counts = [2, 306, 4, 1, 2].map(u32::to_le_bytes).concat();
     for check in CHECKS {
-        for length in 0..=24 {
-            let mut out = [7; 24];
-            assert_eq!(check(&desk.image, &mut out[..length]), 0);
-            let put = if length < 20 { &[] } else { &counts[..] };
-            let (front, rest) = out.split_at(put.len());
-            assert_eq!(front, put, "out of {length} bytes");
-            assert!(rest.iter().all(|&byte| byte == 7), "out of {length} bytes");
-        }
+        expect_words(&[2, 306, 4, 1, 2], 0, |out| check(&desk.image, out));
     }
 }
 

@@ -3,7 +3,7 @@ use Prim.Native.Nat.{ℕ, _+_, _-_, _≤_, _<_}
 use mathlib.Core.Bool.{Bool, true, false, _&&_, _||_}
 use mathlib.Core.List.{List}
 use mathlib.Core.Logic.{_≢_}
-use mathlib.Core.Path.{_≡_, refl, sym, ap}
+use mathlib.Core.Path.{_≡_, refl, sym, _∙_}
 use lib.ListN.{getD}
 use borrow.Author.Tests.{eq-eqb, ne-eqb}
 use Rattle.chains.specs.Aids.Check.{inTwo, lost}
@@ -13,10 +13,9 @@ use Rattle.search.specs.Laws.Turns.{lowest-hit, lowest-miss}
 use Rattle.search.specs.declared.Found.{Found}
 use Rattle.search.specs.declared.Found.the-variants.{At}
 use Rattle.values.specs.Values.{meaningOf}
+use Rattle.values.specs.Laws.Meanings.{isEnd, isNext, end-said, link-said}
 use Rattle.values.specs.declared.Meaning.{Meaning}
-use Rattle.values.specs.declared.Meaning.the-variants.{Free, Next, Bad, Reserved, End, NoneOfThese}
 use Rattle.table.specs.Entries.{tableOf}
-use Rattle.walks.specs.Laws.Meanings.{isEnd, isNext, end-said, link-said}
 
 -- ---- finding 6
 
@@ -41,24 +40,6 @@ module _ (last : ℕ) (l m : List ℕ) (c : ℕ) where
       no false = refl
 
   module _ (v : ℕ) (g : Meaning) (z : getD m c 0 ≡ 0) (low : last ≤ 4079) (r : v ≡ tableOf last l c) (small : v < 4096) (e : g ≡ meaningOf last v) where
-    by : (a b : Bool) → isNext g ≡ a → isEnd g ≡ b → ((a || b) && true) ≡ lost last (tableOf last l) m c
+    pub lost-by : (w : Meaning) → g ≡ w → (b : Bool) → b ≡ ((isNext w || isEnd w) && true) → b ≡ lost last (tableOf last l) m c
     unfolding lost
-    by a b x y = rw (sym r, eq-eqb (getD m c 0) 0 z, link-said last v low small g e, end-said last v low small g e, x, y)
-
-    pub lost-free : g ≡ Free → false ≡ lost last (tableOf last l) m c
-    lost-free t = by false false (ap isNext t) (ap isEnd t)
-
-    pub lost-next : (n : ℕ) → g ≡ Next n → true ≡ lost last (tableOf last l) m c
-    lost-next n t = by true false (ap isNext t) (ap isEnd t)
-
-    pub lost-bad : g ≡ Bad → false ≡ lost last (tableOf last l) m c
-    lost-bad t = by false false (ap isNext t) (ap isEnd t)
-
-    pub lost-reserved : g ≡ Reserved → false ≡ lost last (tableOf last l) m c
-    lost-reserved t = by false false (ap isNext t) (ap isEnd t)
-
-    pub lost-end : g ≡ End → true ≡ lost last (tableOf last l) m c
-    lost-end t = by false true (ap isNext t) (ap isEnd t)
-
-    pub lost-no-value : g ≡ NoneOfThese → false ≡ lost last (tableOf last l) m c
-    lost-no-value t = by false false (ap isNext t) (ap isEnd t)
+    lost-by w x b y = y ∙ rw (sym r, eq-eqb (getD m c 0) 0 z, link-said last v low small g e, end-said last v low small g e, x)

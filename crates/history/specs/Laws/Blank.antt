@@ -8,7 +8,7 @@ use mathlib.Core.Path.{_≡_, ap}
 use lib.ListN.{length}
 use borrow.Author.Tests.{eq-eqb}
 use Rattle.chains.specs.Sums.{sum, bit}
-use Rattle.chains.specs.Values.{freeb, valueCount}
+use Rattle.chains.specs.Values.{freeb}
 use Rattle.chains.specs.Aids.Values.{OutOfUse}
 use Rattle.chains.specs.Laws.Sums.{sum-cong, sum-one, sum-zero}
 use Rattle.chains.specs.Laws.Values.{free-one, count-sum}
@@ -17,7 +17,7 @@ use Rattle.diskette.specs.Aids.Usable.{Usable}
 use Rattle.diskette.specs.Places.{clusters, lastCluster}
 use Rattle.diskette.specs.declared.Kind.{Kind}
 use Rattle.diskette.specs.declared.WhichKind.the-variants.{Known}
-use Rattle.sound.specs.Counts.{freeOf}
+use Rattle.sound.specs.Counts.{clustersWith, freeOf}
 use Rattle.sound.specs.Files.{valueOf}
 use Rattle.formatting.specs.Format.{blank, formatted}
 use Rattle.formatting.specs.Laws.Blank.{blank-table, blank-bytes}
@@ -42,7 +42,7 @@ module _ (k : Kind) (u : Usable k) (named-so : named (k .byte) ≡ Known k) wher
       omega (arith, count-sum freeb (lastCluster k) (valueOf k (blank k)), e, sum-one n)
 
   -- none is bad, none reserved
-  pub blank-none : (t : ℕ → Bool) → OutOfUse (lastCluster k) t → valueCount t (lastCluster k) (valueOf k (blank k)) ≡ 0
+  pub blank-none : (t : ℕ → Bool) → OutOfUse (lastCluster k) t → clustersWith t k (blank k) ≡ 0
   blank-none t o =
       let n : ℕ = lastCluster k - 1 in
       let e : sum n (λ i. bit (t (valueOf k (blank k) (i + 2)))) ≡ sum n (λ i. 0)

@@ -14,7 +14,6 @@ use Rattle.chains.specs.Aids.Put.{put}
 use Rattle.chains.specs.Write.{written}
 use Rattle.chains.specs.Laws.Put.{put-same, put-other}
 use Rattle.chains.specs.Sizes.{clustersFor}
-use Rattle.chains.specs.Values.{valueCount}
 use Rattle.chains.specs.Aids.Values.{OutOfUse}
 use Rattle.chains.specs.Laws.Sizes.{clusters-zero}
 use Rattle.diskette.specs.Places.{clusterBytes, lastCluster, rootEntries, slotAt}
@@ -26,8 +25,8 @@ use Rattle.stamps.specs.declared.Packed.the-variants.{Words}
 use Rattle.search.specs.Search.{isFound}
 use Rattle.search.specs.declared.Found.{Found}
 use Rattle.search.specs.declared.Found.the-variants.{At, Nothing}
-use Rattle.sound.specs.Counts.{freeOf}
-use Rattle.sound.specs.Files.{valueOf, IsFile}
+use Rattle.sound.specs.Counts.{clustersWith, freeOf}
+use Rattle.sound.specs.Files.{IsFile}
 use Rattle.opened.specs.Places.{lowestUnused}
 use Rattle.opened.specs.Records.{withRecord, withPointer, withWritten, cleared}
 use Rattle.calls.specs.Outcome.{Outcome, outcome}
@@ -207,7 +206,7 @@ module _ (k : Kind) (w : World) (fs : Files) (n free : ℕ) (x : HasFiles k w fs
       let b : needed k (put-file (archived attr) bs n) ≡ clustersFor (clusterBytes k) (length bs) = ap (needed k) (there (archived attr) bs) in
       omega (arith, e, a, b, free-wrote)
 
-  out-of-use-closed : (t : ℕ → Bool) → OutOfUse (lastCluster k) t → valueCount t (lastCluster k) (valueOf k (world-closed .image)) ≡ 0
+  out-of-use-closed : (t : ℕ → Bool) → OutOfUse (lastCluster k) t → clustersWith t k (world-closed .image) ≡ 0
   out-of-use-closed t o =
       out-of-use-step k world-wrote (put-file attr bs) (put-file (archived attr) bs) n slot stands-wrote (close 0 stamp) makes-closed t o
       ∙ out-of-use-step k world-created (put-file attr []) (put-file attr bs) n slot stands-created (write 0 bs) makes-wrote t o

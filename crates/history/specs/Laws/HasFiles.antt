@@ -9,7 +9,7 @@ use mathlib.Core.Option.{some}
 use mathlib.Core.Path.{_≡_, _∙_, subst}
 use lib.ListN.{length, replicate}
 use Rattle.image.specs.Bytes.{Bytes}
-use Rattle.chains.specs.Values.{badb, reservedb, valueCount}
+use Rattle.chains.specs.Values.{badb, reservedb}
 use Rattle.chains.specs.Aids.Values.{OutOfUse}
 use Rattle.chains.specs.Laws.Values.{bad-out-of-use, reserved-out-of-use}
 use Rattle.diskette.specs.Places.{clusterBytes, clusters, lastCluster, rootEntries, slotAt}
@@ -19,8 +19,7 @@ use Rattle.names.specs.Reading.{nameGiven}
 use Rattle.stamps.specs.Stamps.{packed}
 use Rattle.stamps.specs.declared.Stamp.{Stamp}
 use Rattle.stamps.specs.declared.Packed.the-variants.{Words}
-use Rattle.sound.specs.Counts.{fileCount, freeOf, heldOf, badOf, reservedOf}
-use Rattle.sound.specs.Files.{valueOf}
+use Rattle.sound.specs.Counts.{clustersWith, fileCount, freeOf, heldOf, badOf, reservedOf}
 use Rattle.sound.specs.Judged.{checkOf}
 use Rattle.sound.specs.Laws.Geometry.{geometry}
 use Rattle.sound.specs.declared.Verdict.the-variants.{Sound}
@@ -40,7 +39,7 @@ pub record HasFiles (k : Kind) (w : World) (fs : Files) (n free : ℕ) : Type 0 
   pub never : NeverUsedAt (w .image) (slotAt k n)
   pub below : (t : ℕ) → t < n → (f : File) × (fs t ≡ some f)
   pub free-are : freeOf k (w .image) ≡ free
-  pub out-of-use-none : (t : ℕ → Bool) → OutOfUse (lastCluster k) t → valueCount t (lastCluster k) (valueOf k (w .image)) ≡ 0
+  pub out-of-use-none : (t : ℕ → Bool) → OutOfUse (lastCluster k) t → clustersWith t k (w .image) ≡ 0
   pub table : w .table ≡ replicate 16 0
 
 -- what check answers of it

@@ -4,7 +4,6 @@ use native.Mathlib.Omega.{arith}
 use mathlib.Core.Bool.{Bool}
 use mathlib.Core.Logic.{_≢_}
 use mathlib.Core.Path.{_≡_, refl, _∙_}
-use Rattle.chains.specs.Values.{valueCount}
 use Rattle.chains.specs.Aids.Values.{OutOfUse}
 use Rattle.diskette.specs.Places.{lastCluster, rootEntries, slotAt}
 use Rattle.diskette.specs.declared.Kind.{Kind}
@@ -12,8 +11,7 @@ use Rattle.directory.specs.Entries.{SameBytes}
 use Rattle.directory.specs.Aids.Entries.{SameFields}
 use Rattle.directory.specs.Slots.{NeverUsedAt}
 use Rattle.directory.specs.Laws.Entries.{same-fields}
-use Rattle.sound.specs.Counts.{freeOf}
-use Rattle.sound.specs.Files.{valueOf}
+use Rattle.sound.specs.Counts.{clustersWith, freeOf}
 use Rattle.calls.specs.Laws.Files.{slot-within}
 use Rattle.changes.specs.Files.{Files, Shows}
 use Rattle.history.specs.Aids.Ours.{step}
@@ -67,5 +65,5 @@ module _ (k : Kind) (w : World) (fs gs : Files) (n : ℕ) (below : n < rootEntri
   pub free-step : freeOf k (step w c .image) + needed k (gs n) ≡ freeOf k (w .image) + needed k (fs n)
   free-step = free-after k w c (x .begins) comes n below (y .does .named) (fs n) (gs n) (x .shows n) (stands-step .shows n)
 
-  pub out-of-use-step : (t : ℕ → Bool) → OutOfUse (lastCluster k) t → valueCount t (lastCluster k) (valueOf k (step w c .image)) ≡ valueCount t (lastCluster k) (valueOf k (w .image))
+  pub out-of-use-step : (t : ℕ → Bool) → OutOfUse (lastCluster k) t → clustersWith t k (step w c .image) ≡ clustersWith t k (w .image)
   out-of-use-step = out-of-use-after k w c (x .begins) comes

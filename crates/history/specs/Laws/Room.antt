@@ -7,7 +7,7 @@ use mathlib.Core.Path.{_≡_, sym, ap, _∙_, subst}
 use lib.ListN.{length}
 use Rattle.chains.specs.Aids.Holders.{Holder, Owns}
 use Rattle.chains.specs.Sizes.{clustersFor}
-use Rattle.chains.specs.Values.{badb, reservedb, valueCount}
+use Rattle.chains.specs.Values.{badb, reservedb}
 use Rattle.chains.specs.Aids.Values.{OutOfUse}
 use Rattle.chains.specs.Laws.Holders.{owns-same}
 use Rattle.chains.specs.Laws.ReplaceCounts.{replace-free, replace-out-of-use}
@@ -15,7 +15,7 @@ use Rattle.chains.specs.Laws.Values.{bad-out-of-use, reserved-out-of-use}
 use Rattle.diskette.specs.Places.{clusterBytes, lastCluster, rootEntries, slotAt}
 use Rattle.diskette.specs.declared.Kind.{Kind}
 use Rattle.chaincheck.specs.Aids.Entries.{holderAt}
-use Rattle.sound.specs.Counts.{freeOf, badOf, reservedOf}
+use Rattle.sound.specs.Counts.{clustersWith, freeOf, badOf, reservedOf}
 use Rattle.sound.specs.Files.{valueOf, IsFile}
 use Rattle.sound.specs.Aids.Holders.{rootHolders, rootChains}
 use Rattle.sound.specs.Laws.Geometry.{geometry}
@@ -86,15 +86,12 @@ module _ (k : Kind) (w : World) (c : Call) (b : Begins k w) (x : Came k w c) whe
         ∙ ap (λ (n : ℕ). freeOf k (w .image) + n) (chain-needed k (w .image) (on b) s h o before)
 
   -- clusters out of use stay as many
-  pub out-of-use-after : (t : ℕ → Bool) → OutOfUse (lastCluster k) t → valueCount t (lastCluster k) (valueOf k (step w c .image)) ≡ valueCount t (lastCluster k) (valueOf k (w .image))
+  pub out-of-use-after : (t : ℕ → Bool) → OutOfUse (lastCluster k) t → clustersWith t k (step w c .image) ≡ clustersWith t k (w .image)
   out-of-use-after t o = by x
     where
-      count : List ℕ → ℕ
-      count l = valueCount t (lastCluster k) (valueOf k l)
-
-      by : Came k w c → count (step w c .image) ≡ count (w .image)
-      by (idle q e) = ap count e
-      by (stays s d e q) = ap count e
+      by : Came k w c → clustersWith t k (step w c .image) ≡ clustersWith t k (w .image)
+      by (idle q e) = ap (clustersWith t k) e
+      by (stays s d e q) = ap (clustersWith t k) e
       by (changes s ds d y) =
           replace-out-of-use (geometry k (on-usable (w .image) k (on b))) (valueOf k (w .image)) (valueOf k (step w c .image))
           (rootHolders k (w .image)) (rootChains k (w .image)) (on-theory k (w .image) (on b)) (slotAt k s)

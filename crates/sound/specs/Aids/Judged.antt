@@ -15,7 +15,6 @@ use Rattle.slotcheck.specs.Aids.Slots.{badSlotAt}
 use Rattle.chaincheck.specs.Aids.Entries.{holderAt, entriesOf, badChainSlot}
 use Rattle.sound.specs.Files.{valueOf}
 use Rattle.sound.specs.Counts.{countsOf, fileCount, heldOf}
-use Rattle.sound.specs.declared.Counts.{Counts}
 use Rattle.sound.specs.declared.Verdict.{Verdict}
 use Rattle.sound.specs.declared.Verdict.the-variants.{Finding, Sound}
 

@@ -2,7 +2,7 @@
 use borrow.Author.Needs.{needs}
 use mathlib.Core.Logic.{⊎-elim}
 use Prim.Native.Nat.{_-_}
-use Rattle.tablecheck.specs.Laws.Tables.{Met, met-start, met-free, met-bad, met-reserved, met-none, met-next, met-end, met-all}
+use Rattle.tablecheck.specs.Laws.Tables.{Met, met-start, met-on, met-none, met-all}
 use Rattle.tablecheck.proofs.take_census.Statement.{statement}
 use Rattle.tablecheck.proofs.take_census.Tie as tie
 
@@ -64,8 +64,8 @@ loop-again : tie.Need-loop-again Inv-loop μ-loop
 loop-again c =
     let bytes = c .before .before .before .before .before .shared-slice-known .given in
     ⊎-elim
-    (λ w. search (met-free, bytes))
-    (⊎-elim (λ w. search (met-bad, bytes)) (⊎-elim (λ w. search (met-reserved, bytes)) (⊎-elim (λ w. search (met-next, bytes)) (λ w. search (met-end, bytes)))))
+    (λ w. search (needs, met-on, bytes))
+    (⊎-elim (λ w. search (needs, met-on, bytes)) (⊎-elim (λ w. search (needs, met-on, bytes)) (⊎-elim (λ w. search (needs, met-on, bytes)) (λ w. search (needs, met-on, bytes)))))
     (c .match .came)
 
 returns-2 : tie.Need-returns-2 Inv-loop μ-loop

@@ -3,9 +3,9 @@ use Prim.Native.Nat.{ℕ, zero, suc, _+_, _*_, _-_, _/_, _%_, _≤_, _<_}
 use native.Mathlib.Omega.{arith}
 use mir.Val.{Fits}
 use mir.Syntax.{w8}
-use mathlib.Core.Bool.{Bool, true, false, _||_, not}
+use mathlib.Core.Bool.{Bool, true, false, not}
 use mathlib.Core.List.{List}
-use mathlib.Core.Logic.{_≢_, inl, inr}
+use mathlib.Core.Logic.{_≢_}
 use mathlib.Core.Path.{_≡_, refl, sym, ap, _∙_}
 use lib.Dec.{eqb}
 use lib.ListN.{getD}
@@ -13,11 +13,10 @@ use borrow.Author.Tests.{eqb-true, eq-eqb, ne-eqb}
 use Rattle.image.specs.Bytes.{Bytes}
 use Rattle.image.specs.Numbers.{number}
 use Rattle.chains.specs.Aids.Check.{noValue}
-use Rattle.chains.specs.Sums.{tally, bit}
-use Rattle.chains.specs.Values.{freeb, linkb, endb, badb, reservedb, Valid, free, used, bad, reserved, valueCount}
+use Rattle.chains.specs.Sums.{tally}
+use Rattle.chains.specs.Values.{freeb, badb, reservedb, valueCount}
 use Rattle.chains.specs.Aids.Values.{passesAt}
-use Rattle.chains.specs.Laws.Tests.{says-not, true-says, false-says, clash}
-use Rattle.chains.specs.Laws.Values.{says-valid, says-bad, says-reserved}
+use Rattle.chains.specs.Laws.Tests.{clash}
 use Rattle.chains.specs.Laws.TallyTurns.{tally-hit, tally-miss, tally-end}
 use Rattle.chains.specs.Laws.ClusterLoops.{lowest-start, count-start}
 use Rattle.search.specs.Search.{lowest}
@@ -25,10 +24,9 @@ use Rattle.search.specs.Laws.Turns.{lowest-hit, lowest-miss, lowest-done}
 use Rattle.search.specs.declared.Found.{Found}
 use Rattle.search.specs.declared.Found.the-variants.{At, Nothing}
 use Rattle.values.specs.Values.{meaningOf}
-use Rattle.values.specs.Values as values
 use Rattle.values.specs.declared.Meaning.{Meaning}
-use Rattle.values.specs.declared.Meaning.the-variants.{Free, Next, Bad, Reserved, End, NoneOfThese}
-use Rattle.values.specs.Laws.Values.{meaning-is}
+use Rattle.values.specs.declared.Meaning.the-variants.{NoneOfThese}
+use Rattle.values.specs.Laws.Meanings.{isFree, isBad, isReserved, isNone, free-said, bad-said, reserved-said, none-said}
 use Rattle.table.specs.Entries.{tableOf, entryOf}
 use Rattle.table.specs.Laws.OneCopy.{entry-small}
 use Rattle.table.specs.Laws.View.{table-inside}
@@ -137,22 +135,23 @@ pub record Tallied (t : ℕ → Bool) (last : ℕ) (f : ℕ → ℕ) (n c : ℕ)
   pub few : n ≤ c
   pub whole : n + tally (passesAt t f) (last + 1 - c) c ≡ valueCount t last f
 
-bit-small : (b : Bool) → bit b ≤ 1
-bit-small true = omega arith
-bit-small false = omega arith
+-- one more where the test passes
+abbrev pub more : Bool → ℕ → ℕ
+more true n = n + 1
+more false n = n
 
 module _ (t : ℕ → Bool) (last : ℕ) (f : ℕ → ℕ) where
   tallied-start : Tallied t last f 0 2
   tallied-start = record { few = omega arith; whole = count-start t f last }
 
   -- a turn, by the answer b of the test
-  tallied-turn : (n m c : ℕ) (b : Bool) → c < last + 1 → t (f c) ≡ b → m ≡ n + bit b → Tallied t last f n c → Tallied t last f m (c + 1)
+  tallied-turn : (n m c : ℕ) (b : Bool) → c < last + 1 → t (f c) ≡ b → m ≡ more b n → Tallied t last f n c → Tallied t last f m (c + 1)
   unfolding passesAt
-  tallied-turn n m c b h e s p = record { few = omega (arith, p .few, bit-small b); whole = go b e s }
+  tallied-turn n m c b h e s p = go b e s
     where
-      go : (b : Bool) → passesAt t f c ≡ b → m ≡ n + bit b → m + tally (passesAt t f) (last + 1 - (c + 1)) (c + 1) ≡ valueCount t last f
-      go true x y = tally-hit (passesAt t f) (last + 1) c n m (valueCount t last f) h x y (p .whole)
-      go false x y = tally-miss (passesAt t f) (last + 1) c n m (valueCount t last f) h x (omega arith) (p .whole)
+      go : (b : Bool) → passesAt t f c ≡ b → m ≡ more b n → Tallied t last f m (c + 1)
+      go true x y = record { few = omega (arith, p .few); whole = tally-hit (passesAt t f) (last + 1) c n m (valueCount t last f) h x y (p .whole) }
+      go false x y = record { few = omega (arith, p .few); whole = tally-miss (passesAt t f) (last + 1) c n m (valueCount t last f) h x y (p .whole) }
 
   tallied-end : (n c : ℕ) → last + 1 ≤ c → Tallied t last f n c → n ≡ valueCount t last f
   tallied-end n c h p = tally-end (passesAt t f) (last + 1) c n (valueCount t last f) h (p .whole)
@@ -174,79 +173,6 @@ met-start last l = record {
   valued = lowest-start (noValue last (tableOf last l)) last;
 }
 
--- what a meaning says of the tests
-abbrev isFree : Meaning → Bool
-isFree Free = true
-isFree (Next n) = false
-isFree Bad = false
-isFree Reserved = false
-isFree End = false
-isFree NoneOfThese = false
-
-abbrev isBad : Meaning → Bool
-isBad Free = false
-isBad (Next n) = false
-isBad Bad = true
-isBad Reserved = false
-isBad End = false
-isBad NoneOfThese = false
-
-abbrev isReserved : Meaning → Bool
-isReserved Free = false
-isReserved (Next n) = false
-isReserved Bad = false
-isReserved Reserved = true
-isReserved End = false
-isReserved NoneOfThese = false
-
-abbrev isNone : Meaning → Bool
-isNone Free = false
-isNone (Next n) = false
-isNone Bad = false
-isNone Reserved = false
-isNone End = false
-isNone NoneOfThese = true
-
-module _ (last v : ℕ) (low : last ≤ 4079) where
-  free-said : (m : Meaning) → values.Values m last v → freeb v ≡ isFree m
-  free-said Free x = eq-eqb v 0 x
-  free-said (Next n) x = ne-eqb v 0 (omega arith)
-  free-said Bad x = ne-eqb v 0 (omega arith)
-  free-said Reserved x = ne-eqb v 0 (omega arith)
-  free-said End x = ne-eqb v 0 (omega arith)
-  free-said NoneOfThese x = ne-eqb v 0 (x .0)
-
-  bad-said : (m : Meaning) → values.Values m last v → badb v ≡ isBad m
-  bad-said Free x = false-says (says-bad v) (λ y. omega arith)
-  bad-said (Next n) x = false-says (says-bad v) (λ y. omega arith)
-  bad-said Bad x = true-says (says-bad v) x
-  bad-said Reserved x = false-says (says-bad v) (λ y. omega arith)
-  bad-said End x = false-says (says-bad v) (λ y. omega arith)
-  bad-said NoneOfThese x = false-says (says-bad v) (x .2)
-
-  reserved-said : (m : Meaning) → values.Values m last v → reservedb v ≡ isReserved m
-  reserved-said Free x = false-says (says-reserved v) (λ y. omega arith)
-  reserved-said (Next n) x = false-says (says-reserved v) (λ y. omega arith)
-  reserved-said Bad x = false-says (says-reserved v) (λ y. omega arith)
-  reserved-said Reserved x = true-says (says-reserved v) x
-  reserved-said End x = false-says (says-reserved v) (λ y. omega arith)
-  reserved-said NoneOfThese x = false-says (says-reserved v) (x .3)
-
-  none-said : (m : Meaning) → values.Values m last v → not (freeb v || (linkb last v || (endb v || (badb v || reservedb v)))) ≡ isNone m
-  none-said Free x = false-says (says-not (says-valid last v)) (λ n. n (free x))
-  none-said (Next n) x = false-says (says-not (says-valid last v)) (λ n. n (used (inl (x .0))))
-  none-said Bad x = false-says (says-not (says-valid last v)) (λ n. n (bad x))
-  none-said Reserved x = false-says (says-not (says-valid last v)) (λ n. n (reserved x))
-  none-said End x = false-says (says-not (says-valid last v)) (λ n. n (used (inr x)))
-  none-said NoneOfThese x = true-says (says-not (says-valid last v)) no-value
-    where
-      no-value : ¬ Valid last v
-      no-value (free e) = x .0 e
-      no-value (used (inl u)) = x .1 u
-      no-value (used (inr u)) = x .4 u
-      no-value (bad u) = x .2 u
-      no-value (reserved u) = x .3 u
-
 -- one turn: v is the entry that was read, m what it means. (fit is what the code knows of the slice's elements.)
 module _ (last : ℕ) (l : List ℕ) (free bad reserved c v : ℕ) (m : Meaning) (fit : (i : ℕ) → Fits w8 (getD l i 0)) (low : last ≤ 4079) (inv : Met last l (last + 1) free bad reserved c) (h : c < last + 1) (r : v ≡ entryOf l c) (e : m ≡ meaningOf last v) where
   abbrev f : ℕ → ℕ
@@ -258,48 +184,33 @@ module _ (last : ℕ) (l : List ℕ) (free bad reserved c v : ℕ) (m : Meaning)
   value : v ≡ f c
   value = r ∙ sym (table-inside last l c (inv .from) (omega arith))
 
-  fits : values.Values m last v
-  fits = meaning-is last v low (rw r (entry-small 512 l c bytes)) m .0 e
+  small : v < 4096
+  small = rw r (entry-small 512 l c bytes)
 
   none : noValue last f c ≡ isNone m
   unfolding noValue
-  none = rw (sym value) (none-said last v low m fits)
+  none = rw (sym value) (none-said last v low small m e)
 
-  turn : (free′ bad′ reserved′ : ℕ) → isNone m ≡ false → free′ ≡ free + bit (isFree m) → bad′ ≡ bad + bit (isBad m) → reserved′ ≡ reserved + bit (isReserved m)
+  -- w is the arm that was taken: the count of its meaning goes up by one, and no other
+  pub met-on : (w : Meaning) → m ≡ w → (free′ bad′ reserved′ : ℕ) → isNone w ≡ false → free′ ≡ more (isFree w) free → bad′ ≡ more (isBad w) bad → reserved′ ≡ more (isReserved w) reserved
       → Met last l (last + 1) free′ bad′ reserved′ (c + 1)
-  turn free′ bad′ reserved′ g x y z = record {
+  met-on w g free′ bad′ reserved′ o x y z = record {
     from = omega (arith, inv .from);
-    free-are = tallied-turn freeb last f free free′ c (isFree m) h (rw (sym value) (free-said last v low m fits)) x (inv .free-are);
-    bad-are = tallied-turn badb last f bad bad′ c (isBad m) h (rw (sym value) (bad-said last v low m fits)) y (inv .bad-are);
-    reserved-are = tallied-turn reservedb last f reserved reserved′ c (isReserved m) h (rw (sym value) (reserved-said last v low m fits)) z (inv .reserved-are);
-    valued = lowest-miss (noValue last f) c (last + 1) (lowest (noValue last f) 2 (last - 1)) (inv .valued) h (isNone m) (sym none) g;
+    free-are = tallied-turn freeb last f free free′ c (isFree w) h (rw (sym value) (free-said last v low small m e ∙ ap isFree g)) x (inv .free-are);
+    bad-are = tallied-turn badb last f bad bad′ c (isBad w) h (rw (sym value) (bad-said last v low small m e ∙ ap isBad g)) y (inv .bad-are);
+    reserved-are = tallied-turn reservedb last f reserved reserved′ c (isReserved w) h (rw (sym value) (reserved-said last v low small m e ∙ ap isReserved g)) z (inv .reserved-are);
+    valued = lowest-miss (noValue last f) c (last + 1) (lowest (noValue last f) 2 (last - 1)) (inv .valued) h (isNone m) (sym none) (ap isNone g ∙ o);
   }
-
-  module _ (free′ bad′ reserved′ : ℕ) where
-    pub met-free : m ≡ Free → free′ ≡ free + 1 → bad′ ≡ bad → reserved′ ≡ reserved → Met last l (last + 1) free′ bad′ reserved′ (c + 1)
-    met-free g x y z = turn free′ bad′ reserved′ (rw g) (rw g x) (rw g (omega arith)) (rw g (omega arith))
-
-    pub met-bad : m ≡ Bad → free′ ≡ free → bad′ ≡ bad + 1 → reserved′ ≡ reserved → Met last l (last + 1) free′ bad′ reserved′ (c + 1)
-    met-bad g x y z = turn free′ bad′ reserved′ (rw g) (rw g (omega arith)) (rw g y) (rw g (omega arith))
-
-    pub met-reserved : m ≡ Reserved → free′ ≡ free → bad′ ≡ bad → reserved′ ≡ reserved + 1 → Met last l (last + 1) free′ bad′ reserved′ (c + 1)
-    met-reserved g x y z = turn free′ bad′ reserved′ (rw g) (rw g (omega arith)) (rw g (omega arith)) (rw g z)
-
-    pub met-next : (n : ℕ) → m ≡ Next n → free′ ≡ free → bad′ ≡ bad → reserved′ ≡ reserved → Met last l (last + 1) free′ bad′ reserved′ (c + 1)
-    met-next n g x y z = turn free′ bad′ reserved′ (rw g) (rw g (omega arith)) (rw g (omega arith)) (rw g (omega arith))
-
-    pub met-end : m ≡ End → free′ ≡ free → bad′ ≡ bad → reserved′ ≡ reserved → Met last l (last + 1) free′ bad′ reserved′ (c + 1)
-    met-end g x y z = turn free′ bad′ reserved′ (rw g) (rw g (omega arith)) (rw g (omega arith)) (rw g (omega arith))
 
   pub met-none : m ≡ NoneOfThese → NoValue c ≡ censusOf last l
   unfolding censusOf
   met-none g = ap (λ o. censusBy o (valueCount freeb last f) (valueCount badb last f) (valueCount reservedb last f))
       (lowest-hit (noValue last f) c (last + 1) (lowest (noValue last f) 2 (last - 1)) (inv .valued) h (isNone m) (sym none) (rw g))
 
-pub met-all : (last : ℕ) (l : List ℕ) (a b d c : ℕ) → Met last l (last + 1) a b d c → last + 1 ≤ c → Values a b d ≡ censusOf last l
+pub met-all : (last : ℕ) (l : List ℕ) (free bad reserved c : ℕ) → Met last l (last + 1) free bad reserved c → last + 1 ≤ c → Values free bad reserved ≡ censusOf last l
 unfolding censusOf
-met-all last l a b d c inv h =
+met-all last l free bad reserved c inv h =
     let f : ℕ → ℕ = tableOf last l in
     let all-valued : Nothing ≡ lowest (noValue last f) 2 (last - 1)
     = lowest-done (noValue last f) c (last + 1) (lowest (noValue last f) 2 (last - 1)) (inv .valued) h in
-    rw (sym all-valued, tallied-end freeb last f a c h (inv .free-are), tallied-end badb last f b c h (inv .bad-are), tallied-end reservedb last f d c h (inv .reserved-are))
+    rw (sym all-valued, tallied-end freeb last f free c h (inv .free-are), tallied-end badb last f bad c h (inv .bad-are), tallied-end reservedb last f reserved c h (inv .reserved-are))

@@ -19,11 +19,11 @@ use Rattle.chains.specs.Laws.Marks.{marks-append, marks-length, marks-stay}
 use Rattle.chains.specs.Laws.Tests.{says-false}
 use Rattle.chains.specs.Laws.Values.{says-end, says-link}
 use Rattle.values.specs.Values.{Values, meaningOf}
+use Rattle.values.specs.Laws.Meanings.{isEnd, isNext, meaning-says, end-said, link-said}
 use Rattle.values.specs.declared.Meaning.{Meaning}
-use Rattle.values.specs.declared.Meaning.the-variants.{Free, Next, Bad, Reserved, End, NoneOfThese}
+use Rattle.values.specs.declared.Meaning.the-variants.{Next, End}
 use Rattle.table.specs.Entries.{tableOf}
 use Rattle.walks.specs.Aids.Walks.{ValueIs, Tails, Walked, Walking}
-use Rattle.walks.specs.Laws.Meanings.{isEnd, isNext, meaning-says, end-said, link-said}
 use Rattle.walks.specs.Laws.Paths.{path-on, path-leads, path-head, path-rising, leads-chain, path-split, path-once, mark-of, mark-unmet, marks-rising, tail-twice}
 use Rattle.walks.specs.declared.Walk.the-variants.{Ends, Endless}
 
@@ -156,24 +156,12 @@ module _ (last : ℕ) (l : List ℕ) (start : ℕ) (m₀ m t : List ℕ) (n c : 
 
     -- ---- no end
 
-    broken : isEnd g ≡ false → isNext g ≡ false → Walked last f start m₀ t Endless m′
-    broken a b = endless m′ never
+    pub walk-breaks : (w : Meaning) → g ≡ w → isEnd w ≡ false → isNext w ≡ false → Walked last f start m₀ t Endless m′
+    walk-breaks w x a b = endless m′ never
       where
         never : (ds : List ℕ) → ¬ Leads last f (f c) ds
-        never [] p = says-false (says-end v) (end-said last v low (r .small) g e ∙ a) (rw (r .is) p)
-        never (d ∷ ds) p = says-false (says-link last v) (link-said last v low (r .small) g e ∙ b) (rw (r .is ∙ p .0) (p .1))
-
-    pub walk-free : g ≡ Free → Walked last f start m₀ t Endless m′
-    walk-free x = broken (ap isEnd x) (ap isNext x)
-
-    pub walk-bad : g ≡ Bad → Walked last f start m₀ t Endless m′
-    walk-bad x = broken (ap isEnd x) (ap isNext x)
-
-    pub walk-reserved : g ≡ Reserved → Walked last f start m₀ t Endless m′
-    walk-reserved x = broken (ap isEnd x) (ap isNext x)
-
-    pub walk-no-value : g ≡ NoneOfThese → Walked last f start m₀ t Endless m′
-    walk-no-value x = broken (ap isEnd x) (ap isNext x)
+        never [] p = says-false (says-end v) (end-said last v low (r .small) g e ∙ ap isEnd x ∙ a) (rw (r .is) p)
+        never (d ∷ ds) p = says-false (says-link last v) (link-said last v low (r .small) g e ∙ ap isNext x ∙ b) (rw (r .is ∙ p .0) (p .1))
 
     -- ---- the value that was read is the next cluster
 

@@ -21,6 +21,20 @@ pub fn refused(number: u32) -> (u32, u32) {
     (number, 0)
 }
 
+/// A call puts these words into an `out` that has room for them, and keeps all
+/// other bytes; a shorter one it leaves as it came. The answer is the same.
+pub fn expect_words(words: &[u32], answer: u64, call: impl Fn(&mut [u8]) -> u64) {
+    let words: Vec<u8> = words.iter().flat_map(|word| word.to_le_bytes()).collect();
+    for length in 0..=24 {
+        let mut out = [7; 24];
+        assert_eq!(call(&mut out[..length]), answer);
+        let put = if length < words.len() { &[] } else { &words[..] };
+        let (front, rest) = out.split_at(put.len());
+        assert_eq!(front, put, "out of {length} bytes");
+        assert!(rest.iter().all(|&byte| byte == 7), "out of {length} bytes");
+    }
+}
+
 /// A volume with its open table.
 #[derive(Clone, Debug, PartialEq, Eq)]
 pub struct Desk {

@@ -1,5 +1,5 @@
 -- The mark and the meaning of the value decide.
-use Rattle.chaincheck.specs.Laws.MarkTurns.{met-before, lost-free, lost-next, lost-bad, lost-reserved, lost-end, lost-no-value}
+use Rattle.chaincheck.specs.Laws.MarkTurns.{met-before, lost-by}
 use borrow.Author.Needs.{needs}
 use Rattle.chaincheck.proofs.marks.is_lost.Statement.{statement}
 use Rattle.chaincheck.proofs.marks.is_lost.Tie as tie
@@ -35,22 +35,22 @@ enum-told-6 : tie.Need-enum-told-6
 enum-told-6 c = search needs
 
 returns-2 : tie.Need-returns-2
-returns-2 c = search lost-free
+returns-2 c = search (needs, lost-by)
 
 returns-3 : tie.Need-returns-3
-returns-3 c = search lost-next
+returns-3 c = search (needs, lost-by)
 
 returns-4 : tie.Need-returns-4
-returns-4 c = search lost-bad
+returns-4 c = search (needs, lost-by)
 
 returns-5 : tie.Need-returns-5
-returns-5 c = search lost-reserved
+returns-5 c = search (needs, lost-by)
 
 returns-6 : tie.Need-returns-6
-returns-6 c = search lost-end
+returns-6 c = search (needs, lost-by)
 
 returns-7 : tie.Need-returns-7
-returns-7 c = search lost-no-value
+returns-7 c = search (needs, lost-by)
 
 pub is-lost-spec : {M : Type 1} → statement M
 is-lost-spec =

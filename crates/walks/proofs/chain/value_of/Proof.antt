@@ -1,5 +1,5 @@
 -- Bytes make entries of 12 bits.
-use Rattle.walks.specs.Laws.Meanings.{value-is}
+use Rattle.walks.specs.Laws.Value.{value-is}
 use native.Mathlib.Omega.{arith}
 use borrow.Author.Needs.{needs}
 use Rattle.walks.proofs.chain.value_of.Statement.{statement}

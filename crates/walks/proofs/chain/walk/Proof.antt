@@ -6,7 +6,7 @@ use mathlib.Core.Path.{_≡_}
 use lib.ListN.{length}
 use Rattle.table.specs.Entries.{tableOf}
 use Rattle.walks.specs.Aids.Walks.{Walking}
-use Rattle.walks.specs.Laws.WalkTurns.{walk-begins, walk-circles, walk-joins, mark-fits, walk-ends-stored, walk-ends, walk-goes-on, walk-free, walk-bad, walk-reserved, walk-no-value, walk-spent}
+use Rattle.walks.specs.Laws.WalkTurns.{walk-begins, walk-circles, walk-joins, mark-fits, walk-ends-stored, walk-ends, walk-goes-on, walk-breaks, walk-spent}
 use Rattle.walks.proofs.chain.walk.Statement.{statement}
 use Rattle.walks.proofs.chain.walk.Tie as tie
 
@@ -95,7 +95,7 @@ same-length-5 : tie.Need-same-length-5 Inv-loop μ-loop
 same-length-5 c = search needs
 
 returns-5 : tie.Need-returns-5 Inv-loop μ-loop
-returns-5 c = search walk-free
+returns-5 c = search (needs, walk-breaks)
 
 enum-told-3 : tie.Need-enum-told-3 Inv-loop μ-loop
 enum-told-3 c = search needs
@@ -104,7 +104,7 @@ same-length-6 : tie.Need-same-length-6 Inv-loop μ-loop
 same-length-6 c = search needs
 
 returns-6 : tie.Need-returns-6 Inv-loop μ-loop
-returns-6 c = search walk-bad
+returns-6 c = search (needs, walk-breaks)
 
 enum-told-4 : tie.Need-enum-told-4 Inv-loop μ-loop
 enum-told-4 c = search needs
@@ -113,7 +113,7 @@ same-length-7 : tie.Need-same-length-7 Inv-loop μ-loop
 same-length-7 c = search needs
 
 returns-7 : tie.Need-returns-7 Inv-loop μ-loop
-returns-7 c = search walk-reserved
+returns-7 c = search (needs, walk-breaks)
 
 enum-told-5 : tie.Need-enum-told-5 Inv-loop μ-loop
 enum-told-5 c = search needs
@@ -122,7 +122,7 @@ same-length-8 : tie.Need-same-length-8 Inv-loop μ-loop
 same-length-8 c = search needs
 
 returns-8 : tie.Need-returns-8 Inv-loop μ-loop
-returns-8 c = search walk-no-value
+returns-8 c = search (needs, walk-breaks)
 
 same-length-9 : tie.Need-same-length-9 Inv-loop μ-loop
 same-length-9 c = search needs
