@@ -28,7 +28,11 @@ pub fn expect_words(words: &[u32], answer: u64, call: impl Fn(&mut [u8]) -> u64)
     for length in 0..=24 {
         let mut out = [7; 24];
         assert_eq!(call(&mut out[..length]), answer);
-        let put = if length < words.len() { &[] } else { &words[..] };
+        let put = if length < words.len() {
+            &[]
+        } else {
+            &words[..]
+        };
         let (front, rest) = out.split_at(put.len());
         assert_eq!(front, put, "out of {length} bytes");
         assert!(rest.iter().all(|&byte| byte == 7), "out of {length} bytes");
