@@ -1,4 +1,5 @@
 -- The laws of the definitions beside this folder.
 pub mod OneCopy
+pub mod Triples
 pub mod Copies
 pub mod View

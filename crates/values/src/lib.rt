@@ -1,26 +1,41 @@
-// An entry of the table as a number: its bits in their word, and what they mean.
+// An entry of the table as a number: its part of three bytes, and what it means.
+ghost use mathlib.Core.Bool.{true, false};
 ghost use mathlib.Core.Path.{_≡_};
-ghost use Prim.Native.Nat.{_<_};
-ghost use Rattle.values.specs.Bits.{even, taken, kept};
+ghost use Prim.Native.Nat.{_+_, _*_, _/_, _%_, _<_};
+ghost use Rattle.values.specs.Bits.{taken, kept};
 ghost use Rattle.values.specs.Values.{meaningOf};
 
-// The 12 bits of entry n in its word.
-pub fn bits_of(n: usize, w: u16) -> u16
-    ensures { λ r. ⌜ r ≡ taken (even n) w ⌝ }
+// Three bytes, low, middle and high, hold two entries. The first is the low byte and the low half of the middle one, the second
+// the high half of the middle byte and the high one. A half is one hexadecimal digit: 03 40 00 holds 003 and 004.
+
+// The first entry.
+pub fn first_of(low: u8, middle: u8) -> u16
+    ensures { λ r. ⌜ r ≡ taken true (low + 256 * middle) ⌝ }
 {
-    if n % 2 == 0 { w % 4096 } else { w / 16 }
+    low as u16 + middle as u16 % 16 * 256
 }
 
-// The word of entry n with v put in; the other four bits are the neighbour's.
-pub fn with_bits(n: usize, w: u16, v: u16) -> u16
-    requires { ⌜ v < 4096 ⌝ }
-    ensures { λ r. ⌜ r ≡ kept (even n) w v ⌝ }
+// The second entry.
+pub fn second_of(middle: u8, high: u8) -> u16
+    ensures { λ r. ⌜ r ≡ taken false (middle + 256 * high) ⌝ }
 {
-    if n % 2 == 0 {
-        w / 4096 * 4096 + v
-    } else {
-        v * 16 + w % 16
-    }
+    middle as u16 / 16 + high as u16 * 16
+}
+
+// The middle byte with v as the first entry: its high half stays. (In that entry's word it is the high byte.)
+pub fn middle_for_first(middle: u8, v: u16) -> u8
+    requires { ⌜ v < 4096 ⌝ }
+    ensures { λ r. ⌜ r ≡ kept true (256 * middle) v / 256 ⌝ }
+{
+    middle / 16 * 16 + (v / 256) as u8
+}
+
+// The middle byte with v as the second entry: its low half stays. (In that entry's word it is the low byte.)
+pub fn middle_for_second(middle: u8, v: u16) -> u8
+    requires { ⌜ v < 4096 ⌝ }
+    ensures { λ r. ⌜ r ≡ kept false middle v % 256 ⌝ }
+{
+    middle % 16 + (v % 16) as u8 * 16
 }
 
 // What a value means.

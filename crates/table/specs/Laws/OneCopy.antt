@@ -15,12 +15,13 @@ use Rattle.image.specs.Numbers.{number, digits}
 use Rattle.image.specs.Laws.Store.{length-stored, bytes-stored, stored-outside, stored-inside, part-apart}
 use Rattle.image.specs.Laws.Numbers.{length-digits, bytes-digits, number-small, number-stored, number-apart}
 use Rattle.values.specs.Bits.{even, taken, kept}
-use Rattle.values.specs.Laws.Bits.{taken-small, kept-small, taken-kept, taken-after, taken-before}
+use Rattle.values.specs.Laws.Bits.{taken-small, kept-small, taken-kept}
+use Rattle.values.specs.Laws.Triples.{taken-after, taken-before}
 use Rattle.table.specs.Entries.{wordAt, entryAt, setAt}
 
 -- ---- a word
 
-word-bytes : (l : List ℕ) (at : ℕ) → number l at 2 ≡ getD l at 0 + 256 * getD l (at + 1) 0
+pub word-bytes : (l : List ℕ) (at : ℕ) → number l at 2 ≡ getD l at 0 + 256 * getD l (at + 1) 0
 unfolding number
 word-bytes l at = omega arith
 
@@ -44,10 +45,10 @@ entry-apart base l at s n p = entry-same base base (stored l at s) l n (number-a
 
 -- ---- where an entry stands, by its half: with these `omega` compares the places of two entries
 
-off-even : (n : ℕ) → n % 2 ≡ 0 → n * 3 / 2 ≡ n / 2 * 3
+pub off-even : (n : ℕ) → n % 2 ≡ 0 → n * 3 / 2 ≡ n / 2 * 3
 off-even n e = omega arith
 
-off-odd : (n : ℕ) → n % 2 ≢ 0 → n * 3 / 2 ≡ n / 2 * 3 + 1
+pub off-odd : (n : ℕ) → n % 2 ≢ 0 → n * 3 / 2 ≡ n / 2 * 3 + 1
 off-odd n e = omega arith
 
 even-next : (n : ℕ) → n % 2 ≡ 0 → (n + 1) % 2 ≢ 0

@@ -1,0 +1,77 @@
+-- The table by its triples: an entry that is read and stored by its own two bytes is the one that the definitions read and store
+-- by its word, and no third byte is touched.
+use Prim.Native.Nat.{ℕ, _+_, _*_, _/_, _%_, _<_}
+use native.Mathlib.Omega.{arith}
+use mathlib.Core.Bool.{true, false}
+use mathlib.Core.List.{List}
+use mathlib.Core.Logic.{inl, inr, _≢_}
+use mathlib.Core.Path.{_≡_}
+use lib.ListN.{getD, set}
+use borrow.Author.Tests.{eq-eqb, ne-eqb}
+use Rattle.image.specs.Bytes.{Bytes}
+use Rattle.image.specs.Laws.Numbers.{put-word}
+use Rattle.values.specs.Bits.{taken, kept}
+use Rattle.values.specs.Laws.Bits.{kept-small}
+use Rattle.values.specs.Laws.Triples.{first-any-low, second-any-high, first-low, second-high}
+use Rattle.table.specs.Entries.{wordAt, entryAt, setAt}
+use Rattle.table.specs.Aids.Triples.{tripleAt, withWord}
+use Rattle.table.specs.Laws.OneCopy.{word-bytes, off-even, off-odd, setAt-outside}
+
+-- ---- where an entry's word stands in its triple
+
+pub word-even : (base n : ℕ) → n % 2 ≡ 0 → wordAt base n ≡ tripleAt base n
+word-even base n e = omega (arith, off-even n e)
+
+pub word-odd : (base n : ℕ) → n % 2 ≢ 0 → wordAt base n ≡ tripleAt base n + 1
+word-odd base n e = omega (arith, off-odd n e)
+
+-- the last entry of a sector full of them is even: its word ends with the sector, and the third byte of its triple lies behind it
+pub full-sector : (base : ℕ) → (wordAt base 340 + 2 ≡ base + 512) × (tripleAt base 340 + 2 ≡ base + 512)
+full-sector base = (omega arith, omega arith)
+
+-- ---- what a write leaves: the third byte of the triple
+
+module _ (base : ℕ) (l : List ℕ) (n v : ℕ) where
+  pub even-leaves-high : n % 2 ≡ 0 → getD (setAt base l n v) (tripleAt base n + 2) 0 ≡ getD l (tripleAt base n + 2) 0
+  even-leaves-high e = setAt-outside base l n v (tripleAt base n + 2) (inr (omega (arith, off-even n e)))
+
+  pub odd-leaves-low : n % 2 ≢ 0 → getD (setAt base l n v) (tripleAt base n) 0 ≡ getD l (tripleAt base n) 0
+  odd-leaves-low e = setAt-outside base l n v (tripleAt base n) (inl (omega (arith, off-odd n e)))
+
+-- ---- in the form of the code's needs
+
+module _ (base : ℕ) (l : List ℕ) (n r : ℕ) where
+  pub read-even : n % 2 ≡ 0 → r ≡ taken true (getD l (tripleAt base n) 0 + 256 * getD l (tripleAt base n + 1) 0) → r ≡ entryAt base l n
+  unfolding entryAt
+  read-even e p = rw (eq-eqb (n % 2) 0 e, word-even base n e, word-bytes l (tripleAt base n)) p
+
+  pub read-odd : n % 2 ≢ 0 → r ≡ taken false (getD l (tripleAt base n + 1) 0 + 256 * getD l (tripleAt base n + 2) 0) → r ≡ entryAt base l n
+  unfolding entryAt
+  read-odd e p =
+      let j : tripleAt base n + 1 + 1 ≡ tripleAt base n + 2 = omega arith in
+      rw (ne-eqb (n % 2) 0 e, word-odd base n e, word-bytes l (tripleAt base n + 1), j) p
+
+module _ (l : List ℕ) (triple v x y : ℕ) (b : Bytes l) (small : v < 4096) where
+  pub put-first : x ≡ v % 256 → y ≡ kept true (256 * getD l (triple + 1) 0) v / 256 → set (set l triple x) (triple + 1) y ≡ withWord true l triple v
+  unfolding withWord
+  put-first p q =
+      let w = 256 * getD l (triple + 1) 0 in
+      let k : kept true w v < 65536 = kept-small true w v (omega (arith, b (triple + 1))) small in
+      rw (p, q, first-low w v, word-bytes l triple, first-any-low (getD l triple 0) (getD l (triple + 1) 0) v (b triple)) (put-word l triple (kept true w v) k)
+
+  pub put-second : x ≡ kept false (getD l (triple + 1) 0) v % 256 → y ≡ v / 16 → set (set l (triple + 1) x) (triple + 2) y ≡ withWord false l (triple + 1) v
+  unfolding withWord
+  put-second p q =
+      let w = getD l (triple + 1) 0 in
+      let j : triple + 2 ≡ triple + 1 + 1 = omega arith in
+      let k : kept false w v < 65536 = kept-small false w v (omega (arith, b (triple + 1))) small in
+      rw (p, q, j, second-high w v, word-bytes l (triple + 1), second-any-high w (getD l (triple + 1 + 1) 0) v) (put-word l (triple + 1) (kept false w v) k)
+
+module _ (base : ℕ) (l : List ℕ) (n v : ℕ) (m : List ℕ) where
+  pub set-even : n % 2 ≡ 0 → m ≡ withWord true l (tripleAt base n) v → m ≡ setAt base l n v
+  unfolding setAt withWord
+  set-even e p = rw (eq-eqb (n % 2) 0 e, word-even base n e) p
+
+  pub set-odd : n % 2 ≢ 0 → m ≡ withWord false l (tripleAt base n + 1) v → m ≡ setAt base l n v
+  unfolding setAt withWord
+  set-odd e p = rw (ne-eqb (n % 2) 0 e, word-odd base n e) p
