@@ -2,3 +2,4 @@
 pub mod Entries
 pub mod Visits
 pub mod Held
+pub mod Marks

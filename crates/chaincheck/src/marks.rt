@@ -7,13 +7,35 @@ ghost use lib.ListN.{length};
 ghost use Rattle.chains.specs.Aids.Check.{inTwo, lost};
 ghost use Rattle.search.specs.Search.{lowest};
 ghost use Rattle.table.specs.Entries.{wordAt, tableOf};
+ghost use Rattle.chaincheck.specs.Aids.Marks.{NoneInTwo};
 
-// The lowest cluster that was met twice.
+// Whether no cluster was met twice. All are looked at: without an early way out the compiler takes many at a time.
+fn none_in_two(marks: &[u8], last: usize) -> bool
+    requires { ⌜ last ≤ 4079 ⌝ }
+    requires { ⌜ last < length (now marks) ⌝ }
+    ensures { λ r. ⌜ NoneInTwo (now (marks .entry)) last r ⌝ }
+{
+    let after = last + 1;
+    let mut none = true;
+    let mut c: usize = 2;
+    while c < after {
+        if marks[c] == 2 {
+            none = false;
+        }
+        c += 1;
+    }
+    none
+}
+
+// The lowest cluster that was met twice. As a rule there is none, and nothing is searched.
 pub fn first_in_two(marks: &[u8], last: usize) -> Found
     requires { ⌜ last ≤ 4079 ⌝ }
     requires { ⌜ last < length (now marks) ⌝ }
     ensures { λ r. ⌜ r ≡ lowest (inTwo (now (marks .entry))) 2 (last - 1) ⌝ }
 {
+    if none_in_two(marks, last) {
+        return Found::Nothing;
+    }
     let after = last + 1;
     let mut twice: usize = 2;
     while twice < after {

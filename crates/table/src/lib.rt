@@ -12,18 +12,19 @@ ghost use Rattle.table.specs.Entries.{wordAt, entryAt, entryOf, setAt, s
 ghost use Rattle.table.specs.Aids.Copies.{Reaches};
 ghost use Rattle.table.specs.Aids.Triples.{withWord};
 
-// Entry n of the copy that starts at byte base.
+// Entry n of the copy that starts at byte base. Its two bytes begin at one and a half times n: with the low one of its three
+// where n is even, with the middle one where it is odd. (Both readings are made, so that nothing has to be guessed at a branch.)
 pub fn entry_at(img: &[u8], base: usize, n: usize) -> u16
     requires { ⌜ n ≤ 4095 ⌝ }
     requires { ⌜ wordAt base n + 2 ≤ length (now img) ⌝ }
     ensures { λ r. ⌜ r ≡ entryAt base (now (img .entry)) n ⌝ }
 {
-    let triple = base + n / 2 * 3;
-    if n % 2 == 0 {
-        first_of(img[triple], img[triple + 1])
-    } else {
-        second_of(img[triple + 1], img[triple + 2])
-    }
+    let at = base + n + n / 2;
+    let byte = img[at];
+    let next = img[at + 1];
+    let first = first_of(byte, next);
+    let second = second_of(byte, next);
+    if n % 2 == 0 { first } else { second }
 }
 
 // Entry n, from copy 1.
@@ -35,28 +36,28 @@ pub fn entry(img: &[u8], n: usize) -> u16
     entry_at(img, 512, n)
 }
 
-// Stores v as the first entry of the three bytes at byte triple: the low byte, and the middle one.
-fn set_first(img: &mut [u8], triple: usize, v: u16)
-    requires { ⌜ triple + 2 ≤ length (now img) ⌝ }
+// Stores v as the first entry of its three bytes, whose low byte is at byte at.
+fn set_first(img: &mut [u8], at: usize, v: u16)
+    requires { ⌜ at + 2 ≤ length (now img) ⌝ }
     requires { ⌜ v < 4096 ⌝ }
-    ensures { λ _. ⌜ now (img .exit) ≡ withWord true (now (img .entry)) triple v ⌝ }
+    ensures { λ _. ⌜ now (img .exit) ≡ withWord true (now (img .entry)) at v ⌝ }
 {
     let low = (v % 256) as u8;
-    let middle = middle_for_first(img[triple + 1], v);
-    img[triple] = low;
-    img[triple + 1] = middle;
+    let middle = middle_for_first(img[at + 1], v);
+    img[at] = low;
+    img[at + 1] = middle;
 }
 
-// Stores v as the second entry of the three bytes at byte triple: the middle byte, and the high one.
-fn set_second(img: &mut [u8], triple: usize, v: u16)
-    requires { ⌜ triple + 3 ≤ length (now img) ⌝ }
+// Stores v as the second entry of its three bytes, whose middle byte is at byte at.
+fn set_second(img: &mut [u8], at: usize, v: u16)
+    requires { ⌜ at + 2 ≤ length (now img) ⌝ }
     requires { ⌜ v < 4096 ⌝ }
-    ensures { λ _. ⌜ now (img .exit) ≡ withWord false (now (img .entry)) (triple + 1) v ⌝ }
+    ensures { λ _. ⌜ now (img .exit) ≡ withWord false (now (img .entry)) at v ⌝ }
 {
-    let middle = middle_for_second(img[triple + 1], v);
+    let middle = middle_for_second(img[at], v);
     let high = (v / 16) as u8;
-    img[triple + 1] = middle;
-    img[triple + 2] = high;
+    img[at] = middle;
+    img[at + 1] = high;
 }
 
 // Stores v as entry n of the copy that starts at byte base.
@@ -66,11 +67,11 @@ pub fn set_at(img: &mut [u8], base: usize, n: usize, v: u16)
     requires { ⌜ v < 4096 ⌝ }
     ensures { λ _. ⌜ now (img .exit) ≡ setAt base (now (img .entry)) n v ⌝ }
 {
-    let triple = base + n / 2 * 3;
+    let at = base + n + n / 2;
     if n % 2 == 0 {
-        set_first(img, triple, v);
+        set_first(img, at, v);
     } else {
-        set_second(img, triple, v);
+        set_second(img, at, v);
     }
 }
 

@@ -7,7 +7,7 @@ ghost use lib.ListN.{length};
 ghost use Rattle.search.specs.Search.{lowest};
 ghost use Rattle.table.specs.Entries.{wordAt};
 ghost use Rattle.tablecheck.specs.Aids.Copies.{differsAt, FourAlike, Alike};
-ghost use Rattle.tablecheck.specs.Aids.Values.{censusOf};
+ghost use Rattle.tablecheck.specs.Aids.Values.{censusOf, Met, CountedTo};
 
 // The lowest cluster with a value that means nothing; or how many clusters are free, bad and reserved.
 pub enum Census {
@@ -78,7 +78,47 @@ pub fn first_difference(img: &[u8], second: usize, size: usize) -> Found
     Found::Nothing
 }
 
-// The lowest cluster whose value means nothing; or how many are free, bad and reserved.
+// The counts up to cluster c with c's value counted too; or c, where its value means nothing.
+fn counted(img: &[u8], last: usize, free: usize, bad: usize, reserved: usize, c: usize) -> Census
+    requires { ⌜ last ≤ 4079 ⌝ }
+    requires { ⌜ wordAt 512 last + 2 ≤ length (now img) ⌝ }
+    requires { ⌜ c < last + 1 ⌝ }
+    requires { ⌜ Met last (now img) free bad reserved c ⌝ }
+    ensures { λ r. ⌜ CountedTo last (now (img .entry)) (c + 1) r ⌝ }
+{
+    match values::meaning_of(table::entry(img, c), last) {
+        Meaning::Free => Census::Values(free + 1, bad, reserved),
+        Meaning::Bad => Census::Values(free, bad + 1, reserved),
+        Meaning::Reserved => Census::Values(free, bad, reserved + 1),
+        Meaning::NoneOfThese => Census::NoValue(c),
+        Meaning::Next(_) => Census::Values(free, bad, reserved),
+        Meaning::End => Census::Values(free, bad, reserved),
+    }
+}
+
+// The same for the two clusters c and c + 1.
+fn counted_two(
+    img: &[u8],
+    last: usize,
+    free: usize,
+    bad: usize,
+    reserved: usize,
+    c: usize,
+) -> Census
+    requires { ⌜ last ≤ 4079 ⌝ }
+    requires { ⌜ wordAt 512 last + 2 ≤ length (now img) ⌝ }
+    requires { ⌜ c < last ⌝ }
+    requires { ⌜ Met last (now img) free bad reserved c ⌝ }
+    ensures { λ r. ⌜ CountedTo last (now (img .entry)) (c + 2) r ⌝ }
+{
+    match counted(img, last, free, bad, reserved, c) {
+        Census::NoValue(lowest) => Census::NoValue(lowest),
+        Census::Values(f, b, r) => counted(img, last, f, b, r, c + 1),
+    }
+}
+
+// The lowest cluster whose value means nothing; or how many are free, bad and reserved. Two clusters at a time, which share three
+// bytes of the table: so c is even, and the compiler knows which half of the middle byte is whose.
 pub fn take_census(img: &[u8], last: usize) -> Census
     requires { ⌜ last ≤ 4079 ⌝ }
     requires { ⌜ wordAt 512 last + 2 ≤ length (now img) ⌝ }
@@ -89,16 +129,19 @@ pub fn take_census(img: &[u8], last: usize) -> Census
     let mut bad: usize = 0;
     let mut reserved: usize = 0;
     let mut c: usize = 2;
-    while c < after {
-        match values::meaning_of(table::entry(img, c), last) {
-            Meaning::Free => free += 1,
-            Meaning::Bad => bad += 1,
-            Meaning::Reserved => reserved += 1,
-            Meaning::NoneOfThese => return Census::NoValue(c),
-            Meaning::Next(_) => (),
-            Meaning::End => (),
+    while c < last {
+        match counted_two(img, last, free, bad, reserved, c) {
+            Census::NoValue(lowest) => return Census::NoValue(lowest),
+            Census::Values(f, b, r) => {
+                free = f;
+                bad = b;
+                reserved = r;
+            }
         }
-        c += 1;
+        c += 2;
+    }
+    if c < after {
+        return counted(img, last, free, bad, reserved, c);
     }
     Census::Values(free, bad, reserved)
 }

@@ -1,38 +1,26 @@
--- The entry of the triple that is taken is the one of the word.
+-- As the first or the second of its triple, by its number, the entry is the one of its word.
 use Rattle.table.specs.Laws.Triples.{read-even, read-odd}
 use borrow.Author.Needs.{needs}
 use Rattle.table.proofs.entry_at.Statement.{statement}
 use Rattle.table.proofs.entry_at.Tie as tie
 
-mul-triple : tie.Need-mul-triple
-mul-triple c = search needs
+add-at : tie.Need-add-at
+add-at c = search needs
 
-add-triple : tie.Need-add-triple
-add-triple c = search needs
+add-at-2 : tie.Need-add-at-2
+add-at-2 c = search needs
 
-shared-slice-read-first-of : tie.Need-shared-slice-read-first-of
-shared-slice-read-first-of c = search needs
+shared-slice-read-byte : tie.Need-shared-slice-read-byte
+shared-slice-read-byte c = search needs
 
-add-first-of : tie.Need-add-first-of
-add-first-of c = search needs
+add-next : tie.Need-add-next
+add-next c = search needs
 
-shared-slice-read-first-of-2 : tie.Need-shared-slice-read-first-of-2
-shared-slice-read-first-of-2 c = search needs
+shared-slice-read-next : tie.Need-shared-slice-read-next
+shared-slice-read-next c = search needs
 
 first-of-requires : tie.Need-first-of-requires
 first-of-requires c κs = search needs
-
-add-second-of : tie.Need-add-second-of
-add-second-of c = search needs
-
-shared-slice-read-second-of : tie.Need-shared-slice-read-second-of
-shared-slice-read-second-of c = search needs
-
-add-second-of-2 : tie.Need-add-second-of-2
-add-second-of-2 c = search needs
-
-shared-slice-read-second-of-2 : tie.Need-shared-slice-read-second-of-2
-shared-slice-read-second-of-2 c = search needs
 
 second-of-requires : tie.Need-second-of-requires
 second-of-requires c κs = search needs
@@ -47,16 +35,12 @@ pub entry-at-spec : {M : Type 1} → statement M
 entry-at-spec =
     tie.close
     (tie.spec
-    mul-triple
-    add-triple
-    shared-slice-read-first-of
-    add-first-of
-    shared-slice-read-first-of-2
+    add-at
+    add-at-2
+    shared-slice-read-byte
+    add-next
+    shared-slice-read-next
     first-of-requires
-    add-second-of
-    shared-slice-read-second-of
-    add-second-of-2
-    shared-slice-read-second-of-2
     second-of-requires
     returns
     returns-2)

@@ -1,14 +1,14 @@
--- The entry of the triple that is stored is the one of the word.
+-- As the first or the second of its triple, by its number, the entry is stored as in its word.
 use Rattle.table.specs.Laws.Triples.{set-even, set-odd}
 use borrow.Author.Needs.{needs}
 use Rattle.table.proofs.set_at.Statement.{statement}
 use Rattle.table.proofs.set_at.Tie as tie
 
-mul-triple : tie.Need-mul-triple
-mul-triple c = search needs
+add-at : tie.Need-add-at
+add-at c = search needs
 
-add-triple : tie.Need-add-triple
-add-triple c = search needs
+add-at-2 : tie.Need-add-at-2
+add-at-2 c = search needs
 
 set-first-requires : tie.Need-set-first-requires
 set-first-requires c κs = search needs
@@ -32,8 +32,8 @@ pub set-at-spec : {M : Type 1} → statement M
 set-at-spec =
     tie.close
     (tie.spec
-    mul-triple
-    add-triple
+    add-at
+    add-at-2
     set-first-requires
     set-second-requires
     same-length

@@ -6,9 +6,6 @@ use borrow.Author.Needs.{needs}
 use Rattle.table.proofs.set_second.Statement.{statement}
 use Rattle.table.proofs.set_second.Tie as tie
 
-add-middle-for-second : tie.Need-add-middle-for-second
-add-middle-for-second c = search needs
-
 slice-read-middle-for-second : tie.Need-slice-read-middle-for-second
 slice-read-middle-for-second c = search needs
 
@@ -18,14 +15,11 @@ middle-for-second-requires c κs = search needs
 cast-high : tie.Need-cast-high
 cast-high c = search needs
 
-add-img : tie.Need-add-img
-add-img c = search needs
-
 slice-write-img : tie.Need-slice-write-img
 slice-write-img c = search needs
 
-add-img-2 : tie.Need-add-img-2
-add-img-2 c = search needs
+add-img : tie.Need-add-img
+add-img c = search needs
 
 slice-write-img-2 : tie.Need-slice-write-img-2
 slice-write-img-2 c = simp length-set (omega arith)
@@ -40,13 +34,11 @@ pub set-second-spec : {M : Type 1} → statement M
 set-second-spec =
     tie.close
     (tie.spec
-    add-middle-for-second
     slice-read-middle-for-second
     middle-for-second-requires
     cast-high
-    add-img
     slice-write-img
-    add-img-2
+    add-img
     slice-write-img-2
     same-length
     returns)

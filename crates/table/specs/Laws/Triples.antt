@@ -40,38 +40,40 @@ module _ (base : ℕ) (l : List ℕ) (n v : ℕ) where
 
 -- ---- in the form of the code's needs
 
+-- the code's "one and a half times n" is the paper's
+half-more : (base n : ℕ) → wordAt base n ≡ base + n + n / 2
+half-more base n = omega arith
+
 module _ (base : ℕ) (l : List ℕ) (n r : ℕ) where
-  pub read-even : n % 2 ≡ 0 → r ≡ taken true (getD l (tripleAt base n) 0 + 256 * getD l (tripleAt base n + 1) 0) → r ≡ entryAt base l n
+  pub read-even : n % 2 ≡ 0 → r ≡ taken true (getD l (base + n + n / 2) 0 + 256 * getD l (base + n + n / 2 + 1) 0) → r ≡ entryAt base l n
   unfolding entryAt
-  read-even e p = rw (eq-eqb (n % 2) 0 e, word-even base n e, word-bytes l (tripleAt base n)) p
+  read-even e p = rw (eq-eqb (n % 2) 0 e, half-more base n, word-bytes l (base + n + n / 2)) p
 
-  pub read-odd : n % 2 ≢ 0 → r ≡ taken false (getD l (tripleAt base n + 1) 0 + 256 * getD l (tripleAt base n + 2) 0) → r ≡ entryAt base l n
+  pub read-odd : n % 2 ≢ 0 → r ≡ taken false (getD l (base + n + n / 2) 0 + 256 * getD l (base + n + n / 2 + 1) 0) → r ≡ entryAt base l n
   unfolding entryAt
-  read-odd e p =
-      let j : tripleAt base n + 1 + 1 ≡ tripleAt base n + 2 = omega arith in
-      rw (ne-eqb (n % 2) 0 e, word-odd base n e, word-bytes l (tripleAt base n + 1), j) p
+  read-odd e p = rw (ne-eqb (n % 2) 0 e, half-more base n, word-bytes l (base + n + n / 2)) p
 
-module _ (l : List ℕ) (triple v x y : ℕ) (b : Bytes l) (small : v < 4096) where
-  pub put-first : x ≡ v % 256 → y ≡ kept true (256 * getD l (triple + 1) 0) v / 256 → set (set l triple x) (triple + 1) y ≡ withWord true l triple v
+-- x and y are the two bytes stored
+module _ (l : List ℕ) (at v x y : ℕ) (b : Bytes l) (small : v < 4096) where
+  pub put-first : x ≡ v % 256 → y ≡ kept true (256 * getD l (at + 1) 0) v / 256 → set (set l at x) (at + 1) y ≡ withWord true l at v
   unfolding withWord
   put-first p q =
-      let w = 256 * getD l (triple + 1) 0 in
-      let k : kept true w v < 65536 = kept-small true w v (omega (arith, b (triple + 1))) small in
-      rw (p, q, first-low w v, word-bytes l triple, first-any-low (getD l triple 0) (getD l (triple + 1) 0) v (b triple)) (put-word l triple (kept true w v) k)
+      let w = 256 * getD l (at + 1) 0 in
+      let k : kept true w v < 65536 = kept-small true w v (omega (arith, b (at + 1))) small in
+      rw (p, q, first-low w v, word-bytes l at, first-any-low (getD l at 0) (getD l (at + 1) 0) v (b at)) (put-word l at (kept true w v) k)
 
-  pub put-second : x ≡ kept false (getD l (triple + 1) 0) v % 256 → y ≡ v / 16 → set (set l (triple + 1) x) (triple + 2) y ≡ withWord false l (triple + 1) v
+  pub put-second : x ≡ kept false (getD l at 0) v % 256 → y ≡ v / 16 → set (set l at x) (at + 1) y ≡ withWord false l at v
   unfolding withWord
   put-second p q =
-      let w = getD l (triple + 1) 0 in
-      let j : triple + 2 ≡ triple + 1 + 1 = omega arith in
-      let k : kept false w v < 65536 = kept-small false w v (omega (arith, b (triple + 1))) small in
-      rw (p, q, j, second-high w v, word-bytes l (triple + 1), second-any-high w (getD l (triple + 1 + 1) 0) v) (put-word l (triple + 1) (kept false w v) k)
+      let w = getD l at 0 in
+      let k : kept false w v < 65536 = kept-small false w v (omega (arith, b at)) small in
+      rw (p, q, second-high w v, word-bytes l at, second-any-high w (getD l (at + 1) 0) v) (put-word l at (kept false w v) k)
 
 module _ (base : ℕ) (l : List ℕ) (n v : ℕ) (m : List ℕ) where
-  pub set-even : n % 2 ≡ 0 → m ≡ withWord true l (tripleAt base n) v → m ≡ setAt base l n v
+  pub set-even : n % 2 ≡ 0 → m ≡ withWord true l (base + n + n / 2) v → m ≡ setAt base l n v
   unfolding setAt withWord
-  set-even e p = rw (eq-eqb (n % 2) 0 e, word-even base n e) p
+  set-even e p = rw (eq-eqb (n % 2) 0 e, half-more base n) p
 
-  pub set-odd : n % 2 ≢ 0 → m ≡ withWord false l (tripleAt base n + 1) v → m ≡ setAt base l n v
+  pub set-odd : n % 2 ≢ 0 → m ≡ withWord false l (base + n + n / 2) v → m ≡ setAt base l n v
   unfolding setAt withWord
-  set-odd e p = rw (ne-eqb (n % 2) 0 e, word-odd base n e) p
+  set-odd e p = rw (ne-eqb (n % 2) 0 e, half-more base n) p

@@ -6,7 +6,7 @@ use mir.Syntax.{w8}
 use mathlib.Core.Bool.{Bool, true, false, not}
 use mathlib.Core.List.{List}
 use mathlib.Core.Logic.{_≢_}
-use mathlib.Core.Path.{_≡_, refl, sym, ap, _∙_}
+use mathlib.Core.Path.{_≡_, refl, sym, ap, subst, _∙_}
 use lib.Dec.{eqb}
 use lib.ListN.{getD}
 use borrow.Author.Tests.{eqb-true, eq-eqb, ne-eqb}
@@ -31,7 +31,8 @@ use Rattle.table.specs.Entries.{tableOf, entryOf}
 use Rattle.table.specs.Laws.OneCopy.{entry-small}
 use Rattle.table.specs.Laws.View.{table-inside}
 use Rattle.tablecheck.specs.Aids.Copies.{differsAt, Alike, FourAlike}
-use Rattle.tablecheck.specs.Aids.Values.{censusBy, censusOf}
+use Rattle.tablecheck.specs.Aids.Values.{censusBy, censusOf, Tallied, Met, CountedTo}
+use Rattle.tablecheck.specs.declared.Census.{Census}
 use Rattle.tablecheck.specs.declared.Census.the-variants.{NoValue, Values}
 
 -- ---- the copies at offset j
@@ -130,11 +131,6 @@ module _ (l : List ℕ) (second size j : ℕ) (whole : Found) (inv : lowest (dif
 
 -- ---- the census
 
--- n clusters before c pass the test; with those from c on they are all that do
-pub record Tallied (t : ℕ → Bool) (last : ℕ) (f : ℕ → ℕ) (n c : ℕ) : Type 0 where
-  pub few : n ≤ c
-  pub whole : n + tally (passesAt t f) (last + 1 - c) c ≡ valueCount t last f
-
 -- one more where the test passes
 abbrev pub more : Bool → ℕ → ℕ
 more true n = n + 1
@@ -156,15 +152,7 @@ module _ (t : ℕ → Bool) (last : ℕ) (f : ℕ → ℕ) where
   tallied-end : (n c : ℕ) → last + 1 ≤ c → Tallied t last f n c → n ≡ valueCount t last f
   tallied-end n c h p = tally-end (passesAt t f) (last + 1) c n (valueCount t last f) h (p .whole)
 
--- where the loop stands at cluster c: what it has counted, and that each cluster before has a value
-pub record Met (last : ℕ) (l : List ℕ) (after free bad reserved c : ℕ) : Type 0 where
-  pub from : 2 ≤ c
-  pub free-are : Tallied freeb last (tableOf last l) free c
-  pub bad-are : Tallied badb last (tableOf last l) bad c
-  pub reserved-are : Tallied reservedb last (tableOf last l) reserved c
-  pub valued : lowest (noValue last (tableOf last l)) c (after - c) ≡ lowest (noValue last (tableOf last l)) 2 (last - 1)
-
-pub met-start : (last : ℕ) (l : List ℕ) → Met last l (last + 1) 0 0 0 2
+pub met-start : (last : ℕ) (l : List ℕ) → Met last l 0 0 0 2
 met-start last l = record {
   from = omega arith;
   free-are = tallied-start freeb last (tableOf last l);
@@ -174,7 +162,7 @@ met-start last l = record {
 }
 
 -- one turn: v is the entry that was read, m what it means. (fit is what the code knows of the slice's elements.)
-module _ (last : ℕ) (l : List ℕ) (free bad reserved c v : ℕ) (m : Meaning) (fit : (i : ℕ) → Fits w8 (getD l i 0)) (low : last ≤ 4079) (inv : Met last l (last + 1) free bad reserved c) (h : c < last + 1) (r : v ≡ entryOf l c) (e : m ≡ meaningOf last v) where
+module _ (last : ℕ) (l : List ℕ) (free bad reserved c v : ℕ) (m : Meaning) (fit : (i : ℕ) → Fits w8 (getD l i 0)) (low : last ≤ 4079) (inv : Met last l free bad reserved c) (h : c < last + 1) (r : v ≡ entryOf l c) (e : m ≡ meaningOf last v) where
   abbrev f : ℕ → ℕ
   f = tableOf last l
 
@@ -193,7 +181,7 @@ module _ (last : ℕ) (l : List ℕ) (free bad reserved c v : ℕ) (m : Meaning)
 
   -- w is the arm that was taken: the count of its meaning goes up by one, and no other
   pub met-on : (w : Meaning) → m ≡ w → (free′ bad′ reserved′ : ℕ) → isNone w ≡ false → free′ ≡ more (isFree w) free → bad′ ≡ more (isBad w) bad → reserved′ ≡ more (isReserved w) reserved
-      → Met last l (last + 1) free′ bad′ reserved′ (c + 1)
+      → Met last l free′ bad′ reserved′ (c + 1)
   met-on w g free′ bad′ reserved′ o x y z = record {
     from = omega (arith, inv .from);
     free-are = tallied-turn freeb last f free free′ c (isFree w) h (rw (sym value) (free-said last v low small m e ∙ ap isFree g)) x (inv .free-are);
@@ -207,10 +195,32 @@ module _ (last : ℕ) (l : List ℕ) (free bad reserved c v : ℕ) (m : Meaning)
   met-none g = ap (λ o. censusBy o (valueCount freeb last f) (valueCount badb last f) (valueCount reservedb last f))
       (lowest-hit (noValue last f) c (last + 1) (lowest (noValue last f) 2 (last - 1)) (inv .valued) h (isNone m) (sym none) (rw g))
 
-pub met-all : (last : ℕ) (l : List ℕ) (free bad reserved c : ℕ) → Met last l (last + 1) free bad reserved c → last + 1 ≤ c → Values free bad reserved ≡ censusOf last l
+pub met-all : (last : ℕ) (l : List ℕ) (free bad reserved c : ℕ) → Met last l free bad reserved c → last + 1 ≤ c → Values free bad reserved ≡ censusOf last l
 unfolding censusOf
 met-all last l free bad reserved c inv h =
     let f : ℕ → ℕ = tableOf last l in
     let all-valued : Nothing ≡ lowest (noValue last f) 2 (last - 1)
     = lowest-done (noValue last f) c (last + 1) (lowest (noValue last f) 2 (last - 1)) (inv .valued) h in
     rw (sym all-valued, tallied-end freeb last f free c h (inv .free-are), tallied-end badb last f bad c h (inv .bad-are), tallied-end reservedb last f reserved c h (inv .reserved-are))
+
+-- what comes of the last cluster is the census
+pub counted-last : (last : ℕ) (l : List ℕ) (c : ℕ) (r : Census) → CountedTo last l (c + 1) r → last ≤ c → r ≡ censusOf last l
+counted-last last l c (NoValue d) p h = p
+counted-last last l c (Values free bad reserved) p h = met-all last l free bad reserved (c + 1) p (omega arith)
+
+-- what was counted, taken apart
+
+module _ (last : ℕ) (l : List ℕ) (c : ℕ) (r : Census) (p : CountedTo last l c r) where
+  pub counted-values : (free bad reserved : ℕ) → r ≡ Values free bad reserved → Met last l free bad reserved c
+  counted-values free bad reserved e = subst (λ z. CountedTo last l c z) e p
+
+  pub counted-none : (d : ℕ) → r ≡ NoValue d → NoValue d ≡ censusOf last l
+  counted-none d e = sym e ∙ go r p e
+    where
+      go : (z : Census) → CountedTo last l c z → z ≡ NoValue d → z ≡ censusOf last l
+      go (NoValue x) q g = q
+      go (Values x y w) q g = absurd (let t : _≡_ {A = ℕ} 0 1 = cc in omega arith)
+
+-- two clusters, one after the other
+pub two-on : (last : ℕ) (l : List ℕ) (c : ℕ) (r : Census) → CountedTo last l (c + 1 + 1) r → CountedTo last l (c + 2) r
+two-on last l c r p = let e : c + 1 + 1 ≡ c + 2 = omega arith in rw e at p

@@ -1,4 +1,4 @@
--- The lowest from here on is the lowest of all.
+-- There is none; or the lowest from here on is the lowest of all.
 use borrow.Author.Needs.{needs}
 use Prim.Native.Nat.{_-_, _≤_}
 use mathlib.Core.Path.{_≡_}
@@ -6,7 +6,7 @@ use Rattle.chains.specs.Aids.Check.{inTwo}
 use Rattle.chains.specs.Laws.ClusterLoops.{lowest-start}
 use Rattle.search.specs.Search.{lowest}
 use Rattle.search.specs.Laws.Turns.{lowest-done}
-use Rattle.chaincheck.specs.Laws.MarkTurns.{two-hit, two-miss}
+use Rattle.chaincheck.specs.Laws.MarkTurns.{none-found, two-hit, two-miss}
 use Rattle.chaincheck.proofs.marks.first_in_two.Statement.{statement}
 use Rattle.chaincheck.proofs.marks.first_in_two.Tie as tie
 
@@ -16,17 +16,23 @@ Inv-loop marks last after twice₀ twice = (2 ≤ twice) × (lowest (inTwo marks
 abbrev μ-loop : tie.MeasureT-loop
 μ-loop marks last after twice₀ twice = after - twice
 
+none-in-two-requires : tie.Need-none-in-two-requires Inv-loop μ-loop
+none-in-two-requires c κs = search needs
+
+returns : tie.Need-returns Inv-loop μ-loop
+returns c = search none-found
+
 add-after : tie.Need-add-after Inv-loop μ-loop
 add-after c = search needs
 
 loop-holds : tie.Need-loop-holds Inv-loop μ-loop
 loop-holds c = search (needs, lowest-start)
 
-shared-slice-read-if1 : tie.Need-shared-slice-read-if1 Inv-loop μ-loop
-shared-slice-read-if1 c = search needs
+shared-slice-read-if2 : tie.Need-shared-slice-read-if2 Inv-loop μ-loop
+shared-slice-read-if2 c = search needs
 
-returns : tie.Need-returns Inv-loop μ-loop
-returns c = search two-hit
+returns-2 : tie.Need-returns-2 Inv-loop μ-loop
+returns-2 c = search two-hit
 
 add-twice : tie.Need-add-twice Inv-loop μ-loop
 add-twice c = search needs
@@ -37,8 +43,8 @@ loop-less c = search needs
 loop-again : tie.Need-loop-again Inv-loop μ-loop
 loop-again c = search (needs, two-miss)
 
-returns-2 : tie.Need-returns-2 Inv-loop μ-loop
-returns-2 c = search lowest-done
+returns-3 : tie.Need-returns-3 Inv-loop μ-loop
+returns-3 c = search lowest-done
 
 pub first-in-two-spec : {M : Type 1} → statement M
 first-in-two-spec =
@@ -46,11 +52,13 @@ first-in-two-spec =
     (tie.spec
     Inv-loop
     μ-loop
+    none-in-two-requires
+    returns
     add-after
     loop-holds
-    shared-slice-read-if1
-    returns
+    shared-slice-read-if2
+    returns-2
     add-twice
     loop-less
     loop-again
-    returns-2)
+    returns-3)
