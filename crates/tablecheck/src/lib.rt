@@ -6,7 +6,7 @@ ghost use Prim.Native.Nat.{_+_, _≤_, _<_};
 ghost use lib.ListN.{length};
 ghost use Rattle.search.specs.Search.{lowest};
 ghost use Rattle.table.specs.Entries.{wordAt};
-ghost use Rattle.tablecheck.specs.Aids.Copies.{differsAt, FourAlike, Alike};
+ghost use Rattle.tablecheck.specs.Aids.Copies.{differsAt, SameTo, AlikeFrom};
 ghost use Rattle.tablecheck.specs.Aids.Values.{censusOf, Met, CountedTo};
 
 // The lowest cluster with a value that means nothing; or how many clusters are free, bad and reserved.
@@ -34,31 +34,35 @@ fn differs(img: &[u8], second: usize, j: usize) -> bool
     false
 }
 
-// Whether the four bytes from offset j on, none of them byte 1 or 2, are there and the same in both copies.
-fn four_alike(img: &[u8], second: usize, size: usize, j: usize) -> bool
+// Whether all bytes are the same in both copies. All are looked at: without an early way out the compiler takes many at a time.
+fn same_bytes(img: &[u8], second: usize, size: usize) -> bool
     requires { ⌜ (512 + size ≤ second) × (second + size ≤ length (now img)) ⌝ }
-    requires { ⌜ j < size ⌝ }
-    ensures { λ r. ⌜ FourAlike second (now (img .entry)) size j r ⌝ }
+    ensures { λ r. ⌜ SameTo second (now (img .entry)) size r ⌝ }
 {
-    if j < 3 {
-        return false;
+    let mut same = true;
+    let mut j: usize = 0;
+    while j < size {
+        if img[512 + j] != img[second + j] {
+            same = false;
+        }
+        j += 1;
     }
-    if size - j < 4 {
-        return false;
-    }
-    image::get32(img, 512 + j) == image::get32(img, second + j)
+    same
 }
 
-// For how many bytes from offset j on, 4 or 1, the copies are as they must be; 0 where they are not at j.
-fn alike(img: &[u8], second: usize, size: usize, j: usize) -> usize
+// Up to which offset the copies must be searched. Where all bytes are the same, only bytes 1 and 2 may be other than they must be.
+fn search_end(img: &[u8], second: usize, size: usize) -> usize
     requires { ⌜ (512 + size ≤ second) × (second + size ≤ length (now img)) ⌝ }
-    requires { ⌜ j < size ⌝ }
-    ensures { λ r. ⌜ Alike second (now (img .entry)) size j r ⌝ }
+    ensures { λ r. ⌜ AlikeFrom second (now (img .entry)) size r ⌝ }
 {
-    if four_alike(img, second, size, j) {
-        return 4;
+    if size < 3 {
+        return size;
     }
-    if differs(img, second, j) { 0 } else { 1 }
+    if same_bytes(img, second, size) {
+        3
+    } else {
+        size
+    }
 }
 
 // The lowest offset at which the copies, of size bytes each, are not as they must be.
@@ -67,13 +71,13 @@ pub fn first_difference(img: &[u8], second: usize, size: usize) -> Found
     requires { ⌜ second + size ≤ length (now img) ⌝ }
     ensures { λ r. ⌜ r ≡ lowest (differsAt second (now (img .entry))) 0 size ⌝ }
 {
+    let end = search_end(img, second, size);
     let mut j: usize = 0;
-    while j < size {
-        let n = alike(img, second, size, j);
-        if n == 0 {
+    while j < end {
+        if differs(img, second, j) {
             return Found::At(j);
         }
-        j += n;
+        j += 1;
     }
     Found::Nothing
 }

@@ -51,11 +51,12 @@ pub enum Meaning {
 pub fn meaning_of(v: u16, last: usize) -> Meaning
     ensures { λ r. ⌜ r ≡ meaningOf last v ⌝ }
 {
-    if v == 0 {
-        return Meaning::Free;
-    }
     if v < 2 {
-        return Meaning::NoneOfThese;
+        return if v == 0 {
+            Meaning::Free
+        } else {
+            Meaning::NoneOfThese
+        };
     }
     let next = v as usize;
     if next <= last {

@@ -5,21 +5,24 @@ use mathlib.Core.Path.{_≡_}
 use Rattle.search.specs.Search.{lowest}
 use Rattle.search.specs.Laws.Turns.{lowest-all}
 use Rattle.tablecheck.specs.Aids.Copies.{differsAt}
-use Rattle.tablecheck.specs.Laws.Tables.{difference-hit, difference-miss, difference-end}
+use Rattle.tablecheck.specs.Laws.Tables.{in-copy-one, in-copy-two, difference-hit, difference-miss, difference-end}
 use Rattle.tablecheck.proofs.first_difference.Statement.{statement}
 use Rattle.tablecheck.proofs.first_difference.Tie as tie
 
 abbrev Inv-loop : tie.InvT-loop
-Inv-loop img second size j₀ j = lowest (differsAt second img) j (size - j) ≡ lowest (differsAt second img) 0 size
+Inv-loop img second size end j₀ j = lowest (differsAt second img) j (size - j) ≡ lowest (differsAt second img) 0 size
 
 abbrev μ-loop : tie.MeasureT-loop
-μ-loop img second size j₀ j = size - j
+μ-loop img second size end j₀ j = end - j
+
+search-end-requires : tie.Need-search-end-requires Inv-loop μ-loop
+search-end-requires c κs = search needs
 
 loop-holds : tie.Need-loop-holds Inv-loop μ-loop
 loop-holds c = search (needs, lowest-all)
 
-alike-requires : tie.Need-alike-requires Inv-loop μ-loop
-alike-requires c κs = search needs
+differs-requires : tie.Need-differs-requires Inv-loop μ-loop
+differs-requires c κs = (search (needs, in-copy-one), search (needs, in-copy-two))
 
 returns : tie.Need-returns Inv-loop μ-loop
 returns c = search difference-hit
@@ -42,8 +45,9 @@ first-difference-spec =
     (tie.spec
     Inv-loop
     μ-loop
+    search-end-requires
     loop-holds
-    alike-requires
+    differs-requires
     returns
     add-j
     loop-less

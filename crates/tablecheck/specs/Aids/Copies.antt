@@ -11,13 +11,11 @@ unfoldable pub differsAt : ℕ → List ℕ → ℕ → Bool
 differsAt second l j =
     not (eqb (getD l (512 + j) 0) (getD l (second + j) 0)) || ((eqb j 1 || eqb j 2) && not (eqb (getD l (512 + j) 0) 0xFF))
 
--- ---- the copies from offset j on: what the code promises of its steps
+-- on the way: as long as the answer is yes, the bytes before offset j are the same in both copies
+pub record SameTo (second : ℕ) (l : List ℕ) (j : ℕ) (same : Bool) : Type 0 where
+  pub alike : same ≡ true → (i : ℕ) → i < j → getD l (512 + i) 0 ≡ getD l (second + i) 0
 
--- none of n bytes is a difference
-pub record Alike (second : ℕ) (l : List ℕ) (size j n : ℕ) : Type 0 where
-  pub within : j + n ≤ size
-  pub clear : (i : ℕ) → i < n → differsAt second l (j + i) ≡ false
-  pub here : n ≡ 0 → differsAt second l j ≡ true
-
-pub record FourAlike (second : ℕ) (l : List ℕ) (size j : ℕ) (r : Bool) : Type 0 where
-  pub alike : r ≡ true → Alike second l size j 4
+-- from offset end on the copies are as they must be
+pub record AlikeFrom (second : ℕ) (l : List ℕ) (size end : ℕ) : Type 0 where
+  pub within : end ≤ size
+  pub rest : (i : ℕ) → end ≤ i → i < size → differsAt second l i ≡ false

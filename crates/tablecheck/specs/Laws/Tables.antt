@@ -1,6 +1,7 @@
 -- Findings 2 and 3 as the code searches for them, in the form of its needs.
-use Prim.Native.Nat.{ℕ, zero, suc, _+_, _*_, _-_, _/_, _%_, _≤_, _<_}
+use Prim.Native.Nat.{ℕ, zero, suc, _+_, _-_, _≤_, _<_}
 use native.Mathlib.Omega.{arith}
+use native.Mathlib.Decide.{ℕ-discrete}
 use mir.Val.{Fits}
 use mir.Syntax.{w8}
 use mathlib.Core.Bool.{Bool, true, false, not}
@@ -9,11 +10,9 @@ use mathlib.Core.Logic.{_≢_}
 use mathlib.Core.Path.{_≡_, refl, sym, ap, subst, _∙_}
 use lib.Dec.{eqb}
 use lib.ListN.{getD}
-use borrow.Author.Tests.{eqb-true, eq-eqb, ne-eqb}
+use borrow.Author.Tests.{eq-eqb, ne-eqb}
 use Rattle.image.specs.Bytes.{Bytes}
-use Rattle.image.specs.Numbers.{number}
 use Rattle.chains.specs.Aids.Check.{noValue}
-use Rattle.chains.specs.Sums.{tally}
 use Rattle.chains.specs.Values.{freeb, badb, reservedb, valueCount}
 use Rattle.chains.specs.Aids.Values.{passesAt}
 use Rattle.chains.specs.Laws.Tests.{clash}
@@ -30,7 +29,7 @@ use Rattle.values.specs.Laws.Meanings.{isFree, isBad, isReserved, isNone, free-
 use Rattle.table.specs.Entries.{tableOf, entryOf}
 use Rattle.table.specs.Laws.OneCopy.{entry-small}
 use Rattle.table.specs.Laws.View.{table-inside}
-use Rattle.tablecheck.specs.Aids.Copies.{differsAt, Alike, FourAlike}
+use Rattle.tablecheck.specs.Aids.Copies.{differsAt, SameTo, AlikeFrom}
 use Rattle.tablecheck.specs.Aids.Values.{censusBy, censusOf, Tallied, Met, CountedTo}
 use Rattle.tablecheck.specs.declared.Census.{Census}
 use Rattle.tablecheck.specs.declared.Census.the-variants.{NoValue, Values}
@@ -58,76 +57,63 @@ module _ (l : List ℕ) (second j : ℕ) where
     unfolding differsAt
     no-difference d h = rw (same, ne-eqb j 1 d, ne-eqb j 2 h)
 
--- ---- several bytes at once
+-- ---- the bytes of both copies
 
--- numbers are the same only where all their bytes are
-same-bytes : (l : List ℕ) → Bytes l → (a b w : ℕ) → number l a w ≡ number l b w → (i : ℕ) → i < w → getD l (a + i) 0 ≡ getD l (b + i) 0
-unfolding number
-same-bytes l bytes a b zero e i h = absurd (omega arith)
-same-bytes l bytes a b (suc w) e zero h =
-    let p : (getD l a 0 + 256 * number l (a + 1) w) % 256 ≡ getD l a 0 = omega (arith, bytes a) in
-    let q : (getD l b 0 + 256 * number l (b + 1) w) % 256 ≡ getD l b 0 = omega (arith, bytes b) in
-    let x : a + 0 ≡ a = omega arith in
-    let y : b + 0 ≡ b = omega arith in
-    rw (x, y) (sym p ∙ ap (λ (n : ℕ). n % 256) e ∙ q)
-same-bytes l bytes a b (suc w) e (suc i) h =
-    let p : (getD l a 0 + 256 * number l (a + 1) w) / 256 ≡ number l (a + 1) w = omega (arith, bytes a) in
-    let q : (getD l b 0 + 256 * number l (b + 1) w) / 256 ≡ number l (b + 1) w = omega (arith, bytes b) in
-    let x : a + suc i ≡ a + 1 + i = omega arith in
-    let y : b + suc i ≡ b + 1 + i = omega arith in
-    rw (x, y) (same-bytes l bytes (a + 1) (b + 1) w (sym p ∙ ap (λ (n : ℕ). n / 256) e ∙ q) i (omega arith))
+pub same-start : (l : List ℕ) (second : ℕ) → SameTo second l 0 true
+same-start l second = record { alike = λ e i h. absurd (omega arith) }
 
-module _ (l : List ℕ) (second size j : ℕ) where
-  pub not-told : FourAlike second l size j false
-  not-told = record { alike = λ e. absurd (clash e refl) }
+module _ (l : List ℕ) (second j : ℕ) (now : Bool) where
+  pub same-lost : now ≡ false → SameTo second l (j + 1) now
+  same-lost t = record { alike = λ e. absurd (clash e t) }
 
-  pub four-told : ((i : ℕ) → Fits w8 (getD l i 0)) → 3 ≤ j → 4 ≤ size - j → (v w : ℕ) → v ≡ number l (512 + j) 4 → w ≡ number l (second + j) 4 → (r : Bool) → r ≡ eqb v w
-      → FourAlike second l size j r
-  four-told fit far room v w p q r t = record {
-    alike = λ e. record {
-      within = omega arith;
-      clear = λ i h.
-          let x : 512 + (j + i) ≡ 512 + j + i = omega arith in
-          let y : second + (j + i) ≡ second + j + i = omega arith in
-          sym (no-difference l second (j + i) (rw (x, y) (same-bytes l (λ k. omega (arith, fit k)) (512 + j) (second + j) 4 (sym p ∙ eqb-true v w (sym t ∙ e) ∙ q) i h)) (omega arith) (omega arith));
-      here = λ z. absurd (omega arith);
-    };
+  pub same-on : (same : Bool) → SameTo second l j same → getD l (512 + j) 0 ≡ getD l (second + j) 0 → now ≡ same → SameTo second l (j + 1) now
+  same-on same inv b t = record {
+    alike = λ e i h. elim (ℕ-discrete i j) [
+      | yes q ↦ rw q b
+      | no q ↦ inv .alike (sym t ∙ e) i (omega arith)
+    ];
   }
 
-  pub alike-four : (b : Bool) → FourAlike second l size j b → b ≡ true → Alike second l size j 4
-  alike-four b t e = t .alike e
+pub same-told : (l : List ℕ) (second size j : ℕ) (same : Bool) → SameTo second l j same → size ≤ j → SameTo second l size same
+same-told l second size j same inv h = record { alike = λ e i k. inv .alike e i (omega arith) }
 
-  module _ (h : j < size) (b : Bool) (t : b ≡ differsAt second l j) where
-    pub alike-none : b ≡ true → Alike second l size j 0
-    alike-none e = record { within = omega arith; clear = λ i k. absurd (omega arith); here = λ z. sym t ∙ e }
+-- ---- how far to search
 
-    pub alike-one : b ≡ false → Alike second l size j 1
-    alike-one e = record {
-      within = omega arith;
-      clear = λ i k. let z : j + i ≡ j = omega arith in rw z (sym t ∙ e);
-      here = λ z. absurd (omega arith);
-    }
+module _ (l : List ℕ) (second size : ℕ) where
+  pub all-searched : AlikeFrom second l size size
+  all-searched = record { within = omega arith; rest = λ i h k. absurd (omega arith) }
+
+  pub three-searched : (b : Bool) → SameTo second l size b → b ≡ true → 3 ≤ size → AlikeFrom second l size 3
+  three-searched b same e h = record {
+    within = h;
+    rest = λ i k g. sym (no-difference l second i (same .alike e i g) (omega arith) (omega arith));
+  }
 
 -- ---- the search for the lowest
 
-misses : (t : ℕ → Bool) (end c : ℕ) (whole : Found) → lowest t c (end - c) ≡ whole → (n : ℕ) → c + n ≤ end → ((i : ℕ) → i < n → t (c + i) ≡ false)
-    → lowest t (c + n) (end - (c + n)) ≡ whole
-misses t end c whole inv zero h clear = let z : c + 0 ≡ c = omega arith in rw z inv
-misses t end c whole inv (suc n) h clear =
-    let z : c + suc n ≡ c + n + 1 = omega arith in
-    rw z (lowest-miss t (c + n) end whole (misses t end c whole inv n (omega arith) (λ i k. clear i (omega arith)))
-    (omega arith) (t (c + n)) refl (clear n (omega arith)))
+nothing-lowest : (t : ℕ → Bool) (s f : ℕ) → ((i : ℕ) → s ≤ i → i < s + f → t i ≡ false) → Nothing ≡ lowest t s f
+unfolding lowest
+nothing-lowest t s zero clear = refl
+nothing-lowest t s (suc f) clear = rw (clear s (omega arith) (omega arith)) (nothing-lowest t (s + 1) f (λ i h k. clear i (omega arith) (omega arith)))
 
-module _ (l : List ℕ) (second size j : ℕ) (whole : Found) (inv : lowest (differsAt second l) j (size - j) ≡ whole) where
-  module _ (n : ℕ) (a : Alike second l size j n) where
-    pub difference-hit : j < size → n ≡ 0 → At j ≡ whole
-    difference-hit h z = lowest-hit (differsAt second l) j size whole inv h (differsAt second l j) refl (a .here z)
+module _ (l : List ℕ) (second size end j : ℕ) (alike : AlikeFrom second l size end) where
+  module _ (h : j < end) where
+    module _ (n : ℕ) (one : 512 + size ≤ second) (two : second + size ≤ n) where
+      pub in-copy-one : 512 + j < n
+      in-copy-one = omega (arith, alike .within)
 
-    pub difference-miss : lowest (differsAt second l) (j + n) (size - (j + n)) ≡ whole
-    difference-miss = misses (differsAt second l) size j whole inv n (a .within) (a .clear)
+      pub in-copy-two : second + j < n
+      in-copy-two = omega (arith, alike .within)
 
-  pub difference-end : size ≤ j → Nothing ≡ whole
-  difference-end h = lowest-done (differsAt second l) j size whole inv h
+    module _ (whole : Found) (inv : lowest (differsAt second l) j (size - j) ≡ whole) (b : Bool) (t : b ≡ differsAt second l j) where
+      pub difference-hit : b ≡ true → At j ≡ whole
+      difference-hit e = lowest-hit (differsAt second l) j size whole inv (omega (arith, alike .within)) b t e
+
+      pub difference-miss : b ≡ false → lowest (differsAt second l) (j + 1) (size - (j + 1)) ≡ whole
+      difference-miss e = lowest-miss (differsAt second l) j size whole inv (omega (arith, alike .within)) b t e
+
+  pub difference-end : (whole : Found) → lowest (differsAt second l) j (size - j) ≡ whole → end ≤ j → Nothing ≡ whole
+  difference-end whole inv h = nothing-lowest (differsAt second l) j (size - j) (λ i k g. alike .rest i (omega arith) (omega arith)) ∙ inv
 
 -- ---- the census
 

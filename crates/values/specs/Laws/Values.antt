@@ -16,33 +16,35 @@ module _ (last v : ℕ) where
   unfolding meaningOf
   means-free e = rw (eq-eqb v 0 e)
 
-  module _ (d : v ≢ 0) where
-    pub means-one : v < 2 → NoneOfThese ≡ meaningOf last v
+  pub means-one : v ≢ 0 → v < 2 → NoneOfThese ≡ meaningOf last v
+  unfolding meaningOf
+  means-one d h = rw (ne-eqb v 0 d, lt-ltb v 2 h)
+
+  module _ (f : 2 ≤ v) where
+    not-zero : v ≢ 0
+    not-zero e = omega arith
+
+    pub means-next : v ≤ last → Next v ≡ meaningOf last v
     unfolding meaningOf
-    means-one h = rw (ne-eqb v 0 d, lt-ltb v 2 h)
+    means-next h = rw (ne-eqb v 0 not-zero, le-ltb v 2 f, le-leb v last h)
 
-    module _ (f : 2 ≤ v) where
-      pub means-next : v ≤ last → Next v ≡ meaningOf last v
+    module _ (g : last < v) where
+      pub means-end : 0xFF8 ≤ v → End ≡ meaningOf last v
       unfolding meaningOf
-      means-next h = rw (ne-eqb v 0 d, le-ltb v 2 f, le-leb v last h)
+      means-end h = rw (ne-eqb v 0 not-zero, le-ltb v 2 f, lt-leb v last g, le-leb 0xFF8 v h)
 
-      module _ (g : last < v) where
-        pub means-end : 0xFF8 ≤ v → End ≡ meaningOf last v
+      module _ (k : v < 0xFF8) where
+        pub means-bad : v ≡ 0xFF7 → Bad ≡ meaningOf last v
         unfolding meaningOf
-        means-end h = rw (ne-eqb v 0 d, le-ltb v 2 f, lt-leb v last g, le-leb 0xFF8 v h)
+        means-bad h = rw (ne-eqb v 0 not-zero, le-ltb v 2 f, lt-leb v last g, lt-leb 0xFF8 v k, eq-eqb v 0xFF7 h)
 
-        module _ (k : v < 0xFF8) where
-          pub means-bad : v ≡ 0xFF7 → Bad ≡ meaningOf last v
-          unfolding meaningOf
-          means-bad h = rw (ne-eqb v 0 d, le-ltb v 2 f, lt-leb v last g, lt-leb 0xFF8 v k, eq-eqb v 0xFF7 h)
+        pub means-reserved : v ≢ 0xFF7 → 0xFF0 ≤ v → Reserved ≡ meaningOf last v
+        unfolding meaningOf
+        means-reserved b h = rw (ne-eqb v 0 not-zero, le-ltb v 2 f, lt-leb v last g, lt-leb 0xFF8 v k, ne-eqb v 0xFF7 b, le-leb 0xFF0 v h)
 
-          pub means-reserved : v ≢ 0xFF7 → 0xFF0 ≤ v → Reserved ≡ meaningOf last v
-          unfolding meaningOf
-          means-reserved b h = rw (ne-eqb v 0 d, le-ltb v 2 f, lt-leb v last g, lt-leb 0xFF8 v k, ne-eqb v 0xFF7 b, le-leb 0xFF0 v h)
-
-          pub means-between : v ≢ 0xFF7 → v < 0xFF0 → NoneOfThese ≡ meaningOf last v
-          unfolding meaningOf
-          means-between b h = rw (ne-eqb v 0 d, le-ltb v 2 f, lt-leb v last g, lt-leb 0xFF8 v k, ne-eqb v 0xFF7 b, lt-leb 0xFF0 v h)
+        pub means-between : v ≢ 0xFF7 → v < 0xFF0 → NoneOfThese ≡ meaningOf last v
+        unfolding meaningOf
+        means-between b h = rw (ne-eqb v 0 not-zero, le-ltb v 2 f, lt-leb v last g, lt-leb 0xFF8 v k, ne-eqb v 0xFF7 b, lt-leb 0xFF0 v h)
 
   -- ---- what it means
 
@@ -54,14 +56,14 @@ module _ (last v : ℕ) where
       | no d ↦ elim (decLt v 2) [
         | yes h ↦ by (means-one d h) (d, (λ p. omega arith), (λ p. omega arith), (λ p. omega arith), λ p. omega arith)
         | no f ↦ elim (decLe v last) [
-          | yes h ↦ by (means-next d (omega arith) h) ((omega arith, h), refl)
+          | yes h ↦ by (means-next (omega arith) h) ((omega arith, h), refl)
           | no g ↦ elim (decLe 0xFF8 v) [
-            | yes h ↦ by (means-end d (omega arith) (omega arith) h) (h, omega arith)
+            | yes h ↦ by (means-end (omega arith) (omega arith) h) (h, omega arith)
             | no k ↦ elim (ℕ-discrete v 0xFF7) [
-              | yes b ↦ by (means-bad d (omega arith) (omega arith) (omega arith) b) b
+              | yes b ↦ by (means-bad (omega arith) (omega arith) (omega arith) b) b
               | no b ↦ elim (decLe 0xFF0 v) [
-                | yes h ↦ by (means-reserved d (omega arith) (omega arith) (omega arith) b h) (h, omega arith)
-                | no h ↦ by (means-between d (omega arith) (omega arith) (omega arith) b (omega arith)) (d, (λ p. omega arith), b, (λ p. omega arith), λ p. omega arith)
+                | yes h ↦ by (means-reserved (omega arith) (omega arith) (omega arith) b h) (h, omega arith)
+                | no h ↦ by (means-between (omega arith) (omega arith) (omega arith) b (omega arith)) (d, (λ p. omega arith), b, (λ p. omega arith), λ p. omega arith)
               ]
             ]
           ]
@@ -75,10 +77,10 @@ module _ (last v : ℕ) where
     -- and no second meaning fits
     pub meaning-only : (m : Meaning) → Values m last v → m ≡ meaningOf last v
     meaning-only Free x = means-free x
-    meaning-only (Next n) x = rw (x .1) (means-next (omega arith) (omega arith) (omega arith))
-    meaning-only Bad x = means-bad (omega arith) (omega arith) (omega arith) (omega arith) x
-    meaning-only Reserved x = means-reserved (omega arith) (omega arith) (omega arith) (omega arith) (omega arith) (omega arith)
-    meaning-only End x = means-end (omega arith) (omega arith) (omega arith) (omega arith)
+    meaning-only (Next n) x = rw (x .1) (means-next (omega arith) (omega arith))
+    meaning-only Bad x = means-bad (omega arith) (omega arith) (omega arith) x
+    meaning-only Reserved x = means-reserved (omega arith) (omega arith) (omega arith) (omega arith) (omega arith)
+    meaning-only End x = means-end (omega arith) (omega arith) (omega arith)
     meaning-only NoneOfThese x = elim (decLt v 2) [
       | yes h ↦ means-one (x .0) h
       | no f ↦ elim (decLe v last) [
@@ -87,7 +89,7 @@ module _ (last v : ℕ) where
           | yes h ↦ absurd (x .4 (h, omega arith))
           | no k ↦ elim (decLe 0xFF0 v) [
             | yes h ↦ absurd (x .3 (h, let b = x .2 in omega arith))
-            | no h ↦ means-between (x .0) (omega arith) (omega arith) (omega arith) (x .2) (omega arith)
+            | no h ↦ means-between (omega arith) (omega arith) (omega arith) (x .2) (omega arith)
           ]
         ]
       ]
