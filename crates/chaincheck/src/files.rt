@@ -2,12 +2,28 @@
 use crate::Chains;
 use crate::Slot;
 use walks::Length;
-ghost use Prim.Native.Nat.{_+_, _*_, _-_, _≤_, _<_};
+ghost use mathlib.Core.Path.{_≡_};
+ghost use Prim.Native.Nat.{_+_, _*_, _≤_, _<_};
 ghost use lib.ListN.{length};
+ghost use Rattle.chains.specs.Aids.Sizes.{fits};
 ghost use Rattle.diskette.specs.Places.{slotFrom};
 ghost use Rattle.table.specs.Entries.{wordAt, tableOf};
 ghost use Rattle.walks.specs.Aids.Walks.{Tails};
 ghost use Rattle.chaincheck.specs.Aids.Visits.{SlotVisited, FilesVisited};
+
+// Whether n clusters are just enough for size bytes: all have room there, and less than a cluster is left over. (This product
+// costs less than the quotient that says how many are needed.)
+fn just_enough(n: usize, size: usize, cb: usize) -> bool
+    requires { ⌜ n ≤ 4079 ⌝ }
+    requires { ⌜ (0 < cb) × (cb ≤ 4096) ⌝ }
+    ensures { λ r. ⌜ r ≡ fits cb size n ⌝ }
+{
+    let room = n * cb;
+    if room < size {
+        return false;
+    }
+    room - size < cb
+}
 
 // Visits the chain of the entry at byte a, if it is a plain file, and holds its length against the size. A cluster has cb
 // bytes.
@@ -30,10 +46,10 @@ fn visit_slot(
     if !directory::plain_at(img, a) {
         return Slot::NoFile;
     }
-    let needed = (fields::size_at(img, a) as usize + (cb - 1)) / cb;
+    let size = fields::size_at(img, a) as usize;
     match walks::chain::visit(img, marks, left, last, fields::start_at(img, a) as usize) {
         Length::Of(n) => {
-            if n == needed {
+            if just_enough(n, size, cb) {
                 Slot::Clusters(n)
             } else {
                 Slot::Bad

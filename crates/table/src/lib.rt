@@ -19,7 +19,7 @@ pub fn entry_at(img: &[u8], base: usize, n: usize) -> u16
     requires { ⌜ wordAt base n + 2 ≤ length (now img) ⌝ }
     ensures { λ r. ⌜ r ≡ entryAt base (now (img .entry)) n ⌝ }
 {
-    let at = base + n + n / 2;
+    let at = base + n * 3 / 2;
     let byte = img[at];
     let next = img[at + 1];
     let first = first_of(byte, next);
@@ -67,7 +67,7 @@ pub fn set_at(img: &mut [u8], base: usize, n: usize, v: u16)
     requires { ⌜ v < 4096 ⌝ }
     ensures { λ _. ⌜ now (img .exit) ≡ setAt base (now (img .entry)) n v ⌝ }
 {
-    let at = base + n + n / 2;
+    let at = base + n * 3 / 2;
     if n % 2 == 0 {
         set_first(img, at, v);
     } else {

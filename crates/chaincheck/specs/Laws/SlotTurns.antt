@@ -1,22 +1,27 @@
 -- One slot: the chain of a plain file has the length that its size asks for, or it is bad.
-use Prim.Native.Nat.{ℕ, _+_, _-_, _/_, _≤_, _<_}
+use Prim.Native.Nat.{ℕ, zero, suc, _+_, _*_, _-_, _≤_, _<_}
 use native.Mathlib.Omega.{arith}
+use native.Mathlib.Decide.{decLt}
+use native.Mathlib.Nat.{mul-le-mul-right}
+use mir.Val.{Fits}
+use mir.Syntax.{w64}
 use mathlib.Core.Bool.{Bool, true, false, not}
 use mathlib.Core.List.{List, []}
 use mathlib.Core.Logic.{_≢_}
 use mathlib.Core.Path.{_≡_, refl, sym, ap, subst, _∙_}
+use lib.Dec.{ltb}
 use lib.ListN.{length}
-use borrow.Author.Tests.{eq-eqb}
+use borrow.Author.Tests.{eq-eqb, ne-eqb, lt-ltb, le-ltb}
 use Rattle.chains.specs.Aids.Chain.{Chain}
 use Rattle.chains.specs.Aids.Check.{chainOf, ownsb}
 use Rattle.chains.specs.Aids.Holders.{Holder, Owns, nobody, fileHolder}
 use Rattle.chains.specs.Aids.Marks.{marks}
 use Rattle.chains.specs.Sizes.{clustersFor}
 use Rattle.chains.specs.Aids.Sizes.{fits, Geometry}
-use Rattle.chains.specs.Laws.Chain.{chain-same}
+use Rattle.chains.specs.Laws.Chain.{chain-length, chain-same}
 use Rattle.chains.specs.Laws.Check.{says-owned}
-use Rattle.chains.specs.Laws.Sizes.{fits-exact}
-use Rattle.chains.specs.Laws.Tests.{false-says, not-false, not-true, true-says}
+use Rattle.chains.specs.Laws.Sizes.{clusters-least, clusters-hold, fits-exact}
+use Rattle.chains.specs.Laws.Tests.{clash, false-says, not-false, not-true, true-says}
 use Rattle.chains.specs.Laws.Walk.{chain-walk}
 use Rattle.table.specs.Entries.{tableOf}
 use Rattle.fields.specs.Fields.{startOf, sizeOf}
@@ -50,6 +55,33 @@ chain-of : (G : Geometry) (f : ℕ → ℕ) (h : Holder) (cs : List ℕ) → Cha
 unfolding chainOf
 chain-of G f h cs p = rw (chain-walk G f (h .start) cs p, chainOf)
 
+-- ---- as many clusters as the size needs
+
+module _ (n size cb : ℕ) (wide : 0 < cb) where
+  pub room-fits : n ≤ 4079 → cb ≤ 4096 → Fits w64 (n * cb)
+  room-fits few narrow = let m : n * cb ≤ 4079 * cb = mul-le-mul-right cb few in record { fits = omega arith }
+
+  pub too-few : n * cb < size → false ≡ fits cb size n
+  unfolding fits
+  too-few h = sym (ne-eqb n (clustersFor cb size) (λ e. let z : n * cb ≡ clustersFor cb size * cb = ap (λ (k : ℕ). k * cb) e in omega (arith, clusters-hold cb wide size)))
+
+  pub left-over : size ≤ n * cb → ltb (n * cb - size) cb ≡ fits cb size n
+  unfolding fits
+  left-over h = elim (decLt (n * cb - size) cb) [
+    | yes k ↦ lt-ltb (n * cb - size) cb k ∙ sym (eq-eqb n (clustersFor cb size) (is-least k))
+    | no k ↦ le-ltb (n * cb - size) cb (omega arith) ∙ sym (ne-eqb n (clustersFor cb size) (is-more n (omega arith)))
+  ]
+    where
+      is-least : n * cb - size < cb → n ≡ clustersFor cb size
+      is-least k = elim (decLt (clustersFor cb size) n) [
+        | yes g ↦ absurd (let m : (clustersFor cb size + 1) * cb ≤ n * cb = mul-le-mul-right cb (omega arith) in omega (arith, clusters-hold cb wide size))
+        | no g ↦ omega (arith, clusters-least cb wide size n h)
+      ]
+
+      is-more : (k : ℕ) → cb ≤ k * cb - size → k ≢ clustersFor cb size
+      is-more zero g e = omega arith
+      is-more (suc k) g e = omega (arith, clusters-least cb wide size k (omega arith))
+
 -- ---- the slot, in the form of the code's needs
 
 module _ (last cb : ℕ) (l : List ℕ) (a : ℕ) (m : List ℕ) (low : last ≤ 4079) (wide : 0 < cb) where
@@ -67,6 +99,12 @@ module _ (last cb : ℕ) (l : List ℕ) (a : ℕ) (m : List ℕ) (low : last ≤
         is = rw e;
         marked = record { marks-are = rw (holder-none cb (startOf l a) (sizeOf l a) (standingOf l a) e, chain-of G f nobody [] refl); tails = T };
       }
+
+  -- no chain has more clusters than the volume
+  pub chain-few : (start : ℕ) (g : Length) (after t : List ℕ) → Visited last (tableOf last l) start m g after t → (n : ℕ) → g ≡ Of n → n ≤ 4079
+  chain-few start g after t v n e =
+      let has : Chained last f start m n after t = subst (λ (r : Length). visitedBy last f start m r after t) e (v .is) in
+      omega (arith, has .long, chain-length G f start (has .clusters) (has .chain))
 
   -- the file's chain was visited
   module _ (start : ℕ) (g : Length) (after t : List ℕ) (v : Visited last (tableOf last l) start m g after t) (s : start ≡ startOf l a)
@@ -90,17 +128,19 @@ module _ (last cb : ℕ) (l : List ℕ) (a : ℕ) (m : List ℕ) (low : last ≤
       has : Chained last f start m n after t
       has = subst (λ (r : Length). visitedBy last f start m r after t) e (v .is)
 
-      pub slot-other : n ≢ (size + (cb - 1)) / cb → SlotVisited last cb l a m Bad after t
-      unfolding clustersFor
-      slot-other d = bad (λ cs o. d (sym (has .long) ∙ ap length (chain-same G f start (has .clusters) cs (has .chain) (o .chain)) ∙ fits-exact cb size (length cs) (o .long)))
+      module _ (y : Bool) (q : y ≡ fits cb size n) where
+        pub slot-other : y ≡ false → SlotVisited last cb l a m Bad after t
+        slot-other d = bad (λ cs o.
+            let k : n ≡ length cs = sym (has .long) ∙ ap length (chain-same G f start (has .clusters) cs (has .chain) (o .chain)) in
+            clash (o .long) (rw (sym k) (sym q ∙ d)))
 
-      pub slot-clusters : n ≡ (size + (cb - 1)) / cb → SlotVisited last cb l a m (Clusters n) after t
-      unfolding slotFound fits clustersFor chainAt
-      slot-clusters q =
-          let w : Owns last f (fileHolder cb start size) (has .clusters) = record { chain = has .chain; long = eq-eqb (length (has .clusters)) ((size + (cb - 1)) / cb) (has .long ∙ q) } in
-          let o : ownsb last f (holderAt cb l a) ≡ true = rw holder (true-says (says-owned G f (fileHolder cb start size)) (has .clusters, w)) in
-          let c : chainOf last f (holderAt cb l a) ≡ has .clusters = rw holder (chain-of G f (fileHolder cb start size) (has .clusters) (has .chain)) in
-          record {
-            is = rw (plain, o, q, z);
-            marked = record { marks-are = has .marks-are ∙ ap (marks m) (sym c); tails = has .tails };
-          }
+        pub slot-clusters : y ≡ true → SlotVisited last cb l a m (Clusters n) after t
+        unfolding slotFound clustersFor chainAt
+        slot-clusters d =
+            let w : Owns last f (fileHolder cb start size) (has .clusters) = record { chain = has .chain; long = rw (has .long) (sym q ∙ d) } in
+            let o : ownsb last f (holderAt cb l a) ≡ true = rw holder (true-says (says-owned G f (fileHolder cb start size)) (has .clusters, w)) in
+            let c : chainOf last f (holderAt cb l a) ≡ has .clusters = rw holder (chain-of G f (fileHolder cb start size) (has .clusters) (has .chain)) in
+            record {
+              is = rw (plain, o, fits-exact cb size n (sym q ∙ d), z);
+              marked = record { marks-are = has .marks-are ∙ ap (marks m) (sym c); tails = has .tails };
+            }

@@ -29,8 +29,6 @@ clusters-some cb p n h = elim (ℕ-discrete (clustersFor cb n) 0) [
   | no k ↦ omega arith
 ]
 
--- without the sum, which may not fit a word
-
 -- ---- the test of a chain's length against the size
 
 -- at least what the size needs

@@ -4,11 +4,11 @@ use borrow.Author.Needs.{needs}
 use Rattle.table.proofs.entry_at.Statement.{statement}
 use Rattle.table.proofs.entry_at.Tie as tie
 
+mul-at : tie.Need-mul-at
+mul-at c = search needs
+
 add-at : tie.Need-add-at
 add-at c = search needs
-
-add-at-2 : tie.Need-add-at-2
-add-at-2 c = search needs
 
 shared-slice-read-byte : tie.Need-shared-slice-read-byte
 shared-slice-read-byte c = search needs
@@ -35,8 +35,8 @@ pub entry-at-spec : {M : Type 1} → statement M
 entry-at-spec =
     tie.close
     (tie.spec
+    mul-at
     add-at
-    add-at-2
     shared-slice-read-byte
     add-next
     shared-slice-read-next

@@ -4,11 +4,11 @@ use borrow.Author.Needs.{needs}
 use Rattle.table.proofs.set_at.Statement.{statement}
 use Rattle.table.proofs.set_at.Tie as tie
 
+mul-at : tie.Need-mul-at
+mul-at c = search needs
+
 add-at : tie.Need-add-at
 add-at c = search needs
-
-add-at-2 : tie.Need-add-at-2
-add-at-2 c = search needs
 
 set-first-requires : tie.Need-set-first-requires
 set-first-requires c κs = search needs
@@ -32,8 +32,8 @@ pub set-at-spec : {M : Type 1} → statement M
 set-at-spec =
     tie.close
     (tie.spec
+    mul-at
     add-at
-    add-at-2
     set-first-requires
     set-second-requires
     same-length

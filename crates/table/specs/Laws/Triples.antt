@@ -40,18 +40,14 @@ module _ (base : ℕ) (l : List ℕ) (n v : ℕ) where
 
 -- ---- in the form of the code's needs
 
--- the code's "one and a half times n" is the paper's
-half-more : (base n : ℕ) → wordAt base n ≡ base + n + n / 2
-half-more base n = omega arith
-
 module _ (base : ℕ) (l : List ℕ) (n r : ℕ) where
-  pub read-even : n % 2 ≡ 0 → r ≡ taken true (getD l (base + n + n / 2) 0 + 256 * getD l (base + n + n / 2 + 1) 0) → r ≡ entryAt base l n
+  pub read-even : n % 2 ≡ 0 → r ≡ taken true (getD l (base + n * 3 / 2) 0 + 256 * getD l (base + n * 3 / 2 + 1) 0) → r ≡ entryAt base l n
   unfolding entryAt
-  read-even e p = rw (eq-eqb (n % 2) 0 e, half-more base n, word-bytes l (base + n + n / 2)) p
+  read-even e p = rw (eq-eqb (n % 2) 0 e, word-bytes l (base + n * 3 / 2)) p
 
-  pub read-odd : n % 2 ≢ 0 → r ≡ taken false (getD l (base + n + n / 2) 0 + 256 * getD l (base + n + n / 2 + 1) 0) → r ≡ entryAt base l n
+  pub read-odd : n % 2 ≢ 0 → r ≡ taken false (getD l (base + n * 3 / 2) 0 + 256 * getD l (base + n * 3 / 2 + 1) 0) → r ≡ entryAt base l n
   unfolding entryAt
-  read-odd e p = rw (ne-eqb (n % 2) 0 e, half-more base n, word-bytes l (base + n + n / 2)) p
+  read-odd e p = rw (ne-eqb (n % 2) 0 e, word-bytes l (base + n * 3 / 2)) p
 
 -- x and y are the two bytes stored
 module _ (l : List ℕ) (at v x y : ℕ) (b : Bytes l) (small : v < 4096) where
@@ -70,10 +66,10 @@ module _ (l : List ℕ) (at v x y : ℕ) (b : Bytes l) (small : v < 4096) where
       rw (p, q, second-high w v, word-bytes l at, second-any-high w (getD l (at + 1) 0) v) (put-word l at (kept false w v) k)
 
 module _ (base : ℕ) (l : List ℕ) (n v : ℕ) (m : List ℕ) where
-  pub set-even : n % 2 ≡ 0 → m ≡ withWord true l (base + n + n / 2) v → m ≡ setAt base l n v
+  pub set-even : n % 2 ≡ 0 → m ≡ withWord true l (base + n * 3 / 2) v → m ≡ setAt base l n v
   unfolding setAt withWord
-  set-even e p = rw (eq-eqb (n % 2) 0 e, half-more base n) p
+  set-even e p = rw (eq-eqb (n % 2) 0 e) p
 
-  pub set-odd : n % 2 ≢ 0 → m ≡ withWord false l (base + n + n / 2) v → m ≡ setAt base l n v
+  pub set-odd : n % 2 ≢ 0 → m ≡ withWord false l (base + n * 3 / 2) v → m ≡ setAt base l n v
   unfolding setAt withWord
-  set-odd e p = rw (ne-eqb (n % 2) 0 e, half-more base n) p
+  set-odd e p = rw (ne-eqb (n % 2) 0 e) p

@@ -1,5 +1,5 @@
 -- The number of clusters met is held against the size.
-use Rattle.chaincheck.specs.Laws.SlotTurns.{slot-no-file, slot-clusters, slot-other, slot-endless}
+use Rattle.chaincheck.specs.Laws.SlotTurns.{slot-no-file, chain-few, slot-clusters, slot-other, slot-endless}
 use borrow.Author.Needs.{needs}
 use Rattle.chaincheck.proofs.files.visit_slot.Statement.{statement}
 use Rattle.chaincheck.proofs.files.visit_slot.Tie as tie
@@ -13,17 +13,8 @@ returns c = search slot-no-file
 size-at-requires : tie.Need-size-at-requires
 size-at-requires c κs = search needs
 
-cast-needed : tie.Need-cast-needed
-cast-needed c = search needs
-
-sub-needed : tie.Need-sub-needed
-sub-needed c = search needs
-
-add-needed : tie.Need-add-needed
-add-needed c = search needs
-
-div-needed : tie.Need-div-needed
-div-needed c = search needs
+cast-size : tie.Need-cast-size
+cast-size c = search needs
 
 start-at-requires : tie.Need-start-at-requires
 start-at-requires c κs = search needs
@@ -36,6 +27,9 @@ visit-requires c κs = (search needs, (search needs, (search needs, search needs
 
 enum-known-n : tie.Need-enum-known-n
 enum-known-n c = search needs
+
+just-enough-requires : tie.Need-just-enough-requires
+just-enough-requires c κs = (search chain-few, search needs)
 
 enum-told : tie.Need-enum-told
 enum-told c = search needs
@@ -74,14 +68,12 @@ visit-slot-spec =
     plain-at-requires
     returns
     size-at-requires
-    cast-needed
-    sub-needed
-    add-needed
-    div-needed
+    cast-size
     start-at-requires
     cast-visit
     visit-requires
     enum-known-n
+    just-enough-requires
     enum-told
     same-length
     same-length-2
