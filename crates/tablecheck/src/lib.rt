@@ -59,10 +59,9 @@ fn search_end(img: &[u8], second: usize, size: usize) -> usize
         return size;
     }
     if same_bytes(img, second, size) {
-        3
-    } else {
-        size
+        return 3;
     }
+    size
 }
 
 // The lowest offset at which the copies, of size bytes each, are not as they must be.
