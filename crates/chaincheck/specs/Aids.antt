@@ -2,4 +2,3 @@
 pub mod Entries
 pub mod Visits
 pub mod Held
-pub mod Marks

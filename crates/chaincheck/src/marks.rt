@@ -1,19 +1,19 @@
 // Findings 6 and 7, by the marks of all chains.
 use search::Found;
 use values::Meaning;
+ghost use mathlib.Core.Bool.{not};
 ghost use mathlib.Core.Path.{_≡_};
 ghost use Prim.Native.Nat.{_+_, _-_, _≤_, _<_};
 ghost use lib.ListN.{length};
 ghost use Rattle.chains.specs.Aids.Check.{inTwo, lost};
-ghost use Rattle.search.specs.Search.{lowest};
+ghost use Rattle.search.specs.Search.{lowest, isFound};
 ghost use Rattle.table.specs.Entries.{wordAt, tableOf};
-ghost use Rattle.chaincheck.specs.Aids.Marks.{NoneInTwo};
 
 // Whether no cluster was met twice. All are looked at: without an early way out the compiler takes many at a time.
 fn none_in_two(marks: &[u8], last: usize) -> bool
     requires { ⌜ last ≤ 4079 ⌝ }
     requires { ⌜ last < length (now marks) ⌝ }
-    ensures { λ r. ⌜ NoneInTwo (now (marks .entry)) last r ⌝ }
+    ensures { λ r. ⌜ r ≡ not (isFound (lowest (inTwo (now (marks .entry))) 2 (last - 1))) ⌝ }
 {
     let after = last + 1;
     let mut none = true;

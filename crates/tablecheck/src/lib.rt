@@ -1,12 +1,13 @@
 // Findings 2 and 3: the copies of the table, and the values of its entries.
 use search::Found;
 use values::Meaning;
+ghost use mathlib.Core.Bool.{not};
 ghost use mathlib.Core.Path.{_≡_};
 ghost use Prim.Native.Nat.{_+_, _≤_, _<_};
 ghost use lib.ListN.{length};
-ghost use Rattle.search.specs.Search.{lowest};
+ghost use Rattle.search.specs.Search.{lowest, isFound};
 ghost use Rattle.table.specs.Entries.{wordAt};
-ghost use Rattle.tablecheck.specs.Aids.Copies.{differsAt, SameTo, AlikeFrom};
+ghost use Rattle.tablecheck.specs.Aids.Copies.{differsAt, unlikeAt, searchEnd};
 ghost use Rattle.tablecheck.specs.Aids.Values.{censusOf, Met, CountedTo};
 
 // The lowest cluster with a value that means nothing; or how many clusters are free, bad and reserved.
@@ -37,7 +38,7 @@ fn differs(img: &[u8], second: usize, j: usize) -> bool
 // Whether all bytes are the same in both copies. All are looked at: without an early way out the compiler takes many at a time.
 fn same_bytes(img: &[u8], second: usize, size: usize) -> bool
     requires { ⌜ (512 + size ≤ second) × (second + size ≤ length (now img)) ⌝ }
-    ensures { λ r. ⌜ SameTo second (now (img .entry)) size r ⌝ }
+    ensures { λ r. ⌜ r ≡ not (isFound (lowest (unlikeAt second (now (img .entry))) 0 size)) ⌝ }
 {
     let mut same = true;
     let mut j: usize = 0;
@@ -53,7 +54,7 @@ fn same_bytes(img: &[u8], second: usize, size: usize) -> bool
 // Up to which offset the copies must be searched. Where all bytes are the same, only bytes 1 and 2 may be other than they must be.
 fn search_end(img: &[u8], second: usize, size: usize) -> usize
     requires { ⌜ (512 + size ≤ second) × (second + size ≤ length (now img)) ⌝ }
-    ensures { λ r. ⌜ AlikeFrom second (now (img .entry)) size r ⌝ }
+    ensures { λ r. ⌜ r ≡ searchEnd second (now (img .entry)) size ⌝ }
 {
     if size < 3 {
         return size;

@@ -1,6 +1,5 @@
 -- The searches over the marks: finding 6 and finding 7 at cluster c.
 use Prim.Native.Nat.{ℕ, _+_, _-_, _≤_, _<_}
-use native.Mathlib.Omega.{arith}
 use mathlib.Core.Bool.{Bool, true, false, _&&_, _||_}
 use mathlib.Core.List.{List}
 use mathlib.Core.Logic.{_≢_}
@@ -9,17 +8,16 @@ use lib.ListN.{getD}
 use borrow.Author.Tests.{eq-eqb, ne-eqb}
 use Rattle.chains.specs.Aids.Check.{inTwo, lost}
 use Rattle.chains.specs.Values.{linkb, endb}
-use Rattle.chains.specs.Laws.Tests.{clash}
-use Rattle.chains.specs.Laws.ClusterLoops.{lowest-start}
 use Rattle.search.specs.Search.{lowest}
-use Rattle.search.specs.Laws.Turns.{lowest-hit, lowest-miss, lowest-done}
+use Rattle.search.specs.Laws.Turns.{lowest-hit, lowest-miss}
+use Rattle.search.specs.Laws.Flags.{none-hit, none-miss}
+use Rattle.search.specs.Aids.Flags.{NoneTo}
 use Rattle.search.specs.declared.Found.{Found}
-use Rattle.search.specs.declared.Found.the-variants.{At, Nothing}
+use Rattle.search.specs.declared.Found.the-variants.{At}
 use Rattle.values.specs.Values.{meaningOf}
 use Rattle.values.specs.Laws.Meanings.{isEnd, isNext, end-said, link-said}
 use Rattle.values.specs.declared.Meaning.{Meaning}
 use Rattle.table.specs.Entries.{tableOf}
-use Rattle.chaincheck.specs.Aids.Marks.{NoneTo, NoneInTwo}
 
 -- ---- finding 6
 
@@ -33,25 +31,14 @@ module _ (m : List ℕ) (end c : ℕ) (whole : Found) (inv : lowest (inTwo m) c 
   two-miss d = lowest-miss (inTwo m) c end whole inv h false (sym (ne-eqb (getD m c 0) 2 d)) refl
 
 -- whether there is none
-pub none-start : (m : List ℕ) (last : ℕ) → NoneTo m last 2 true
-none-start m last = record { from = omega arith; rest = λ e. lowest-start (inTwo m) last }
+module _ (m : List ℕ) (end c : ℕ) (whole : Found) (none : Bool) (inv : NoneTo (inTwo m) c end whole none) (h : c < end) (now : Bool) where
+  pub none-two-hit : getD m c 0 ≡ 2 → now ≡ false → NoneTo (inTwo m) (c + 1) end whole now
+  unfolding inTwo
+  none-two-hit e t = none-hit (inTwo m) c end whole none inv h now (eq-eqb (getD m c 0) 2 e) t
 
-module _ (m : List ℕ) (last c : ℕ) (none : Bool) (inv : NoneTo m last c none) where
-  module _ (h : c < last + 1) (now : Bool) where
-    pub none-hit : now ≡ false → NoneTo m last (c + 1) now
-    none-hit t = record { from = omega (arith, inv .from); rest = λ e. absurd (clash e t) }
-
-    pub none-miss : getD m c 0 ≢ 2 → now ≡ none → NoneTo m last (c + 1) now
-    none-miss d t = record {
-      from = omega (arith, inv .from);
-      rest = λ e. two-miss m (last + 1) c (lowest (inTwo m) 2 (last - 1)) (inv .rest (sym t ∙ e)) h d;
-    }
-
-  pub none-told : last + 1 ≤ c → NoneInTwo m last none
-  none-told h = record { none = λ e. lowest-done (inTwo m) c (last + 1) (lowest (inTwo m) 2 (last - 1)) (inv .rest e) h }
-
-pub none-found : (m : List ℕ) (last : ℕ) (none : Bool) → NoneInTwo m last none → none ≡ true → Nothing ≡ lowest (inTwo m) 2 (last - 1)
-none-found m last none p e = p .none e
+  pub none-two-miss : getD m c 0 ≢ 2 → now ≡ none → NoneTo (inTwo m) (c + 1) end whole now
+  unfolding inTwo
+  none-two-miss d t = none-miss (inTwo m) c end whole none inv h now (ne-eqb (getD m c 0) 2 d) t
 
 -- ---- finding 7, at one cluster: v is its value, g what that means
 

@@ -1,17 +1,14 @@
 -- One slot: the chain of a plain file has the length that its size asks for, or it is bad.
-use Prim.Native.Nat.{ℕ, zero, suc, _+_, _*_, _-_, _≤_, _<_}
+use Prim.Native.Nat.{ℕ, _*_, _-_, _≤_, _<_}
 use native.Mathlib.Omega.{arith}
-use native.Mathlib.Decide.{decLt}
 use native.Mathlib.Nat.{mul-le-mul-right}
 use mir.Val.{Fits}
 use mir.Syntax.{w64}
 use mathlib.Core.Bool.{Bool, true, false, not}
 use mathlib.Core.List.{List, []}
-use mathlib.Core.Logic.{_≢_}
 use mathlib.Core.Path.{_≡_, refl, sym, ap, subst, _∙_}
 use lib.Dec.{ltb}
 use lib.ListN.{length}
-use borrow.Author.Tests.{eq-eqb, ne-eqb, lt-ltb, le-ltb}
 use Rattle.chains.specs.Aids.Chain.{Chain}
 use Rattle.chains.specs.Aids.Check.{chainOf, ownsb}
 use Rattle.chains.specs.Aids.Holders.{Holder, Owns, nobody, fileHolder}
@@ -20,7 +17,7 @@ use Rattle.chains.specs.Sizes.{clustersFor}
 use Rattle.chains.specs.Aids.Sizes.{fits, Geometry}
 use Rattle.chains.specs.Laws.Chain.{chain-length, chain-same}
 use Rattle.chains.specs.Laws.Check.{says-owned}
-use Rattle.chains.specs.Laws.Sizes.{clusters-least, clusters-hold, fits-exact}
+use Rattle.chains.specs.Laws.Sizes.{fits-exact, fits-few, fits-left}
 use Rattle.chains.specs.Laws.Tests.{clash, false-says, not-false, not-true, true-says}
 use Rattle.chains.specs.Laws.Walk.{chain-walk}
 use Rattle.table.specs.Entries.{tableOf}
@@ -62,25 +59,10 @@ module _ (n size cb : ℕ) (wide : 0 < cb) where
   room-fits few narrow = let m : n * cb ≤ 4079 * cb = mul-le-mul-right cb few in record { fits = omega arith }
 
   pub too-few : n * cb < size → false ≡ fits cb size n
-  unfolding fits
-  too-few h = sym (ne-eqb n (clustersFor cb size) (λ e. let z : n * cb ≡ clustersFor cb size * cb = ap (λ (k : ℕ). k * cb) e in omega (arith, clusters-hold cb wide size)))
+  too-few h = sym (fits-few cb wide size n h)
 
   pub left-over : size ≤ n * cb → ltb (n * cb - size) cb ≡ fits cb size n
-  unfolding fits
-  left-over h = elim (decLt (n * cb - size) cb) [
-    | yes k ↦ lt-ltb (n * cb - size) cb k ∙ sym (eq-eqb n (clustersFor cb size) (is-least k))
-    | no k ↦ le-ltb (n * cb - size) cb (omega arith) ∙ sym (ne-eqb n (clustersFor cb size) (is-more n (omega arith)))
-  ]
-    where
-      is-least : n * cb - size < cb → n ≡ clustersFor cb size
-      is-least k = elim (decLt (clustersFor cb size) n) [
-        | yes g ↦ absurd (let m : (clustersFor cb size + 1) * cb ≤ n * cb = mul-le-mul-right cb (omega arith) in omega (arith, clusters-hold cb wide size))
-        | no g ↦ omega (arith, clusters-least cb wide size n h)
-      ]
-
-      is-more : (k : ℕ) → cb ≤ k * cb - size → k ≢ clustersFor cb size
-      is-more zero g e = omega arith
-      is-more (suc k) g e = omega (arith, clusters-least cb wide size k (omega arith))
+  left-over h = sym (fits-left cb wide size n h)
 
 -- ---- the slot, in the form of the code's needs
 

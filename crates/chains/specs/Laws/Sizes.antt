@@ -1,11 +1,13 @@
 -- How many clusters a size asks for, and the laws through which the test of a chain's length is used.
-use Prim.Native.Nat.{ℕ, suc, _+_, _-_, _*_, _/_, _≤_, _<_, max}
+use Prim.Native.Nat.{ℕ, zero, suc, _+_, _-_, _*_, _/_, _≤_, _<_, max}
 use native.Mathlib.Omega.{arith}
-use native.Mathlib.Nat.{div-lt-iff-lt-mul}
-use native.Mathlib.Decide.{ℕ-discrete}
-use mathlib.Core.Path.{_≡_, sym, ap}
-use mathlib.Core.Bool.{true}
-use borrow.Author.Tests.{eqb-true, eq-eqb}
+use native.Mathlib.Nat.{div-lt-iff-lt-mul, mul-le-mul-right}
+use native.Mathlib.Decide.{ℕ-discrete, decLt}
+use mathlib.Core.Path.{_≡_, sym, ap, _∙_}
+use mathlib.Core.Bool.{true, false}
+use mathlib.Core.Logic.{_≢_}
+use lib.Dec.{ltb}
+use borrow.Author.Tests.{eqb-true, eq-eqb, ne-eqb, lt-ltb, le-ltb}
 use Rattle.chains.specs.Sizes.{clustersFor}
 use Rattle.chains.specs.Aids.Sizes.{fits}
 
@@ -54,3 +56,26 @@ fits-exact cb n k e = eqb-true k (clustersFor cb n) e
 pub exact-fits : (cb n k : ℕ) → k ≡ clustersFor cb n → fits cb n k ≡ true
 unfolding fits
 exact-fits cb n k e = eq-eqb k (clustersFor cb n) e
+
+-- as the code tests it: k clusters have room for all bytes, and less than a cluster is left over
+module _ (cb : ℕ) (p : 0 < cb) (n k : ℕ) where
+  pub fits-few : k * cb < n → fits cb n k ≡ false
+  unfolding fits
+  fits-few h = ne-eqb k (clustersFor cb n) (λ e. let z : k * cb ≡ clustersFor cb n * cb = ap (λ (x : ℕ). x * cb) e in omega (arith, clusters-hold cb p n))
+
+  pub fits-left : n ≤ k * cb → fits cb n k ≡ ltb (k * cb - n) cb
+  unfolding fits
+  fits-left h = elim (decLt (k * cb - n) cb) [
+    | yes l ↦ eq-eqb k (clustersFor cb n) (is-least l) ∙ sym (lt-ltb (k * cb - n) cb l)
+    | no l ↦ ne-eqb k (clustersFor cb n) (is-more k (omega arith)) ∙ sym (le-ltb (k * cb - n) cb (omega arith))
+  ]
+    where
+      is-least : k * cb - n < cb → k ≡ clustersFor cb n
+      is-least l = elim (decLt (clustersFor cb n) k) [
+        | yes g ↦ absurd (let m : (clustersFor cb n + 1) * cb ≤ k * cb = mul-le-mul-right cb (omega arith) in omega (arith, clusters-hold cb p n))
+        | no g ↦ omega (arith, clusters-least cb p n k h)
+      ]
+
+      is-more : (j : ℕ) → cb ≤ j * cb - n → j ≢ clustersFor cb n
+      is-more zero g e = omega arith
+      is-more (suc j) g e = omega (arith, clusters-least cb p n j (omega arith))

@@ -3,7 +3,7 @@ use Prim.Native.Nat.{ℕ, zero, suc, _+_, _≤_, _<_}
 use native.Mathlib.Omega.{arith}
 use native.Mathlib.Decide.{ℕ-discrete}
 use mathlib.Core.Bool.{Bool, true, false, cond}
-use mathlib.Core.Path.{_≡_, refl, ap₂}
+use mathlib.Core.Path.{_≡_, refl, sym, subst, ap₂}
 use Rattle.search.specs.Search.{lowest}
 use Rattle.search.specs.declared.Found.{Found}
 use Rattle.search.specs.declared.Found.the-variants.{At, Nothing}
@@ -33,3 +33,13 @@ lowest-is p s (suc f) = by (p s) refl (lowest-is p (s + 1) f)
     by : (b : Bool) → p s ≡ b → LowestIs p (s + 1) f (lowest p (s + 1) f) → LowestIs p s (suc f) (cond b (At s) (lowest p (s + 1) f))
     by true e x = (omega arith, omega arith, e, λ j h k. absurd (omega arith))
     by false e x = one-more p s f e (lowest p (s + 1) f) x
+
+-- there is none just where no number passes
+module _ (p : ℕ → Bool) (s f : ℕ) where
+  pub none-passes : Nothing ≡ lowest p s f → (i : ℕ) → s ≤ i → i < s + f → p i ≡ false
+  none-passes e = subst (LowestIs p s f) (sym e) (lowest-is p s f)
+
+pub lowest-none : (p : ℕ → Bool) (s f : ℕ) → ((i : ℕ) → s ≤ i → i < s + f → p i ≡ false) → Nothing ≡ lowest p s f
+unfolding lowest
+lowest-none p s zero h = refl
+lowest-none p s (suc f) h = rw (h s (omega arith) (omega arith)) (lowest-none p (s + 1) f (λ i j k. h i (omega arith) (omega arith)))

@@ -1,20 +1,24 @@
--- As long as the answer is yes, the bytes before this one are the same.
+-- As long as the answer is yes, the lowest from here on is the lowest of all.
 use borrow.Author.Needs.{needs}
 use Prim.Native.Nat.{_-_}
 use mathlib.Core.Logic.{⊎-elim}
-use Rattle.tablecheck.specs.Aids.Copies.{SameTo}
-use Rattle.tablecheck.specs.Laws.Tables.{same-start, same-lost, same-on, same-told}
+use Rattle.search.specs.Search.{lowest}
+use Rattle.search.specs.Aids.Flags.{NoneTo}
+use Rattle.search.specs.Laws.Flags.{none-from, none-told}
+use Rattle.search.specs.Laws.Turns.{lowest-all}
+use Rattle.tablecheck.specs.Aids.Copies.{unlikeAt}
+use Rattle.tablecheck.specs.Laws.Tables.{same-lost, same-on}
 use Rattle.tablecheck.proofs.same_bytes.Statement.{statement}
 use Rattle.tablecheck.proofs.same_bytes.Tie as tie
 
 abbrev Inv-loop : tie.InvT-loop
-Inv-loop img second size same₀ j₀ same j = SameTo second img j same
+Inv-loop img second size same₀ j₀ same j = NoneTo (unlikeAt second img) j size (lowest (unlikeAt second img) 0 size) same
 
 abbrev μ-loop : tie.MeasureT-loop
 μ-loop img second size same₀ j₀ same j = size - j
 
 loop-holds : tie.Need-loop-holds Inv-loop μ-loop
-loop-holds c = search same-start
+loop-holds c = search (none-from, lowest-all)
 
 add-if1 : tie.Need-add-if1 Inv-loop μ-loop
 add-if1 c = search needs
@@ -38,7 +42,7 @@ loop-again : tie.Need-loop-again Inv-loop μ-loop
 loop-again c = ⊎-elim (λ w. search (needs, same-lost)) (λ w. search (needs, same-on)) (c .if1 .came)
 
 returns : tie.Need-returns Inv-loop μ-loop
-returns c = search same-told
+returns c = search none-told
 
 pub same-bytes-spec : {M : Type 1} → statement M
 same-bytes-spec =

@@ -1,24 +1,26 @@
 -- Findings 2 and 3 as the code searches for them, in the form of its needs.
-use Prim.Native.Nat.{ℕ, zero, suc, _+_, _-_, _≤_, _<_}
+use Prim.Native.Nat.{ℕ, _+_, _-_, _≤_, _<_, min}
 use native.Mathlib.Omega.{arith}
-use native.Mathlib.Decide.{ℕ-discrete}
 use mir.Val.{Fits}
 use mir.Syntax.{w8}
-use mathlib.Core.Bool.{Bool, true, false, not}
+use mathlib.Core.Bool.{Bool, true, false, cond, not}
 use mathlib.Core.List.{List}
 use mathlib.Core.Logic.{_≢_}
 use mathlib.Core.Path.{_≡_, refl, sym, ap, subst, _∙_}
 use lib.Dec.{eqb}
 use lib.ListN.{getD}
-use borrow.Author.Tests.{eq-eqb, ne-eqb}
+use borrow.Author.Tests.{eqb-true, eq-eqb, ne-eqb}
 use Rattle.image.specs.Bytes.{Bytes}
 use Rattle.chains.specs.Aids.Check.{noValue}
 use Rattle.chains.specs.Values.{freeb, badb, reservedb, valueCount}
 use Rattle.chains.specs.Aids.Values.{passesAt}
-use Rattle.chains.specs.Laws.Tests.{clash}
+use Rattle.chains.specs.Laws.Tests.{not-true, not-false}
 use Rattle.chains.specs.Laws.TallyTurns.{tally-hit, tally-miss, tally-end}
 use Rattle.chains.specs.Laws.ClusterLoops.{lowest-start, count-start}
-use Rattle.search.specs.Search.{lowest}
+use Rattle.search.specs.Search.{lowest, isFound}
+use Rattle.search.specs.Aids.Flags.{NoneTo}
+use Rattle.search.specs.Laws.Flags.{none-hit, none-miss}
+use Rattle.search.specs.Laws.Meaning.{none-passes, lowest-none}
 use Rattle.search.specs.Laws.Turns.{lowest-hit, lowest-miss, lowest-done}
 use Rattle.search.specs.declared.Found.{Found}
 use Rattle.search.specs.declared.Found.the-variants.{At, Nothing}
@@ -29,7 +31,7 @@ use Rattle.values.specs.Laws.Meanings.{isFree, isBad, isReserved, isNone, free-
 use Rattle.table.specs.Entries.{tableOf, entryOf}
 use Rattle.table.specs.Laws.OneCopy.{entry-small}
 use Rattle.table.specs.Laws.View.{table-inside}
-use Rattle.tablecheck.specs.Aids.Copies.{differsAt, SameTo, AlikeFrom}
+use Rattle.tablecheck.specs.Aids.Copies.{differsAt, unlikeAt, searchEnd}
 use Rattle.tablecheck.specs.Aids.Values.{censusBy, censusOf, Tallied, Met, CountedTo}
 use Rattle.tablecheck.specs.declared.Census.{Census}
 use Rattle.tablecheck.specs.declared.Census.the-variants.{NoValue, Values}
@@ -57,63 +59,76 @@ module _ (l : List ℕ) (second j : ℕ) where
     unfolding differsAt
     no-difference d h = rw (same, ne-eqb j 1 d, ne-eqb j 2 h)
 
--- ---- the bytes of both copies
+-- ---- whether all bytes are the same
 
-pub same-start : (l : List ℕ) (second : ℕ) → SameTo second l 0 true
-same-start l second = record { alike = λ e i h. absurd (omega arith) }
+module _ (l : List ℕ) (second end j : ℕ) (whole : Found) (same : Bool) (inv : NoneTo (unlikeAt second l) j end whole same) (h : j < end) (now : Bool) where
+  pub same-lost : getD l (512 + j) 0 ≢ getD l (second + j) 0 → now ≡ false → NoneTo (unlikeAt second l) (j + 1) end whole now
+  unfolding unlikeAt
+  same-lost d t = none-hit (unlikeAt second l) j end whole same inv h now (ap not (ne-eqb (getD l (512 + j) 0) (getD l (second + j) 0) d)) t
 
-module _ (l : List ℕ) (second j : ℕ) (now : Bool) where
-  pub same-lost : now ≡ false → SameTo second l (j + 1) now
-  same-lost t = record { alike = λ e. absurd (clash e t) }
-
-  pub same-on : (same : Bool) → SameTo second l j same → getD l (512 + j) 0 ≡ getD l (second + j) 0 → now ≡ same → SameTo second l (j + 1) now
-  same-on same inv b t = record {
-    alike = λ e i h. elim (ℕ-discrete i j) [
-      | yes q ↦ rw q b
-      | no q ↦ inv .alike (sym t ∙ e) i (omega arith)
-    ];
-  }
-
-pub same-told : (l : List ℕ) (second size j : ℕ) (same : Bool) → SameTo second l j same → size ≤ j → SameTo second l size same
-same-told l second size j same inv h = record { alike = λ e i k. inv .alike e i (omega arith) }
+  pub same-on : getD l (512 + j) 0 ≡ getD l (second + j) 0 → now ≡ same → NoneTo (unlikeAt second l) (j + 1) end whole now
+  unfolding unlikeAt
+  same-on e t = none-miss (unlikeAt second l) j end whole same inv h now (ap not (eq-eqb (getD l (512 + j) 0) (getD l (second + j) 0) e)) t
 
 -- ---- how far to search
 
 module _ (l : List ℕ) (second size : ℕ) where
-  pub all-searched : AlikeFrom second l size size
-  all-searched = record { within = omega arith; rest = λ i h k. absurd (omega arith) }
+  pub search-short : size < 3 → size ≡ searchEnd second l size
+  unfolding searchEnd
+  search-short h = by (isFound (lowest (unlikeAt second l) 0 size))
+    where
+      by : (b : Bool) → size ≡ cond b size (min 3 size)
+      by true = refl
+      by false = omega arith
 
-  pub three-searched : (b : Bool) → SameTo second l size b → b ≡ true → 3 ≤ size → AlikeFrom second l size 3
-  three-searched b same e h = record {
-    within = h;
-    rest = λ i k g. sym (no-difference l second i (same .alike e i g) (omega arith) (omega arith));
-  }
+  module _ (b : Bool) (t : b ≡ not (isFound (lowest (unlikeAt second l) 0 size))) where
+    pub search-three : b ≡ true → 3 ≤ size → 3 ≡ searchEnd second l size
+    unfolding searchEnd
+    search-three e h = rw (not-true (isFound (lowest (unlikeAt second l) 0 size)) (sym t ∙ e)) (omega arith)
+
+    pub search-all : b ≡ false → size ≡ searchEnd second l size
+    unfolding searchEnd
+    search-all e = rw (not-false (isFound (lowest (unlikeAt second l) 0 size)) (sym t ∙ e))
 
 -- ---- the search for the lowest
 
-nothing-lowest : (t : ℕ → Bool) (s f : ℕ) → ((i : ℕ) → s ≤ i → i < s + f → t i ≡ false) → Nothing ≡ lowest t s f
-unfolding lowest
-nothing-lowest t s zero clear = refl
-nothing-lowest t s (suc f) clear = rw (clear s (omega arith) (omega arith)) (nothing-lowest t (s + 1) f (λ i h k. clear i (omega arith) (omega arith)))
+module _ (l : List ℕ) (second size end j : ℕ) (e : end ≡ searchEnd second l size) where
+  end-within : end ≤ size
+  unfolding searchEnd
+  end-within = by (isFound (lowest (unlikeAt second l) 0 size)) e
+    where
+      by : (b : Bool) → end ≡ cond b size (min 3 size) → end ≤ size
+      by true x = omega arith
+      by false x = omega arith
 
-module _ (l : List ℕ) (second size end j : ℕ) (alike : AlikeFrom second l size end) where
+  -- from there on the copies are as they must be
+  end-alike : (i : ℕ) → end ≤ i → i < size → differsAt second l i ≡ false
+  unfolding searchEnd unlikeAt
+  end-alike i h k = by (lowest (unlikeAt second l) 0 size) refl e
+    where
+      by : (f : Found) → lowest (unlikeAt second l) 0 size ≡ f → end ≡ cond (isFound f) size (min 3 size) → differsAt second l i ≡ false
+      by (At x) p x′ = absurd (omega arith)
+      by Nothing p x′ =
+          let u : not (eqb (getD l (512 + i) 0) (getD l (second + i) 0)) ≡ false = none-passes (unlikeAt second l) 0 size (sym p) i (omega arith) (omega arith) in
+          sym (no-difference l second i (eqb-true (getD l (512 + i) 0) (getD l (second + i) 0) (not-false (eqb (getD l (512 + i) 0) (getD l (second + i) 0)) u)) (omega arith) (omega arith))
+
   module _ (h : j < end) where
     module _ (n : ℕ) (one : 512 + size ≤ second) (two : second + size ≤ n) where
       pub in-copy-one : 512 + j < n
-      in-copy-one = omega (arith, alike .within)
+      in-copy-one = omega (arith, end-within)
 
       pub in-copy-two : second + j < n
-      in-copy-two = omega (arith, alike .within)
+      in-copy-two = omega (arith, end-within)
 
     module _ (whole : Found) (inv : lowest (differsAt second l) j (size - j) ≡ whole) (b : Bool) (t : b ≡ differsAt second l j) where
       pub difference-hit : b ≡ true → At j ≡ whole
-      difference-hit e = lowest-hit (differsAt second l) j size whole inv (omega (arith, alike .within)) b t e
+      difference-hit x = lowest-hit (differsAt second l) j size whole inv (omega (arith, end-within)) b t x
 
       pub difference-miss : b ≡ false → lowest (differsAt second l) (j + 1) (size - (j + 1)) ≡ whole
-      difference-miss e = lowest-miss (differsAt second l) j size whole inv (omega (arith, alike .within)) b t e
+      difference-miss x = lowest-miss (differsAt second l) j size whole inv (omega (arith, end-within)) b t x
 
   pub difference-end : (whole : Found) → lowest (differsAt second l) j (size - j) ≡ whole → end ≤ j → Nothing ≡ whole
-  difference-end whole inv h = nothing-lowest (differsAt second l) j (size - j) (λ i k g. alike .rest i (omega arith) (omega arith)) ∙ inv
+  difference-end whole inv h = lowest-none (differsAt second l) j (size - j) (λ i k g. end-alike i (omega arith) (omega arith)) ∙ inv
 
 -- ---- the census
 

@@ -6,7 +6,8 @@ use Rattle.chains.specs.Aids.Check.{inTwo}
 use Rattle.chains.specs.Laws.ClusterLoops.{lowest-start}
 use Rattle.search.specs.Search.{lowest}
 use Rattle.search.specs.Laws.Turns.{lowest-done}
-use Rattle.chaincheck.specs.Laws.MarkTurns.{none-found, two-hit, two-miss}
+use Rattle.search.specs.Laws.Flags.{none-found}
+use Rattle.chaincheck.specs.Laws.MarkTurns.{two-hit, two-miss}
 use Rattle.chaincheck.proofs.marks.first_in_two.Statement.{statement}
 use Rattle.chaincheck.proofs.marks.first_in_two.Tie as tie
 
