@@ -11,18 +11,13 @@ ghost use Rattle.table.specs.Entries.{wordAt, tableOf};
 ghost use Rattle.walks.specs.Aids.Walks.{Tails};
 ghost use Rattle.chaincheck.specs.Aids.Visits.{SlotVisited, FilesVisited};
 
-// Whether n clusters are just enough for size bytes: all have room there, and less than a cluster is left over. (This product
-// costs less than the quotient that says how many are needed.)
-fn just_enough(n: usize, size: usize, cb: usize) -> bool
+// Whether n clusters have room for size bytes. (This product costs less than the quotient that says how many are needed.)
+fn has_room(n: usize, size: usize, cb: usize) -> bool
     requires { ⌜ n ≤ 4079 ⌝ }
     requires { ⌜ (0 < cb) × (cb ≤ 4096) ⌝ }
     ensures { λ r. ⌜ r ≡ fits cb size n ⌝ }
 {
-    let room = n * cb;
-    if room < size {
-        return false;
-    }
-    room - size < cb
+    size <= n * cb
 }
 
 // Visits the chain of the entry at byte a, if it is a plain file, and holds its length against the size. A cluster has cb
@@ -49,7 +44,7 @@ fn visit_slot(
     let size = fields::size_at(img, a) as usize;
     match walks::chain::visit(img, marks, left, last, fields::start_at(img, a) as usize) {
         Length::Of(n) => {
-            if just_enough(n, size, cb) {
+            if has_room(n, size, cb) {
                 Slot::Clusters(n)
             } else {
                 Slot::Bad

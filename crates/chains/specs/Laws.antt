@@ -19,7 +19,6 @@ pub mod ClusterLoops
 pub mod Growth
 pub mod Changes
 pub mod Marks
-pub mod Follow
 pub mod StepTurns
 pub mod Content
 pub mod Touched

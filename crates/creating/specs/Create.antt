@@ -18,7 +18,7 @@ use Rattle.opened.specs.Places.{isOpen}
 use Rattle.opened.specs.Records.{withRecord}
 use Rattle.calls.specs.Outcome.{Row, Outcome, outcome, decided}
 use Rattle.calls.specs.Numbers.{ofNoKind, unsound, breaksRules, outOfRange, accessDenied, tooManyOpen}
-use Rattle.calls.specs.Refusals.{placeFound, theKind, notOfKind, notSound, badName, badStamp, badAttr, noFile, fileSlot, readOnly, slotForNew, noPlace, freePlace}
+use Rattle.calls.specs.Refusals.{placeFound, theKind, notOfKind, notSound, badName, badStamp, badAttr, noFile, fileSlot, readOnly, slotForNew, noPlace, freePlace, addressOf}
 use Rattle.freeing.specs.Freed.{chainFreed}
 use Rattle.calls.specs.declared.Answer.{Answer}
 
@@ -50,7 +50,7 @@ abbrev pub createEffect : List ℕ → List ℕ → List ℕ → ℕ → Stamp �
 createEffect img t s attr stamp =
     let k = theKind img in
     cond (noFile img s) (madeBy img t k (placeFound (slotForNew img)) (nameGiven s .name) attr (packed stamp))
-    (madeBy (chainFreed k img (fileSlot img s)) t k (fileSlot img s) (nameGiven s .name) attr (packed stamp))
+    (madeBy (chainFreed k img (addressOf img (fileSlot img s))) t k (fileSlot img s) (nameGiven s .name) attr (packed stamp))
 
 unfoldable pub createOutcome : List ℕ → List ℕ → List ℕ → ℕ → Stamp → Outcome
 createOutcome img t s attr stamp = decided (createRows img t s attr stamp) (createEffect img t s attr stamp) img t []

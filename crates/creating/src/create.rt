@@ -52,7 +52,7 @@ fn empty_old(
         Found::At(place) => {
             opened::put_record(t, place, 2, slot as u32, 0);
             let a = k.slot_at(slot);
-            freed::free_file(img, k, slot);
+            freed::free_file(img, k, a);
             fields::write_entry(img, a, name, attr, time, date, 0, 0);
             Answer::well(place as u32)
         }

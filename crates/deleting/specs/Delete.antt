@@ -25,7 +25,7 @@ deleteRows img t s =
 
 -- the image without the file in the slot
 abbrev pub erasedIn : Kind → List ℕ → ℕ → List ℕ
-erasedIn k img slot = withFirst (chainFreed k img slot) (slotAt k slot) 0xE5
+erasedIn k img slot = withFirst (chainFreed k img (slotAt k slot)) (slotAt k slot) 0xE5
 
 abbrev pub deleteEffect : List ℕ → List ℕ → List ℕ → Outcome
 deleteEffect img t s = outcome 0 0 (erasedIn (theKind img) img (fileSlot img s)) t []

@@ -20,7 +20,7 @@ fn erase_in(img: &mut [u8], k: Kind, slot: usize)
     ensures { λ _. ⌜ now (img .exit) ≡ erasedIn k (now (img .entry)) slot ⌝ }
 {
     let a = k.slot_at(slot);
-    freed::free_file(img, k, slot);
+    freed::free_file(img, k, a);
     fields::put_first(img, a, 0xE5);
 }
 

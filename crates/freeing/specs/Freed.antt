@@ -6,6 +6,6 @@ use Rattle.diskette.specs.declared.Kind.{Kind}
 use Rattle.links.specs.Freed.{freed}
 use Rattle.holding.specs.Holding.{fileChain}
 
--- the image with each cluster of the file in the slot free in both copies of the table
+-- the image with each cluster of the file, whose entry starts at byte a, free in both copies of the table
 unfoldable pub chainFreed : Kind → List ℕ → ℕ → List ℕ
-chainFreed k img slot = freed (copyTwo k) img (fileChain k img slot)
+chainFreed k img a = freed (copyTwo k) img (fileChain k img a)

@@ -1,5 +1,5 @@
 -- Demand 3, sentence by sentence: what a library must keep, from any sound volume, any bytes as open table, and after any run of calls.
-use Prim.Native.Nat.{ℕ, _+_, _≤_, _<_}
+use Prim.Native.Nat.{ℕ, _+_, _*_, _≤_, _<_}
 use mathlib.Core.Bool.{cond}
 use mathlib.Core.List.{List, [], _∷_}
 use mathlib.Core.Logic.{_≢_}
@@ -7,15 +7,17 @@ use mathlib.Core.Option.{Option}
 use mathlib.Core.Path.{_≡_}
 use lib.Dec.{eqb}
 use lib.IntN.{ℤ, pos, _+ℤ_}
-use lib.ListN.{length}
+use lib.ListN.{length, getD}
 use Rattle.image.specs.Bytes.{Bytes}
 use Rattle.image.specs.Store.{stored, part}
 use Rattle.diskette.specs.Images.{OfKind}
-use Rattle.diskette.specs.Places.{clusters, rootEntries, slotAt}
+use Rattle.diskette.specs.Places.{clusterBytes, clusters, rootAt, rootEntries, slotAt}
 use Rattle.diskette.specs.declared.Kind.{Kind}
 use Rattle.directory.specs.Entries.{SameBytes}
+use Rattle.fields.specs.Fields.{startOf}
 use Rattle.opened.specs.Records.{pointerOf}
 use Rattle.sound.specs.Counts.{freeOf, heldOf, badOf, reservedOf}
+use Rattle.sound.specs.Files.{ChainOf, AreChains}
 use Rattle.sound.specs.Sound.{Sound}
 use Rattle.reading.specs.Read.{readCount}
 use Rattle.writing.specs.Write.{roomOf}
@@ -86,19 +88,30 @@ abbrev pub AltersNoOther : Library → Type 0
 AltersNoOther lib = AfterAnyRun lib (λ k w. (c : Call) → Given c → (s : ℕ) → s < rootEntries k → ¬ Names c k w s
     → SameFile k s (w .image) (stepBy lib w c .image))
 
--- "The total in demand 3 has four parts": free, needed (by the sizes), bad, reserved
+-- "The total in demand 3 has four parts": free, held, bad, reserved. Held is "the sum of chain lengths, each defined by its list of
+-- clusters": lists are the files' chains, which a sound volume has.
 abbrev pub TotalAfterEach : Library → Type 0
-TotalAfterEach lib = AfterAnyRun lib (λ k w. let l = w .image in freeOf k l + heldOf k l + badOf k l + reservedOf k l ≡ clusters k)
+TotalAfterEach lib = AfterAnyRun lib (λ k w. (lists : ℕ → List ℕ) → AreChains k (w .image) lists →
+    let l = w .image in freeOf k l + heldOf k l lists + badOf k l + reservedOf k l ≡ clusters k)
 
 -- "a write falls short only where the file's own clusters and all free ones end before its last byte"; and then it fills them
 abbrev pub ShortOnlyWhereFull : Library → Type 0
 ShortOnlyWhereFull lib = AfterAnyRun lib (λ k w. (h : ℕ) (bs : List ℕ) (s : ℕ) →
     let o = lib (write h bs) w in
-    let room = roomOf k (w .image) s in
+    let room = roomOf k (w .image) (slotAt k s) in
     let pointer = pointerOf (w .table) h in
     o .number ≡ 0 → Names (write h bs) k w s
     → (o .value ≤ length bs)
     × (o .value < length bs → (room < pointer + length bs) × (0 < o .value → pointer + o .value ≡ room)))
+
+-- "Write uses the file's spare clusters first": where the file's clusters, the list cs, reach to the last byte given, no byte
+-- before the root is altered, so no table entry, and the start stays
+abbrev pub SpareFirst : Library → Type 0
+SpareFirst lib = AfterAnyRun lib (λ k w. (h : ℕ) (bs : List ℕ) (s : ℕ) (cs : List ℕ) →
+    let m = stepBy lib w (write h bs) .image in
+    lib (write h bs) w .number ≡ 0 → Names (write h bs) k w s → ChainOf k (w .image) s cs
+    → pointerOf (w .table) h + length bs ≤ length cs * clusterBytes k
+    → ((j : ℕ) → j < rootAt k → getD m j 0 ≡ getD (w .image) j 0) × (startOf m (slotAt k s) ≡ startOf (w .image) (slotAt k s)))
 
 -- a call that only looks alters nothing
 abbrev pub LooksAlterNothing : Library → Type 0

@@ -1,3 +1,4 @@
--- What a file of a ready volume holds: its clusters and its bytes.
+-- What a file of a volume holds: its clusters and its bytes.
 pub mod Holding
+pub mod Aids
 pub mod Laws

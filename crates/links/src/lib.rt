@@ -5,12 +5,19 @@ use table::set_entry;
 ghost use mathlib.Core.Path.{_≡_};
 ghost use Prim.Native.Nat.{_+_, _-_, _≤_, _<_};
 ghost use lib.ListN.{length};
-ghost use Rattle.chains.specs.Aids.Steps.{followed};
+ghost use Rattle.chains.specs.Chain.{clustersFrom};
 ghost use Rattle.table.specs.Entries.{wordAt, tableOf};
 ghost use Rattle.table.specs.Aids.Copies.{Reaches};
 ghost use Rattle.links.specs.Aids.Freed.{freedFrom};
+ghost use Rattle.links.specs.Aids.Extent.{extentOf};
 ghost use Rattle.links.specs.Linked.{linkedTo};
 ghost use Rattle.links.specs.Aids.Linked.{nextFree, Added};
+
+// How far a chain goes: how many clusters it has, and which is the last, 0 where it has none.
+pub struct Extent {
+    pub clusters: usize,
+    pub end: usize,
+}
 
 // Frees up to n clusters of the chain that starts at start.
 pub fn free_chain(img: &mut [u8], second: usize, last: usize, start: usize, n: usize)
@@ -49,19 +56,27 @@ pub fn value_of(img: &[u8], last: usize, cluster: usize) -> usize
     entry(img, cluster) as usize
 }
 
-// The n-th cluster of the chain that starts at start.
-pub fn last_of(img: &[u8], last: usize, start: usize, n: usize) -> usize
+// How far the chain that starts at start goes, over no more clusters than the volume has.
+pub fn extent_of(img: &[u8], last: usize, start: usize) -> Extent
     requires { ⌜ last ≤ 4079 ⌝ }
     requires { ⌜ wordAt 512 last + 2 ≤ length (now img) ⌝ }
-    ensures { λ r. ⌜ r ≡ followed (tableOf last (now (img .entry))) (n - 1) start ⌝ }
+    ensures { λ r. ⌜ r ≡ extentOf (clustersFrom last (tableOf last (now (img .entry))) (last - 1) start) ⌝ }
 {
     let mut cluster = start;
-    let mut left = n;
-    while 1 < left {
-        cluster = value_of(img, last, cluster);
-        left -= 1;
+    let mut clusters: usize = 0;
+    let mut end: usize = 0;
+    while clusters + 1 < last {
+        if cluster < 2 {
+            return Extent { clusters, end };
+        }
+        if last < cluster {
+            return Extent { clusters, end };
+        }
+        end = cluster;
+        cluster = entry(img, cluster) as usize;
+        clusters += 1;
     }
-    cluster
+    Extent { clusters, end }
 }
 
 // The lowest free cluster from cluster from on, 0 where there is none.

@@ -1,13 +1,16 @@
 // Bytes put into a file: zeros from its size on up to the pointer, and the bytes from there.
 use crate::longer;
 use diskette::Kind;
+use links::Extent;
 ghost use Prim.Native.Nat.{_*_, _-_, _≤_, max};
 ghost use mathlib.Core.Path.{_≡_};
 ghost use lib.ListN.{length, take};
 ghost use Rattle.chains.specs.Write.{writtenImage};
 ghost use Rattle.diskette.specs.Aids.Usable.{Usable};
 ghost use Rattle.diskette.specs.Places.{firstData, clusterBytes, lastCluster};
+ghost use Rattle.links.specs.Aids.Extent.{extentOf};
 ghost use Rattle.contents.specs.Aids.Contents.{chainFrom, bytesPut, zerosPut};
+ghost use Rattle.holding.specs.Holding.{fileChain};
 ghost use Rattle.putting.specs.Aids.Put.{HasRoom, CanPut};
 ghost use Rattle.putting.specs.Written.{writtenIn};
 
@@ -67,21 +70,32 @@ fn larger(a: u32, b: u32) -> u32
     if a < b { b } else { a }
 }
 
-// Puts the bytes at the pointer into the file in the slot.
-fn put_in_file(img: &mut [u8], k: Kind, slot: usize, pointer: u32, bytes: &[u8])
-    requires { ⌜ CanPut k (now img) slot pointer (length (now bytes)) ⌝ }
-    ensures { λ _. ⌜ now (img .exit) ≡ writtenIn k (now (img .entry)) slot pointer (now (bytes .entry)) ⌝ }
+// Puts the bytes at the pointer into the file whose entry starts at byte a; own is how far its chain goes.
+fn put_in_file(img: &mut [u8], k: Kind, a: usize, own: Extent, pointer: u32, bytes: &[u8])
+    requires { ⌜ CanPut k (now img) a pointer (length (now bytes)) ⌝ }
+    requires { ⌜ own ≡ extentOf (fileChain k (now img) a) ⌝ }
+    ensures { λ _. ⌜ now (img .exit) ≡ writtenIn k (now (img .entry)) a pointer (now (bytes .entry)) ⌝ }
 {
-    let size = fields::size_at(img, k.slot_at(slot));
-    let start = longer::lengthen(img, k, slot, larger(size, pointer + bytes.len() as u32));
+    let size = fields::size_at(img, a);
+    let after = larger(size, pointer + bytes.len() as u32);
+    let start = longer::lengthen(img, k, a, own, after);
     put_along(img, k, start, size, pointer, bytes);
 }
 
 // Puts the first n of the bytes there.
-pub fn put_first(img: &mut [u8], k: Kind, slot: usize, pointer: u32, bytes: &[u8], n: usize)
-    requires { ⌜ CanPut k (now img) slot pointer n ⌝ }
+pub fn put_first(
+    img: &mut [u8],
+    k: Kind,
+    a: usize,
+    own: Extent,
+    pointer: u32,
+    bytes: &[u8],
+    n: usize,
+)
+    requires { ⌜ CanPut k (now img) a pointer n ⌝ }
+    requires { ⌜ own ≡ extentOf (fileChain k (now img) a) ⌝ }
     requires { ⌜ n ≤ length (now bytes) ⌝ }
-    ensures { λ _. ⌜ now (img .exit) ≡ writtenIn k (now (img .entry)) slot pointer (take n (now (bytes .entry))) ⌝ }
+    ensures { λ _. ⌜ now (img .exit) ≡ writtenIn k (now (img .entry)) a pointer (take n (now (bytes .entry))) ⌝ }
 {
-    put_in_file(img, k, slot, pointer, &bytes[0..n]);
+    put_in_file(img, k, a, own, pointer, &bytes[0..n]);
 }

@@ -28,10 +28,10 @@ readRows img t h =
 
 abbrev pub readEffect : List ℕ → List ℕ → ℕ → List ℕ → Outcome
 readEffect img t h buf =
-    let slot = slotOf t h in
+    let a = addressOf img (slotOf t h) in
     let pointer = pointerOf t h in
-    let n = readCount (length buf) (sizeOf img (addressOf img slot)) pointer in
-    outcome 0 n img (withPointer t h (pointer + n)) (stored buf 0 (part (fileBytes (theKind img) img slot) pointer n))
+    let n = readCount (length buf) (sizeOf img a) pointer in
+    outcome 0 n img (withPointer t h (pointer + n)) (stored buf 0 (part (fileBytes (theKind img) img a) pointer n))
 
 unfoldable pub readOutcome : List ℕ → List ℕ → ℕ → List ℕ → Outcome
 readOutcome img t h buf = decided (readRows img t h) (readEffect img t h buf) img t buf

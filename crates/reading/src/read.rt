@@ -38,7 +38,7 @@ fn copy_out(img: &[u8], k: Kind, slot: usize, pointer: u32, buf: &mut [u8], n: u
     requires { ⌜ IsFile k (now img) slot ⌝ }
     requires { ⌜ n ≤ sizeOf (now img) (slotAt k slot) - pointer ⌝ }
     requires { ⌜ n ≤ length (now buf) ⌝ }
-    ensures { λ _. ⌜ now (buf .exit) ≡ stored (now (buf .entry)) 0 (part (fileBytes k (now (img .entry)) slot) pointer n) ⌝ }
+    ensures { λ _. ⌜ now (buf .exit) ≡ stored (now (buf .entry)) 0 (part (fileBytes k (now (img .entry)) (slotAt k slot)) pointer n) ⌝ }
 {
     if n == 0 {
         return;

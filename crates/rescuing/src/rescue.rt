@@ -4,20 +4,19 @@ use calls::numbers;
 use diskette::Kind;
 use diskette::WhichKind;
 use search::Found;
-ghost use Prim.Native.Nat.{_+_, _≤_};
+ghost use Prim.Native.Nat.{_≤_};
 ghost use mathlib.Core.Bool.{true};
 ghost use mathlib.Core.Path.{_≡_};
 ghost use lib.ListN.{length, take};
 ghost use Rattle.image.specs.Store.{stored};
 ghost use Rattle.chains.specs.Values.{endb};
-ghost use Rattle.table.specs.Entries.{wordAt, tableOf};
 ghost use Rattle.diskette.specs.Images.{kindOfImage};
 ghost use Rattle.diskette.specs.Places.{slotAt};
 ghost use Rattle.diskette.specs.declared.WhichKind.the-variants.{Known};
 ghost use Rattle.fields.specs.Fields.{sizeOf};
 ghost use Rattle.holding.specs.Holding.{fileBytes};
 ghost use Rattle.sound.specs.Files.{IsFile};
-ghost use Rattle.rescuing.specs.Rescue.{endsAfter, goodChain, rescueCount, Rescues};
+ghost use Rattle.rescuing.specs.Rescue.{goodChain, rescueCount, Rescues};
 
 // How many bytes out and size allow.
 fn count_of(room: usize, size: u32) -> u32
@@ -40,44 +39,23 @@ fn is_end(v: usize) -> bool
     v <= 0xFFF
 }
 
-// Whether there are n clusters from start on, each in range, each but the last naming the next, the last an end value.
-fn ends_after(img: &[u8], last: usize, start: usize, n: usize) -> bool
-    requires { ⌜ last ≤ 4079 ⌝ }
-    requires { ⌜ wordAt 512 last + 2 ≤ length (now img) ⌝ }
-    ensures { λ r. ⌜ r ≡ endsAfter last (tableOf last (now (img .entry))) start n ⌝ }
-{
-    let mut v = start;
-    let mut left = n;
-    while 0 < left {
-        if v < 2 {
-            return false;
-        }
-        if last < v {
-            return false;
-        }
-        v = links::value_of(img, last, v);
-        left -= 1;
-    }
-    is_end(v)
-}
-
-// Whether the chain of the file in the slot is as finding 5 asks. None has more clusters than the volume.
+// Whether the chain of the file in the slot is as finding 5 asks. One that comes to no end has a last cluster too, but no end
+// value there.
 fn has_good_chain(img: &[u8], k: Kind, slot: usize) -> bool
     requires { ⌜ kindOfImage (now img) ≡ Known k ⌝ }
     requires { ⌜ IsFile k (now img) slot ⌝ }
     ensures { λ r. ⌜ r ≡ goodChain k (now (img .entry)) slot ⌝ }
 {
     let a = k.slot_at(slot);
-    let start = fields::start_at(img, a) as usize;
     let size = fields::size_at(img, a);
-    if size == 0 {
-        return start == 0;
+    if fields::start_at(img, a) == 0 {
+        return size == 0;
     }
-    let needed = k.needed_for(size);
-    if k.clusters() < needed {
+    let own = holding::extent_at(img, k, a);
+    if own.clusters < k.needed_for(size) {
         return false;
     }
-    ends_after(img, k.last_cluster(), start, needed)
+    is_end(links::value_of(img, k.last_cluster(), own.end))
 }
 
 // Copies the first n bytes of the file in the slot, whose chain is good, to the front of out.
@@ -87,7 +65,7 @@ fn copy_out(img: &[u8], k: Kind, slot: usize, out: &mut [u8], n: u32)
     requires { ⌜ goodChain k (now img) slot ≡ true ⌝ }
     requires { ⌜ n ≤ sizeOf (now img) (slotAt k slot) ⌝ }
     requires { ⌜ n ≤ length (now out) ⌝ }
-    ensures { λ _. ⌜ now (out .exit) ≡ stored (now (out .entry)) 0 (take n (fileBytes k (now (img .entry)) slot)) ⌝ }
+    ensures { λ _. ⌜ now (out .exit) ≡ stored (now (out .entry)) 0 (take n (fileBytes k (now (img .entry)) (slotAt k slot))) ⌝ }
 {
     let base = 512 * k.first_data();
     let start = fields::start_at(img, k.slot_at(slot)) as usize;

@@ -9,6 +9,7 @@ use Rattle.diskette.specs.declared.Kind.{Kind}
 use Rattle.diskette.specs.declared.WhichKind.{WhichKind}
 use Rattle.diskette.specs.declared.WhichKind.the-variants.{Known, Unknown}
 use Rattle.sound.specs.Findings.{TablesDiffer, NoValue, BadSlot, BadChain, InTwoChains, Lost}
+use Rattle.sound.specs.Files.{AreChains}
 use Rattle.sound.specs.Counts.{countsOf}
 use Rattle.sound.specs.declared.Verdict.{Verdict}
 use Rattle.sound.specs.declared.Verdict.the-variants.{Sound, Finding}
@@ -22,7 +23,7 @@ AnswersOf k l =
     (OrElse ltb (BadChain k l) (Finding 5)
     (OrElse ltb (InTwoChains k l) (Finding 6)
     (OrElse ltb (Lost k l) (Finding 7)
-    (λ v. v ≡ Sound (countsOf k l)))))))
+    (λ v. (lists : ℕ → List ℕ) × AreChains k l lists × (v ≡ Sound (countsOf k l lists))))))))
 
 -- 1. Not of a kind, or a system area that ends before the first data sector; place 0.
 abbrev pub AnswersBy : WhichKind → List ℕ → Verdict → Type 0

@@ -2,12 +2,11 @@
 use Prim.Native.Nat.{ℕ}
 use mathlib.Core.Bool.{Bool, cond}
 use mathlib.Core.List.{List}
-use Rattle.chains.specs.Sizes.{clustersFor}
+use lib.ListN.{length}
 use Rattle.chains.specs.Sums.{sum, tally}
 use Rattle.chains.specs.Values.{freeb, badb, reservedb, valueCount}
-use Rattle.diskette.specs.Places.{clusterBytes, lastCluster, rootEntries, slotAt}
+use Rattle.diskette.specs.Places.{lastCluster, rootEntries, slotAt}
 use Rattle.diskette.specs.declared.Kind.{Kind}
-use Rattle.fields.specs.Fields.{sizeOf}
 use Rattle.directory.specs.Slots.{standingOf, isPlain}
 use Rattle.sound.specs.Files.{valueOf}
 use Rattle.sound.specs.declared.Counts.{Counts}
@@ -34,14 +33,15 @@ badOf k l = clustersWith badb k l
 abbrev pub reservedOf : Kind → List ℕ → ℕ
 reservedOf k l = clustersWith reservedb k l
 
--- "size divided by cluster bytes, rounded up", of the file in slot s; nothing where there is none
-unfoldable pub heldBy : Kind → List ℕ → ℕ → ℕ
-heldBy k l s = cond (isFile k l s) (clustersFor (clusterBytes k) (sizeOf l (slotAt k s))) 0
+-- the length of the chain of the file in slot s, by its list of clusters; nothing where there is none
+unfoldable pub heldBy : Kind → List ℕ → (ℕ → List ℕ) → ℕ → ℕ
+heldBy k l lists s = cond (isFile k l s) (length (lists s)) 0
 
--- "Held is the sum over files of" this
-abbrev pub heldOf : Kind → List ℕ → ℕ
-heldOf k l = sum (rootEntries k) (heldBy k l)
+-- held is "the sum of chain lengths, each defined by its list of clusters"
+abbrev pub heldOf : Kind → List ℕ → (ℕ → List ℕ) → ℕ
+heldOf k l lists = sum (rootEntries k) (heldBy k l lists)
 
--- "the counts files, free, held", then `bad` and `reserved`
-abbrev pub countsOf : Kind → List ℕ → Counts
-countsOf k l = record { files = fileCount k l; free = freeOf k l; held = heldOf k l; bad = badOf k l; reserved = reservedOf k l }
+-- "the counts files, free, held", then `bad` and `reserved`; lists are the files' chains
+abbrev pub countsOf : Kind → List ℕ → (ℕ → List ℕ) → Counts
+countsOf k l lists =
+    record { files = fileCount k l; free = freeOf k l; held = heldOf k l lists; bad = badOf k l; reserved = reservedOf k l }

@@ -1,6 +1,6 @@
 -- The files of a volume: plain entries of the root, and the clusters of each. A volume is a kind and the bytes of its
 -- system area, or of its whole image.
-use Prim.Native.Nat.{ℕ, _+_, _<_}
+use Prim.Native.Nat.{ℕ, _+_, _≤_, _<_}
 use mathlib.Core.List.{List, []}
 use mathlib.Core.Path.{_≡_}
 use lib.ListN.{getD, length}
@@ -28,13 +28,17 @@ pub record Clusters (last : ℕ) (f : ℕ → ℕ) (start : ℕ) (cs : List ℕ)
   pub naming : (i : ℕ) → i + 1 < length cs → f (getD cs i 0) ≡ getD cs (i + 1) 0
   pub ending : (i : ℕ) → i + 1 ≡ length cs → End (f (getD cs i 0))
 
--- the clusters of a file: with size 0 none, and start 0; with size above 0 "exactly as many as the size divided by the
--- cluster's bytes, rounded up"
+-- the clusters of a file: none, with size 0 and start 0; or a chain of "at least the size's clusters", the size divided by the
+-- cluster's bytes, rounded up
 pub data FileClusters (last cb : ℕ) (f : ℕ → ℕ) (start size : ℕ) (cs : List ℕ) : Type 0 where
   none-of-it : size ≡ 0 → start ≡ 0 → cs ≡ [] → FileClusters last cb f start size cs
-  as-many : 0 < size → length cs ≡ clustersFor cb size → Clusters last f start cs → FileClusters last cb f start size cs
+  enough : 0 < length cs → clustersFor cb size ≤ length cs → Clusters last f start cs → FileClusters last cb f start size cs
 
 -- cs is the chain of the file in slot s
 abbrev pub ChainOf : Kind → List ℕ → ℕ → List ℕ → Type 0
 ChainOf k l s cs =
     FileClusters (lastCluster k) (clusterBytes k) (valueOf k l) (startOf l (slotAt k s)) (sizeOf l (slotAt k s)) cs
+
+-- lists s is the chain of the file in slot s, for each file
+abbrev pub AreChains : Kind → List ℕ → (ℕ → List ℕ) → Type 0
+AreChains k l lists = (s : ℕ) → IsFile k l s → ChainOf k l s (lists s)

@@ -49,7 +49,7 @@ abbrev pub BadSlot : Kind → List ℕ → ℕ → Type 0
 BadSlot k l s =
     (s < rootEntries k) × (AfterNeverUsed k l s ⊎ (StrangeEntry k l s ⊎ (SecondLabel k l s ⊎ NameTwice k l s)))
 
--- 5. Chain: size 0 with start not 0; or size above 0 where the clusters from start are not as they must be.
+-- 5. Chain: start 0 with size above 0, or a chain too short, broken or without end.
 abbrev pub BadChain : Kind → List ℕ → ℕ → Type 0
 BadChain k l s = IsFile k l s × ((cs : List ℕ) → ¬ ChainOf k l s cs)
 

@@ -9,6 +9,7 @@ pub mod Answer
 pub mod OneAnswer
 pub mod Theory
 pub mod Sound
+pub mod Held
 pub mod IsSound
 pub mod Total
 pub mod Change

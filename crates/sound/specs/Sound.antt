@@ -7,7 +7,7 @@ use Rattle.chains.specs.Values.{Link, Used}
 use Rattle.search.specs.Search.{None}
 use Rattle.diskette.specs.Places.{lastCluster}
 use Rattle.diskette.specs.declared.Kind.{Kind}
-use Rattle.sound.specs.Files.{valueOf, IsFile, ChainOf}
+use Rattle.sound.specs.Files.{valueOf, IsFile, AreChains}
 use Rattle.sound.specs.Findings.{TablesDiffer, NoValue, BadSlot, BadChain, InTwoChains, Lost}
 
 -- lists s is the list of clusters of the file in slot s
@@ -15,7 +15,7 @@ pub record SoundBy (k : Kind) (l : List ℕ) (lists : ℕ → List ℕ) : Type 0
   pub tables : None (TablesDiffer k l)
   pub values : None (NoValue k l)
   pub slots : None (BadSlot k l)
-  pub chains : (s : ℕ) → IsFile k l s → ChainOf k l s (lists s)
+  pub chains : AreChains k l lists
   pub apart : (s t c : ℕ) → IsFile k l s → IsFile k l t → c ∈ lists s → c ∈ lists t → s ≡ t
   pub covered : (c : ℕ) → Link (lastCluster k) c → Used (lastCluster k) (valueOf k l c) → (s : ℕ) × IsFile k l s × (c ∈ lists s)
 

@@ -21,8 +21,9 @@ viewCount cb size offset = min (cb - offset % cb) (size - offset)
 -- the part of the image, from where byte offset of the file in a slot lies
 unfoldable pub viewPart : Kind → List ℕ → ℕ → ℕ → List ℕ
 viewPart k img slot offset =
-    let at = byteAt (512 * firstData k) (clusterBytes k) (fileChain k img slot) offset in
-    part img at (viewCount (clusterBytes k) (sizeOf img (slotAt k slot)) offset)
+    let a = slotAt k slot in
+    let at = byteAt (512 * firstData k) (clusterBytes k) (fileChain k img a) offset in
+    part img at (viewCount (clusterBytes k) (sizeOf img a) offset)
 
 abbrev pub viewRows : List ℕ → List ℕ → List Row
 viewRows img s =

@@ -15,18 +15,19 @@ use Rattle.sound.specs.Counts.{freeOf}
 use Rattle.opened.specs.Records.{slotOf, accessOf, pointerOf, withPointer, withWritten}
 use Rattle.calls.specs.Outcome.{Row, Outcome, outcome, decided}
 use Rattle.calls.specs.Numbers.{ofNoKind, unsound, invalidHandle, accessDenied}
-use Rattle.calls.specs.Refusals.{theKind, notOfKind, notSound, notLive}
+use Rattle.calls.specs.Refusals.{theKind, notOfKind, notSound, notLive, addressOf}
 use Rattle.calls.specs.declared.Answer.{Answer}
 use Rattle.holding.specs.Holding.{fileChain}
 use Rattle.putting.specs.Written.{writtenIn}
 
--- "Write has room for (own clusters + free) times cluster bytes"
+-- "Write has room for (own clusters + free) times cluster bytes"; "own clusters in its room means all of them". The file's entry
+-- starts at byte a.
 unfoldable pub roomOf : Kind → List ℕ → ℕ → ℕ
-roomOf k img slot = (length (fileChain k img slot) + freeOf k img) * clusterBytes k
+roomOf k img a = (length (fileChain k img a) + freeOf k img) * clusterBytes k
 
 -- "the smaller of the length and room less pointer; 0 when the pointer is at or past the room": so many of n bytes are written
 abbrev pub writeCount : Kind → List ℕ → ℕ → ℕ → ℕ → ℕ
-writeCount k img slot pointer n = min n (roomOf k img slot - pointer)
+writeCount k img a pointer n = min n (roomOf k img a - pointer)
 
 abbrev pub writeRows : List ℕ → List ℕ → ℕ → List Row
 writeRows img t h =
@@ -40,11 +41,11 @@ writeRows img t h =
 unfoldable pub writeEffect : List ℕ → List ℕ → ℕ → List ℕ → Outcome
 writeEffect img t h bs =
     let k = theKind img in
-    let slot = slotOf t h in
+    let a = addressOf img (slotOf t h) in
     let pointer = pointerOf t h in
-    let n = writeCount k img slot pointer (length bs) in
+    let n = writeCount k img a pointer (length bs) in
     cond (eqb n 0) (outcome 0 0 img t [])
-    (outcome 0 n (writtenIn k img slot pointer (take n bs)) (withWritten (withPointer t h (pointer + n)) h) [])
+    (outcome 0 n (writtenIn k img a pointer (take n bs)) (withWritten (withPointer t h (pointer + n)) h) [])
 
 unfoldable pub writeOutcome : List ℕ → List ℕ → ℕ → List ℕ → Outcome
 writeOutcome img t h bs = decided (writeRows img t h) (writeEffect img t h bs) img t []

@@ -6,23 +6,24 @@ use calls::make_ready;
 use calls::numbers;
 use diskette::Kind;
 use search::Found;
-ghost use Prim.Native.Nat.{_+_, _-_, _<_, min};
+ghost use Prim.Native.Nat.{_+_, _-_, _*_, _≤_, _<_, min};
 ghost use mathlib.Core.Path.{_≡_};
+ghost use Rattle.diskette.specs.Aids.Usable.{Usable};
+ghost use Rattle.diskette.specs.Places.{clusterBytes, clusters};
 ghost use Rattle.opened.specs.Records.{placeCount, withPointer, withWritten};
 ghost use Rattle.sound.specs.Counts.{freeOf};
 ghost use Rattle.calls.specs.Aids.Ready.{OnVolume};
-ghost use Rattle.sound.specs.Files.{IsFile};
-ghost use Rattle.writing.specs.Write.{Writes, roomOf};
+ghost use Rattle.holding.specs.Aids.Files.{FileAt};
+ghost use Rattle.writing.specs.Write.{Writes};
 ghost use Rattle.writing.specs.Aids.Write.{WritesAt};
 
-// The bytes for which the file in the slot has room, where so many clusters are free.
-fn room_for(img: &[u8], k: Kind, slot: usize, free: usize) -> usize
-    requires { ⌜ OnVolume (now img) k ⌝ }
-    requires { ⌜ IsFile k (now img) slot ⌝ }
-    requires { ⌜ free ≡ freeOf k (now img) ⌝ }
-    ensures { λ r. ⌜ r ≡ roomOf k (now (img .entry)) slot ⌝ }
+// The bytes for which a file with so many clusters of its own has room, where so many are free.
+fn room_for(k: Kind, own: usize, free: usize) -> usize
+    requires { ⌜ Usable k ⌝ }
+    requires { ⌜ own + free ≤ clusters k ⌝ }
+    ensures { λ r. ⌜ r ≡ (own + free) * clusterBytes k ⌝ }
 {
-    let clusters = putting::longer::own_clusters(img, k, slot) + free;
+    let clusters = own + free;
     clusters * k.cluster_bytes()
 }
 
@@ -48,28 +49,29 @@ fn move_on(t: &mut [u8], place: usize, pointer: u32, n: usize)
     opened::put_written(t, place);
 }
 
-// Writes at the pointer of the place into the file in the slot.
+// Writes at the pointer of the place into the file whose entry starts at byte a.
 fn write_at(
     img: &mut [u8],
     k: Kind,
     free: usize,
-    slot: usize,
+    a: usize,
     t: &mut [u8],
     place: usize,
     bytes: &[u8],
 ) -> Answer
     requires { ⌜ OnVolume (now img) k ⌝ }
-    requires { ⌜ IsFile k (now img) slot ⌝ }
+    requires { ⌜ FileAt k (now img) a ⌝ }
     requires { ⌜ free ≡ freeOf k (now img) ⌝ }
     requires { ⌜ place < placeCount (now t) ⌝ }
-    ensures { λ r. ⌜ WritesAt k (now (img .entry)) (now (t .entry)) slot place (now (bytes .entry)) r (now (img .exit)) (now (t .exit)) ⌝ }
+    ensures { λ r. ⌜ WritesAt k (now (img .entry)) (now (t .entry)) a place (now (bytes .entry)) r (now (img .exit)) (now (t .exit)) ⌝ }
 {
     let pointer = opened::pointer_at(t, place);
-    let n = count_of(room_for(img, k, slot, free), pointer, bytes.len());
+    let own = holding::extent_at(img, k, a);
+    let n = count_of(room_for(k, own.clusters, free), pointer, bytes.len());
     if n == 0 {
         return Answer::well(0);
     }
-    putting::put::put_first(img, k, slot, pointer, bytes, n);
+    putting::put::put_first(img, k, a, own, pointer, bytes, n);
     move_on(t, place, pointer, n);
     Answer::well(n as u32)
 }
@@ -87,7 +89,7 @@ fn write_on(img: &mut [u8], k: Kind, free: usize, t: &mut [u8], handle: u32, byt
             if opened::access_at(t, place) == 0 {
                 return Answer::refused(numbers::ACCESS_DENIED);
             }
-            write_at(img, k, free, slot, t, place, bytes)
+            write_at(img, k, free, k.slot_at(slot), t, place, bytes)
         }
     }
 }

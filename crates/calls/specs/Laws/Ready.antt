@@ -112,7 +112,7 @@ free-by k l (Known j) x q y =
     (counted (BadSlot j l) 4 (FromChains j l) x
     (counted (NoValue j l) 3 (FromSlots j l) x
     (counted (TablesDiffer j l) 2 (FromValues j l) x y))))) in
-    let o : x ≡ countsOf j l = cc (c) in
+    let o : x ≡ countsOf j l (c .0) = cc (c .2) in
     let f : x .free ≡ freeOf j l = ap (λ (z : Counts). z .free) o in
     rw e at f
 free-by k l Unknown x q y = absurd (let z : _≡_ {A = ℕ} 0 1 = cc (q) in omega arith)

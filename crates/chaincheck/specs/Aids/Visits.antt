@@ -9,16 +9,14 @@ use Rattle.chains.specs.Aids.Lists.{joined}
 use Rattle.chains.specs.Aids.Marks.{marks}
 use Rattle.chains.specs.Aids.Rows.{rows}
 use Rattle.chains.specs.Sums.{sum, tally}
-use Rattle.chains.specs.Aids.Check.{chainOf, ownsb}
-use Rattle.chains.specs.Sizes.{clustersFor}
+use Rattle.chains.specs.Aids.Check.{ownsb}
 use Rattle.search.specs.Search.{lowest}
 use Rattle.search.specs.declared.Found.{Found}
 use Rattle.search.specs.declared.Found.the-variants.{At, Nothing}
 use Rattle.table.specs.Entries.{tableOf}
-use Rattle.fields.specs.Fields.{sizeOf}
 use Rattle.directory.specs.Slots.{standingOf, isPlain}
 use Rattle.walks.specs.Aids.Walks.{Tails}
-use Rattle.chaincheck.specs.Aids.Held.{plainSlot, heldSlot}
+use Rattle.chaincheck.specs.Aids.Held.{plainSlot, chainAt, heldSlot}
 use Rattle.chaincheck.specs.Aids.Entries.{holderAt, badChainSlot, chainsOf}
 use Rattle.chaincheck.specs.declared.Slot.{Slot}
 use Rattle.chaincheck.specs.declared.Slot.the-variants.{NoFile, Bad, Clusters}
@@ -34,11 +32,7 @@ slotBy true true n = Clusters n
 
 unfoldable pub slotFound : ℕ → ℕ → List ℕ → ℕ → Slot
 slotFound last cb l a =
-    slotBy (isPlain (standingOf l a)) (ownsb last (tableOf last l) (holderAt cb l a)) (clustersFor cb (sizeOf l a))
-
--- the chain that is marked: none where there is no file
-unfoldable pub chainAt : ℕ → ℕ → List ℕ → ℕ → List ℕ
-chainAt last cb l a = chainOf last (tableOf last l) (holderAt cb l a)
+    slotBy (isPlain (standingOf l a)) (ownsb last (tableOf last l) (holderAt cb l a)) (length (chainAt last cb l a))
 
 -- the marks after, and what the buffers hold then; of a bad chain nothing is said
 pub record SlotMarked (last cb : ℕ) (l : List ℕ) (a : ℕ) (m after t : List ℕ) : Type 0 where
@@ -63,7 +57,7 @@ chainsBy (At s) files held = BadChain s
 
 unfoldable pub chainsFound : ℕ → ℕ → List ℕ → (ℕ → ℕ) → ℕ → Chains
 chainsFound last cb l way count =
-    chainsBy (lowest (badChainSlot last cb l way) 0 count) (tally (plainSlot l way) count 0) (sum count (heldSlot cb l way))
+    chainsBy (lowest (badChainSlot last cb l way) 0 count) (tally (plainSlot l way) count 0) (sum count (heldSlot last cb l way))
 
 abbrev pub marksIf : Chains → List ℕ → List ℕ → Type 0
 marksIf (Held files held) after all = after ≡ all
@@ -77,7 +71,7 @@ pub record Underway (last cb : ℕ) (l : List ℕ) (way : ℕ → ℕ) (count : 
   pub bounded : held ≤ 4096 * s
   pub none-bad : lowest (badChainSlot last cb l way) s (count - s) ≡ lowest (badChainSlot last cb l way) 0 count
   pub files-are : files + tally (plainSlot l way) (count - s) s ≡ tally (plainSlot l way) count 0
-  pub held-is : held ≡ sum s (heldSlot cb l way)
+  pub held-is : held ≡ sum s (heldSlot last cb l way)
   pub marks-are : marks m (joined (chainAt last cb l) (holdersOf (rows way s (count - s)))) ≡ marks m₀ (chainsOf last cb l way count)
   pub tails : Tails last (tableOf last l) m t
 

@@ -1,24 +1,22 @@
 -- The loop over the slots of a directory, turn by turn.
 use Prim.Native.Nat.{ℕ, suc, _+_, _-_, _≤_, _<_}
 use native.Mathlib.Omega.{arith}
-use mathlib.Core.Bool.{Bool, true, false, cond, not}
+use mathlib.Core.Bool.{Bool, true, false, not}
 use mathlib.Core.List.{List, []}
 use mathlib.Core.Path.{_≡_, refl, sym, ap, subst, _∙_}
 use lib.ListN.{length}
 use mir.Syntax.{w64}
 use mir.Val.{Fits}
-use Rattle.chains.specs.Aids.Check.{ownsb}
+use Rattle.chains.specs.Aids.Check.{chainOf, ownsb}
 use Rattle.chains.specs.Aids.Holders.{nobody}
 use Rattle.chains.specs.Aids.Marks.{marks}
-use Rattle.chains.specs.Sizes.{clustersFor}
 use Rattle.chains.specs.Aids.Sizes.{Geometry}
 use Rattle.chains.specs.Sums.{sum, tally}
 use Rattle.chains.specs.Laws.Check.{says-owned}
 use Rattle.chains.specs.Laws.Chain.{chain-length}
-use Rattle.chains.specs.Laws.Holders.{file-allows, nobody-owns}
+use Rattle.chains.specs.Laws.Holders.{nobody-owns}
 use Rattle.chains.specs.Laws.Marks.{marks-length}
 use Rattle.chains.specs.Laws.RowTurns.{marks-turn, marks-end}
-use Rattle.chains.specs.Laws.Sizes.{fits-exact}
 use Rattle.chains.specs.Laws.TallyTurns.{tally-hit, tally-miss, tally-end}
 use Rattle.chains.specs.Laws.Tests.{says-true, true-says}
 use Rattle.search.specs.Search.{lowest}
@@ -27,10 +25,10 @@ use Rattle.table.specs.Entries.{tableOf}
 use Rattle.fields.specs.Fields.{startOf, sizeOf}
 use Rattle.directory.specs.Slots.{standingOf, isPlain}
 use Rattle.walks.specs.Aids.Walks.{Tails}
-use Rattle.chaincheck.specs.Aids.Held.{plainSlot, heldSlot}
+use Rattle.chaincheck.specs.Aids.Held.{plainSlot, chainAt, heldSlot}
 use Rattle.chaincheck.specs.Aids.Entries.{holderAt, badChainSlot, chainsOf}
-use Rattle.chaincheck.specs.Aids.Visits.{chainsFound, slotBy, slotFound, chainAt, SlotMarked, markedUnlessBad, SlotVisited, Underway, FilesVisited}
-use Rattle.chaincheck.specs.Laws.SlotTurns.{holder-none, holder-file}
+use Rattle.chaincheck.specs.Aids.Visits.{chainsFound, slotBy, slotFound, SlotMarked, markedUnlessBad, SlotVisited, Underway, FilesVisited}
+use Rattle.chaincheck.specs.Laws.SlotTurns.{holder-none, chain-of}
 use Rattle.chaincheck.specs.declared.Slot.{Slot}
 use Rattle.chaincheck.specs.declared.Slot.the-variants.{NoFile, Bad, Clusters}
 use Rattle.chaincheck.specs.declared.Chains.the-variants.{BadChain, Held}
@@ -63,10 +61,10 @@ bad-by false o n h = ap not (h refl)
 bad-by true false n h = refl
 bad-by true true n h = refl
 
-held-by : (p o : Bool) (n : ℕ) → isBad (slotBy p o n) ≡ false → cond p n 0 ≡ holds (slotBy p o n)
-held-by false o n h = refl
-held-by true false n h = absurd (let z : _≡_ {A = ℕ} 0 1 = cc in omega arith)
-held-by true true n h = refl
+held-by : (p o : Bool) (n : ℕ) → (p ≡ false → n ≡ 0) → isBad (slotBy p o n) ≡ false → n ≡ holds (slotBy p o n)
+held-by false o n z h = z refl
+held-by true false n z h = absurd (let z : _≡_ {A = ℕ} 0 1 = cc in omega arith)
+held-by true true n z h = refl
 
 few-by : (p o : Bool) (n : ℕ) → (p ≡ true → o ≡ true → n ≤ 4096) → holds (slotBy p o n) ≤ 4096
 few-by false o n h = omega arith
@@ -90,7 +88,7 @@ module _ (last cb : ℕ) (l : List ℕ) (way : ℕ → ℕ) (s : ℕ) (low : las
   o = ownsb last f (holderAt cb l a)
 
   abbrev n : ℕ
-  n = clustersFor cb (sizeOf l a)
+  n = length (chainAt last cb l a)
 
   slot-is : slotBy p o n ≡ g
   unfolding slotFound
@@ -102,11 +100,18 @@ module _ (last cb : ℕ) (l : List ℕ) (way : ℕ → ℕ) (s : ℕ) (low : las
 
   -- a good chain is no longer than the volume
   good-few : p ≡ true → o ≡ true → n ≤ 4096
+  unfolding chainAt
   good-few x y =
       let w = says-true (says-owned G f (holderAt cb l a)) y in
-      let is = holder-file cb (startOf l a) (sizeOf l a) (standingOf l a) x in
-      let e : length (w .0) ≡ n = fits-exact cb (sizeOf l a) (length (w .0)) (file-allows last cb f (holderAt cb l a) (w .0) (startOf l a) (sizeOf l a) is (w .1)) in
-      omega (arith, e, chain-length G f (holderAt cb l a .start) (w .0) (w .1 .chain))
+      let e : chainOf last f (holderAt cb l a) ≡ w .0 = chain-of G f (holderAt cb l a) (w .0) (w .1 .chain) in
+      omega (arith, ap length e, chain-length G f (holderAt cb l a .start) (w .0) (w .1 .chain))
+
+  -- nobody has none
+  nobody-none : p ≡ false → n ≡ 0
+  unfolding chainAt
+  nobody-none x =
+      let e : chainOf last f (holderAt cb l a) ≡ [] = rw (holder-none cb (startOf l a) (sizeOf l a) (standingOf l a) x) (chain-of G f nobody [] refl) in
+      ap length e
 
   plain-said : plainSlot l way s ≡ isFile g
   unfolding plainSlot
@@ -116,9 +121,9 @@ module _ (last cb : ℕ) (l : List ℕ) (way : ℕ → ℕ) (s : ℕ) (low : las
   unfolding badChainSlot
   bad-said = bad-by p o n nobody-good ∙ ap isBad slot-is
 
-  held-said : isBad g ≡ false → heldSlot cb l way s ≡ holds g
-  unfolding heldSlot plainSlot
-  held-said h = held-by p o n (ap isBad slot-is ∙ h) ∙ ap holds slot-is
+  held-said : isBad g ≡ false → heldSlot last cb l way s ≡ holds g
+  unfolding heldSlot
+  held-said h = held-by p o n nobody-none (ap isBad slot-is ∙ h) ∙ ap holds slot-is
 
   few-said : holds g ≤ 4096
   few-said = rw (sym slot-is) (few-by p o n good-few)
@@ -148,7 +153,7 @@ module _ (last cb : ℕ) (l : List ℕ) (way : ℕ → ℕ) (count : ℕ) (m₀ 
       let e : s ≡ count = omega (arith, u .within) in
       let x = lowest-done (badChainSlot last cb l way) s count (lowest (badChainSlot last cb l way) 0 count) (u .none-bad) h in
       let y = tally-end (plainSlot l way) count s files (tally (plainSlot l way) count 0) h (u .files-are) in
-      let z : held ≡ sum count (heldSlot cb l way) = u .held-is ∙ ap (λ (k : ℕ). sum k (heldSlot cb l way)) e in
+      let z : held ≡ sum count (heldSlot last cb l way) = u .held-is ∙ ap (λ (k : ℕ). sum k (heldSlot last cb l way)) e in
       record {
         is = rw (sym x, sym y, sym z);
         marks-are = marks-end (chainAt last cb l) way count s m (marks m₀ (chainsOf last cb l way count)) h (u .marks-are);
@@ -178,7 +183,7 @@ module _ (last cb : ℕ) (l : List ℕ) (way : ℕ → ℕ) (count : ℕ) (m₀ 
       files-are = w;
       held-is =
           let e : s + 1 ≡ suc s = omega arith in
-          let q : sum (suc s) (heldSlot cb l way) ≡ sum s (heldSlot cb l way) + heldSlot cb l way s = unfold sum in refl in
+          let q : sum (suc s) (heldSlot last cb l way) ≡ sum s (heldSlot last cb l way) + heldSlot last cb l way s = unfold sum in refl in
           rw e (omega (arith, z, q, u .held-is, held-said last cb l way s low wide g (v .is) b));
       marks-are = marks-turn (chainAt last cb l) way count s m m′ (marks m₀ (chainsOf last cb l way count)) h (x .marks-are) (u .marks-are);
       tails = x .tails;

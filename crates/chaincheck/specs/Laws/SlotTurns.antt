@@ -1,5 +1,5 @@
--- One slot: the chain of a plain file has the length that its size asks for, or it is bad.
-use Prim.Native.Nat.{ℕ, _*_, _-_, _≤_, _<_}
+-- One slot: the chain of a plain file has at least the clusters that its size asks for, or it is bad.
+use Prim.Native.Nat.{ℕ, _*_, _≤_, _<_}
 use native.Mathlib.Omega.{arith}
 use native.Mathlib.Nat.{mul-le-mul-right}
 use mir.Val.{Fits}
@@ -7,17 +7,16 @@ use mir.Syntax.{w64}
 use mathlib.Core.Bool.{Bool, true, false, not}
 use mathlib.Core.List.{List, []}
 use mathlib.Core.Path.{_≡_, refl, sym, ap, subst, _∙_}
-use lib.Dec.{ltb}
+use lib.Dec.{leb}
 use lib.ListN.{length}
 use Rattle.chains.specs.Aids.Chain.{Chain}
 use Rattle.chains.specs.Aids.Check.{chainOf, ownsb}
 use Rattle.chains.specs.Aids.Holders.{Holder, Owns, nobody, fileHolder}
 use Rattle.chains.specs.Aids.Marks.{marks}
-use Rattle.chains.specs.Sizes.{clustersFor}
 use Rattle.chains.specs.Aids.Sizes.{fits, Geometry}
 use Rattle.chains.specs.Laws.Chain.{chain-length, chain-same}
 use Rattle.chains.specs.Laws.Check.{says-owned}
-use Rattle.chains.specs.Laws.Sizes.{fits-exact, fits-few, fits-left}
+use Rattle.chains.specs.Laws.Sizes.{fits-room}
 use Rattle.chains.specs.Laws.Tests.{clash, false-says, not-false, not-true, true-says}
 use Rattle.chains.specs.Laws.Walk.{chain-walk}
 use Rattle.table.specs.Entries.{tableOf}
@@ -29,7 +28,8 @@ use Rattle.walks.specs.Aids.Walks.{Tails, Chained, visitedBy, Visited}
 use Rattle.walks.specs.declared.Length.{Length}
 use Rattle.walks.specs.declared.Length.the-variants.{Of, NoEnd}
 use Rattle.chaincheck.specs.Aids.Entries.{holderBy, holderAt}
-use Rattle.chaincheck.specs.Aids.Visits.{slotFound, chainAt, SlotVisited}
+use Rattle.chaincheck.specs.Aids.Held.{chainAt}
+use Rattle.chaincheck.specs.Aids.Visits.{slotFound, SlotVisited}
 use Rattle.chaincheck.specs.declared.Slot.the-variants.{NoFile, Bad, Clusters}
 
 -- ---- who holds the chain
@@ -48,21 +48,18 @@ holder-file cb start size Label e = absurd (let z : _≡_ {A = ℕ} 0 1 = cc in 
 
 -- ---- the clusters of a holder
 
-chain-of : (G : Geometry) (f : ℕ → ℕ) (h : Holder) (cs : List ℕ) → Chain (G .last) f (h .start) cs → chainOf (G .last) f h ≡ cs
+pub chain-of : (G : Geometry) (f : ℕ → ℕ) (h : Holder) (cs : List ℕ) → Chain (G .last) f (h .start) cs → chainOf (G .last) f h ≡ cs
 unfolding chainOf
 chain-of G f h cs p = rw (chain-walk G f (h .start) cs p, chainOf)
 
--- ---- as many clusters as the size needs
+-- ---- room for all bytes
 
 module _ (n size cb : ℕ) (wide : 0 < cb) where
   pub room-fits : n ≤ 4079 → cb ≤ 4096 → Fits w64 (n * cb)
   room-fits few narrow = let m : n * cb ≤ 4079 * cb = mul-le-mul-right cb few in record { fits = omega arith }
 
-  pub too-few : n * cb < size → false ≡ fits cb size n
-  too-few h = sym (fits-few cb wide size n h)
-
-  pub left-over : size ≤ n * cb → ltb (n * cb - size) cb ≡ fits cb size n
-  left-over h = sym (fits-left cb wide size n h)
+  pub room-is : leb size (n * cb) ≡ fits cb size n
+  room-is = fits-room cb wide size n
 
 -- ---- the slot, in the form of the code's needs
 
@@ -117,12 +114,12 @@ module _ (last cb : ℕ) (l : List ℕ) (a : ℕ) (m : List ℕ) (low : last ≤
             clash (o .long) (rw (sym k) (sym q ∙ d)))
 
         pub slot-clusters : y ≡ true → SlotVisited last cb l a m (Clusters n) after t
-        unfolding slotFound clustersFor chainAt
+        unfolding slotFound chainAt
         slot-clusters d =
             let w : Owns last f (fileHolder cb start size) (has .clusters) = record { chain = has .chain; long = rw (has .long) (sym q ∙ d) } in
             let o : ownsb last f (holderAt cb l a) ≡ true = rw holder (true-says (says-owned G f (fileHolder cb start size)) (has .clusters, w)) in
             let c : chainOf last f (holderAt cb l a) ≡ has .clusters = rw holder (chain-of G f (fileHolder cb start size) (has .clusters) (has .chain)) in
             record {
-              is = rw (plain, o, fits-exact cb size n (sym q ∙ d), z);
+              is = rw (plain, o, c, has .long);
               marked = record { marks-are = has .marks-are ∙ ap (marks m) (sym c); tails = has .tails };
             }

@@ -2,13 +2,13 @@
 use Prim.Native.Nat.{ℕ, _-_, _≤_, _<_}
 use mathlib.Core.Bool.{Bool}
 use mathlib.Core.List.{List}
-use lib.Dec.{eqb}
+use lib.Dec.{leb}
 use lib.ListN.{length}
 use Rattle.chains.specs.Sizes.{clustersFor}
 
--- "exactly as many": may a file of n bytes have a chain of k clusters? Used through its laws alone, so that another rule would change only these.
+-- "at least the size's clusters": may a file of n bytes have a chain of k clusters? Used through its laws alone, so that another rule would change only these.
 unfoldable pub fits : ℕ → ℕ → ℕ → Bool
-fits cb n k = eqb k (clustersFor cb n)
+fits cb n k = leb (clustersFor cb n) k
 
 -- how many clusters a file with the clusters cs lacks to have n bytes
 abbrev pub lacking : ℕ → List ℕ → ℕ → ℕ

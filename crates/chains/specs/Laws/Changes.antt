@@ -20,7 +20,7 @@ use Rattle.chains.specs.Aids.Growth.{extended, longerChain, longerTable,
 use Rattle.chains.specs.Laws.Lists.{dec-mem, mem-append, mem-left, mem-right, occ-append, occ-not}
 use Rattle.chains.specs.Laws.Sizes.{clusters-hold, clusters-least, fits-empty, fits-grows}
 use Rattle.chains.specs.Laws.Values.{free-no-use}
-use Rattle.chains.specs.Laws.Holders.{file-allows, in-use, once}
+use Rattle.chains.specs.Laws.Holders.{in-use, once}
 use Rattle.chains.specs.Laws.Replace.{replace}
 use Rattle.chains.specs.Laws.Free.{lowest-takable}
 use Rattle.chains.specs.Laws.Growth.{extended-chain, extended-out, released-in, released-out}
@@ -64,9 +64,9 @@ module _ (G : Geometry) (f : ℕ → ℕ) (h : ℕ → Holder) (χ : ℕ → Lis
   pub keeps : (holder : Holder) → Owns (G .last) f holder (χ i) → Replaced (G .last) f f holder (χ i) (χ i)
   keeps holder o = record { owns = o; keep = λ c k p q. refl; freed = λ c k p q. absurd (q p); taken = λ c m. inl m }
 
--- ---- a file of sz bytes gets the size n, and the lowest free clusters that it lacks
+-- ---- a holder becomes a file of n bytes: it keeps its clusters, and gets the lowest free ones that it lacks
 
-module _ (G : Geometry) (f : ℕ → ℕ) (h : ℕ → Holder) (χ : ℕ → List ℕ) (v : FitTogether (G .last) f h χ) (i st sz : ℕ) (is : h i ≡ fileHolder (G .cb) st sz) (n : ℕ) (le : sz ≤ n)
+module _ (G : Geometry) (f : ℕ → ℕ) (h : ℕ → Holder) (χ : ℕ → List ℕ) (v : FitTogether (G .last) f h χ) (i n : ℕ)
     (room : n ≤ (length (χ i) + length (freeClusters (G .last) f)) * G .cb) where
   abbrev chain′ : List ℕ
   chain′ = longerChain (G .last) (G .cb) f (χ i) n
@@ -83,7 +83,7 @@ module _ (G : Geometry) (f : ℕ → ℕ) (h : ℕ → Holder) (χ : ℕ → Lis
   pub file-grows : Replaced (G .last) f (longerTable (G .last) (G .cb) f (χ i) n) (fileHolder (G .cb) (getD chain′ 0 0) n) (χ i) chain′
   unfolding longerChain longerTable
   file-grows = grows G f h χ v i new (lowest-takable G f (lacking (G .cb) (χ i) n)) (fileHolder (G .cb) (getD (χ i ++ new) 0 0) n) refl
-      (rw new-length (fits-grows (G .cb) (G .wide) sz (length (χ i)) n (file-allows (G .last) (G .cb) f (h i) (χ i) st sz is (v .owns i)) le))
+      (rw new-length (fits-grows (G .cb) n (length (χ i))))
 
   pub longer-length : length chain′ ≡ max (length (χ i)) (clustersFor (G .cb) n)
   unfolding longerChain

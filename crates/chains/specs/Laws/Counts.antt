@@ -1,23 +1,18 @@
 -- Free, held, bad and reserved are all clusters.
 use Prim.Native.Nat.{ℕ, _+_, _-_, _<_}
 use native.Mathlib.Omega.{arith}
-use mathlib.Core.Path.{_≡_, refl, sym, ap, _∙_, subst}
+use mathlib.Core.Path.{_≡_, ap}
 use mathlib.Core.Logic.{inl, inr}
-use mathlib.Core.Bool.{true}
-use mathlib.Core.List.{List, [], _∷_}
+use mathlib.Core.List.{List}
 use lib.ListN.{length}
-use borrow.Author.Tests.{eqb-true}
-use Rattle.chains.specs.Lists.{_∈_}
 use Rattle.chains.specs.Aids.Lists.{occ, joined}
 use Rattle.chains.specs.Sums.{sum, bit}
 use Rattle.chains.specs.Aids.Sums.{sumOver, sumClusters}
-use Rattle.chains.specs.Sizes.{clustersFor}
 use Rattle.chains.specs.Aids.Sizes.{Geometry}
 use Rattle.chains.specs.Values.{Link, Used, Valid, bad, badb, free, freeb, reserved, reservedb, used, valueCount}
-use Rattle.chains.specs.Aids.Holders.{Holder, NamesAll, FitTogether, fileHolder, nobody}
+use Rattle.chains.specs.Aids.Holders.{Holder, NamesAll, FitTogether}
 use Rattle.chains.specs.Laws.Lists.{joined-mem, mem-joined, mem-occ, occ-not}
 use Rattle.chains.specs.Laws.Sums.{joined-length, occ-clusters, sum-add, sum-cong, sum-one}
-use Rattle.chains.specs.Laws.Sizes.{clusters-zero, fits-exact}
 use Rattle.chains.specs.Laws.Values.{bad-out-of-use, count-sum, free-no-use, free-none, free-one, reserved-out-of-use, says-bad, says-reserved, used-no-free}
 use Rattle.chains.specs.Laws.Tests.{false-says, true-says}
 use Rattle.chains.specs.Laws.Holders.{in-range, in-use, joined-once}
@@ -79,18 +74,3 @@ module _ (G : Geometry) (f : ℕ → ℕ) (h : ℕ → Holder) (χ : ℕ → Lis
         count-sum badb (G .last) f,
         count-sum reservedb (G .last) f,
       )
-
--- "Held is the sum over files of size divided by cluster bytes, rounded up": where every length is what the size asks for, the sum of the lengths is that sum
-pub held-sizes : (last cb : ℕ) (f : ℕ → ℕ) (h : ℕ → Holder) (χ : ℕ → List ℕ) → FitTogether last f h χ → (size : ℕ → ℕ) (is : List ℕ)
-    → ((i k : ℕ) → i ∈ is → h i .allows k ≡ true → k ≡ clustersFor cb (size i)) → sumOver is (λ i. length (χ i)) ≡ sumOver is (λ i. clustersFor cb (size i))
-unfolding sumOver
-held-sizes last cb f h χ v size [] e = refl
-held-sizes last cb f h χ v size (i ∷ is) e =
-    omega (arith, e i (length (χ i)) (inl refl) (v .owns i .long), held-sizes last cb f h χ v size is (λ j k m. e j k (inr m)))
-
--- it is so for a file, and for nobody with size 0
-pub file-exact : (cb st size : ℕ) (h : Holder) → h ≡ fileHolder cb st size → (k : ℕ) → h .allows k ≡ true → k ≡ clustersFor cb size
-file-exact cb st size h e k a = fits-exact cb size k (subst (λ (x : Holder). x .allows k ≡ true) e a)
-
-pub nobody-exact : (cb : ℕ) → 0 < cb → (h : Holder) → h ≡ nobody → (k : ℕ) → h .allows k ≡ true → k ≡ clustersFor cb 0
-nobody-exact cb p h e k a = eqb-true k 0 (subst (λ (x : Holder). x .allows k ≡ true) e a) ∙ sym (clusters-zero cb p)

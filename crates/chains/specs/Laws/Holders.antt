@@ -34,7 +34,7 @@ file-allows last cb f h cs st sz is o = subst (λ (x : Holder). x .allows (lengt
 -- its clusters have room for its bytes
 pub file-fits : (G : Geometry) (f : ℕ → ℕ) (h : Holder) (cs : List ℕ) (st sz : ℕ) → h ≡ fileHolder (G .cb) st sz → Owns (G .last) f h cs → sz ≤ length cs * G .cb
 file-fits G f h cs st sz is o =
-    let a : clustersFor (G .cb) sz * G .cb ≤ length cs * G .cb = mul-le-mul-right (G .cb) (fits-least (G .cb) (G .wide) sz (length cs) (file-allows (G .last) (G .cb) f h cs st sz is o)) in
+    let a : clustersFor (G .cb) sz * G .cb ≤ length cs * G .cb = mul-le-mul-right (G .cb) (fits-least (G .cb) sz (length cs) (file-allows (G .last) (G .cb) f h cs st sz is o)) in
     omega (arith, clusters-hold (G .cb) (G .wide) sz)
 
 -- ---- the lists of a sound family

@@ -26,6 +26,10 @@ unfolding marks
 marks-append m [] ds = refl
 marks-append m (c ∷ cs) ds = marks-append (mark m c) cs ds
 
+pub marks-joined : (m : List ℕ) (χ : ℕ → List ℕ) (i : ℕ) (is : List ℕ) → marks m (joined χ (i ∷ is)) ≡ marks (marks m (χ i)) (joined χ is)
+unfolding joined
+marks-joined m χ i is = marks-append m (χ i) (joined χ is)
+
 mark-at : (m : List ℕ) (c a t : ℕ) → a < length m → getD m a 0 ≡ min 2 t → getD (mark m c) a 0 ≡ min 2 (t + hit a c)
 unfolding mark
 mark-at m c a t l e = elim (hit-cases a c) [

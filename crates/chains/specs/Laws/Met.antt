@@ -19,11 +19,11 @@ use Rattle.chains.specs.Laws.Chain.{chain-length, one-more}
 module _ (last : ℕ) (f : ℕ → ℕ) where
   -- ---- the two ways on
 
-  from-link : (n v : ℕ) → linkb last v ≡ true → clustersFrom last f (suc n) v ≡ v ∷ clustersFrom last f n (f v)
+  pub from-link : (n v : ℕ) → linkb last v ≡ true → clustersFrom last f (suc n) v ≡ v ∷ clustersFrom last f n (f v)
   unfolding clustersFrom
   from-link n v e = rw e
 
-  from-none : (n v : ℕ) → linkb last v ≡ false → clustersFrom last f n v ≡ []
+  pub from-none : (n v : ℕ) → linkb last v ≡ false → clustersFrom last f n v ≡ []
   unfolding clustersFrom
   from-none zero v e = refl
   from-none (suc n) v e = rw e

@@ -7,7 +7,7 @@ use Rattle.chains.specs.Aids.Lists.{joined}
 use Rattle.chains.specs.Aids.Marks.{marks}
 use Rattle.chains.specs.Aids.Findings.{holdersOf}
 use Rattle.chains.specs.Aids.Rows.{rows}
-use Rattle.chains.specs.Laws.Follow.{marks-joined}
+use Rattle.chains.specs.Laws.Marks.{marks-joined}
 
 rows-one : (way : ℕ → ℕ) (end s : ℕ) → s < end → holdersOf (rows way s (end - s)) ≡ way s ∷ holdersOf (rows way (s + 1) (end - (s + 1)))
 unfolding rows holdersOf

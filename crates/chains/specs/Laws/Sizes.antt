@@ -1,13 +1,12 @@
 -- How many clusters a size asks for, and the laws through which the test of a chain's length is used.
-use Prim.Native.Nat.{ℕ, zero, suc, _+_, _-_, _*_, _/_, _≤_, _<_, max}
+use Prim.Native.Nat.{ℕ, suc, _+_, _-_, _*_, _/_, _≤_, _<_, max}
 use native.Mathlib.Omega.{arith}
 use native.Mathlib.Nat.{div-lt-iff-lt-mul, mul-le-mul-right}
 use native.Mathlib.Decide.{ℕ-discrete, decLt}
 use mathlib.Core.Path.{_≡_, sym, ap, _∙_}
-use mathlib.Core.Bool.{true, false}
-use mathlib.Core.Logic.{_≢_}
-use lib.Dec.{ltb}
-use borrow.Author.Tests.{eqb-true, eq-eqb, ne-eqb, lt-ltb, le-ltb}
+use mathlib.Core.Bool.{true}
+use lib.Dec.{leb}
+use borrow.Author.Tests.{leb-true, le-leb, lt-leb}
 use Rattle.chains.specs.Sizes.{clustersFor}
 use Rattle.chains.specs.Aids.Sizes.{fits}
 
@@ -34,48 +33,33 @@ clusters-some cb p n h = elim (ℕ-discrete (clustersFor cb n) 0) [
 -- ---- the test of a chain's length against the size
 
 -- at least what the size needs
-pub fits-least : (cb : ℕ) → 0 < cb → (n k : ℕ) → fits cb n k ≡ true → clustersFor cb n ≤ k
+pub fits-least : (cb n k : ℕ) → fits cb n k ≡ true → clustersFor cb n ≤ k
 unfolding fits
-fits-least cb p n k e = omega (arith, eqb-true k (clustersFor cb n) e)
+fits-least cb n k e = leb-true (clustersFor cb n) k e
+
+-- and no more is asked
+pub fits-from : (cb n k : ℕ) → clustersFor cb n ≤ k → fits cb n k ≡ true
+unfolding fits
+fits-from cb n k h = le-leb (clustersFor cb n) k h
 
 -- it stays true when both grow
-pub fits-grows : (cb : ℕ) → 0 < cb → (n k m : ℕ) → fits cb n k ≡ true → n ≤ m → fits cb m (max k (clustersFor cb m)) ≡ true
-unfolding fits
-fits-grows cb p n k m e l = eq-eqb (max k (clustersFor cb m)) (clustersFor cb m) (omega (arith, eqb-true k (clustersFor cb n) e, clusters-grow cb p n m l))
+pub fits-grows : (cb n k : ℕ) → fits cb n (max k (clustersFor cb n)) ≡ true
+fits-grows cb n k = fits-from cb n (max k (clustersFor cb n)) (omega arith)
 
 -- nothing for nothing
 pub fits-empty : (cb : ℕ) → 0 < cb → fits cb 0 0 ≡ true
+fits-empty cb p = fits-from cb 0 0 (omega (arith, clusters-zero cb p))
+
+-- as the code tests it: k clusters have room for all bytes
+pub fits-room : (cb : ℕ) → 0 < cb → (n k : ℕ) → leb n (k * cb) ≡ fits cb n k
 unfolding fits
-fits-empty cb p = eq-eqb 0 (clustersFor cb 0) (sym (clusters-zero cb p))
-
--- "exactly": used only for the document's words and for the sum of all lengths
-pub fits-exact : (cb n k : ℕ) → fits cb n k ≡ true → k ≡ clustersFor cb n
-unfolding fits
-fits-exact cb n k e = eqb-true k (clustersFor cb n) e
-
-pub exact-fits : (cb n k : ℕ) → k ≡ clustersFor cb n → fits cb n k ≡ true
-unfolding fits
-exact-fits cb n k e = eq-eqb k (clustersFor cb n) e
-
--- as the code tests it: k clusters have room for all bytes, and less than a cluster is left over
-module _ (cb : ℕ) (p : 0 < cb) (n k : ℕ) where
-  pub fits-few : k * cb < n → fits cb n k ≡ false
-  unfolding fits
-  fits-few h = ne-eqb k (clustersFor cb n) (λ e. let z : k * cb ≡ clustersFor cb n * cb = ap (λ (x : ℕ). x * cb) e in omega (arith, clusters-hold cb p n))
-
-  pub fits-left : n ≤ k * cb → fits cb n k ≡ ltb (k * cb - n) cb
-  unfolding fits
-  fits-left h = elim (decLt (k * cb - n) cb) [
-    | yes l ↦ eq-eqb k (clustersFor cb n) (is-least l) ∙ sym (lt-ltb (k * cb - n) cb l)
-    | no l ↦ ne-eqb k (clustersFor cb n) (is-more k (omega arith)) ∙ sym (le-ltb (k * cb - n) cb (omega arith))
-  ]
-    where
-      is-least : k * cb - n < cb → k ≡ clustersFor cb n
-      is-least l = elim (decLt (clustersFor cb n) k) [
-        | yes g ↦ absurd (let m : (clustersFor cb n + 1) * cb ≤ k * cb = mul-le-mul-right cb (omega arith) in omega (arith, clusters-hold cb p n))
-        | no g ↦ omega (arith, clusters-least cb p n k h)
-      ]
-
-      is-more : (j : ℕ) → cb ≤ j * cb - n → j ≢ clustersFor cb n
-      is-more zero g e = omega arith
-      is-more (suc j) g e = omega (arith, clusters-least cb p n j (omega arith))
+fits-room cb p n k = elim (decLt (k * cb) n) [
+  | yes h ↦ lt-leb n (k * cb) h ∙ sym (lt-leb (clustersFor cb n) k (more h))
+  | no h ↦ le-leb n (k * cb) (omega arith) ∙ sym (le-leb (clustersFor cb n) k (clusters-least cb p n k (omega arith)))
+]
+  where
+    more : k * cb < n → k < clustersFor cb n
+    more h = elim (decLt k (clustersFor cb n)) [
+      | yes l ↦ l
+      | no l ↦ absurd (let m : clustersFor cb n * cb ≤ k * cb = mul-le-mul-right cb (omega arith) in omega (arith, clusters-hold cb p n))
+    ]

@@ -56,7 +56,7 @@ module _ (G : Geometry) (base : ℕ) (f : ℕ → ℕ) (h : ℕ → Holder) (χ 
   image′ = writtenImage base (G .cb) img chain′ sz pos bs
 
   pub write-replaces : Replaced (G .last) f (longerTable (G .last) (G .cb) f (χ i) size′) (fileHolder (G .cb) (getD chain′ 0 0) size′) (χ i) chain′
-  write-replaces = file-grows G f h χ v i st sz is size′ (omega arith) room
+  write-replaces = file-grows G f h χ v i size′ room
 
   pub write-sound : FitTogether (G .last) (longerTable (G .last) (G .cb) f (χ i) size′) (put h i (fileHolder (G .cb) (getD chain′ 0 0) size′)) (put χ i chain′)
   write-sound = replace G f (longerTable (G .last) (G .cb) f (χ i) size′) h χ v i (fileHolder (G .cb) (getD chain′ 0 0) size′) chain′ write-replaces
@@ -71,7 +71,7 @@ module _ (G : Geometry) (base : ℕ) (f : ℕ → ℕ) (h : ℕ → Holder) (χ 
   once′ = chain-once G _ _ chain′ (write-replaces .owns .chain)
 
   fits′ : size′ ≤ length chain′ * G .cb
-  fits′ = longer-fits G f h χ v i st sz is size′ (omega arith) room
+  fits′ = longer-fits G f h χ v i size′ room
 
   abbrev gap : ℕ
   gap = pos - sz

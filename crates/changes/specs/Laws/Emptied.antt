@@ -50,23 +50,23 @@ module _ (k : Kind) (l : List ℕ) (v : OnVolume l k) (b : Bytes l) (s : ℕ) wh
   -- ---- a file's clusters freed
 
   module _ (i : IsFile k l s) where
-    in-reach : (c : ℕ) → c ∈ fileChain k l s → Link (lastCluster k) c
-    in-reach c m = chain-mem (geometry k u) (valueOf k l) (startOf l (slotAt k s)) (fileChain k l s) (file-chain l k v s i) c m .0
+    in-reach : (c : ℕ) → c ∈ fileChain k l (slotAt k s) → Link (lastCluster k) c
+    in-reach c m = chain-mem (geometry k u) (valueOf k l) (startOf l (slotAt k s)) (fileChain k l (slotAt k s)) (file-chain l k v s i) c m .0
 
     holds : HasTable (copyTwo k) (lastCluster k) l
     holds = record { small = u .below-reserved; bytes = b; reaches = copies-reach l k v (copyTwo k) (lastCluster k) refl refl }
 
-    leaves : SameButEntries (copyTwo k) (lastCluster k) l (chainFreed k l s)
+    leaves : SameButEntries (copyTwo k) (lastCluster k) l (chainFreed k l (slotAt k s))
     unfolding chainFreed
-    leaves = leaves-freed (copyTwo k) (lastCluster k) (fileChain k l s) l (holds .reaches) in-reach
+    leaves = leaves-freed (copyTwo k) (lastCluster k) (fileChain k l (slotAt k s)) l (holds .reaches) in-reach
 
-    pub file-emptied : Emptied k l (chainFreed k l s) s
+    pub file-emptied : Emptied k l (chainFreed k l (slotAt k s)) s
     unfolding chainFreed
     file-emptied = record {
-      frame = links-frame k u s l (chainFreed k l s) leaves;
+      frame = links-frame k u s l (chainFreed k l (slotAt k s)) leaves;
       bytes = leaves .bytes b;
-      clusters = links-touch k u s l (chainFreed k l s) leaves [];
-      table = table-freed (copyTwo k) (lastCluster k) l (fileChain k l s) holds in-reach ∙ ap (released (valueOf k l)) (sym (root-file k l v s i));
+      clusters = links-touch k u s l (chainFreed k l (slotAt k s)) leaves [];
+      table = table-freed (copyTwo k) (lastCluster k) l (fileChain k l (slotAt k s)) holds in-reach ∙ ap (released (valueOf k l)) (sym (root-file k l v s i));
     }
 
   -- ---- no file, no clusters

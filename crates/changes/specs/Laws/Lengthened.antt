@@ -30,7 +30,6 @@ use Rattle.calls.specs.Aids.Ready.{OnVolume}
 use Rattle.calls.specs.Laws.Ready.{on-usable}
 use Rattle.holding.specs.Holding.{fileChain}
 use Rattle.holding.specs.Laws.Clusters.{on-clusters}
-use Rattle.holding.specs.Laws.Chain.{file-chain, file-holds, file-within}
 use Rattle.putting.specs.Longer.{chainAfter, lengthened}
 use Rattle.putting.specs.Aids.Longer.{withClusters, CanGrow}
 use Rattle.putting.specs.Laws.Longer.{linked-leaves, start-small}
@@ -38,12 +37,9 @@ use Rattle.putting.specs.Laws.Room.{room-fits}
 use Rattle.changes.specs.Aids.Changed.{Framed}
 use Rattle.changes.specs.Laws.Frames.{entry-frame, entry-touches, frame-then, links-frame, links-touch}
 
-module _ (k : Kind) (l : List ℕ) (s size : ℕ) (g : CanGrow k l s size) where
+module _ (k : Kind) (l : List ℕ) (s size : ℕ) (i : IsFile k l s) (g : CanGrow k l (slotAt k s) size) where
   v : OnVolume l k
   v = g .on
-
-  i : IsFile k l s
-  i = g .file
 
   u : Usable k
   u = on-usable l k v
@@ -52,20 +48,20 @@ module _ (k : Kind) (l : List ℕ) (s size : ℕ) (g : CanGrow k l s size) where
   a = slotAt k s
 
   abbrev start : ℕ
-  start = getD (chainAfter k l s size) 0 0
+  start = getD (chainAfter k l a size) 0 0
 
   -- the image with the clusters linked; with the start stored; with the size stored
   abbrev one : List ℕ
-  one = withClusters k l s size
+  one = withClusters k l a size
 
   abbrev two : List ℕ
   two = withStart one a start
 
   abbrev long : List ℕ
-  long = lengthened k l s size
+  long = lengthened k l a size
 
   leaves : SameButEntries (copyTwo k) (lastCluster k) l one
-  leaves = linked-leaves k l s size g
+  leaves = linked-leaves k l a size g
 
   -- ---- what stays
 
@@ -98,13 +94,13 @@ module _ (k : Kind) (l : List ℕ) (s size : ℕ) (g : CanGrow k l s size) where
   -- ---- the entry
 
   in-one : a + 32 ≤ length one
-  in-one = rw (leaves .long) (file-within l k v s i a refl)
+  in-one = rw (leaves .long) (g .file .within)
 
   in-two : a + 32 ≤ length two
   in-two = rw (length-stored one (a + 26) (digits start 2)) in-one
 
   by-links : SameFields one a l a
-  by-links = same-fields one l a a in-one (file-within l k v s i a refl) (λ j h. leaves .beside (a + j) (inr (omega (arith, u .reaches))) (inr (omega (arith, u .reaches))))
+  by-links = same-fields one l a a in-one (g .file .within) (λ j h. leaves .beside (a + j) (inr (omega (arith, u .reaches))) (inr (omega (arith, u .reaches))))
 
   by-start : Untouched two one (a + 26) 2 a
   by-start = word-leaves one (a + 26) start a in-one
@@ -126,22 +122,22 @@ module _ (k : Kind) (l : List ℕ) (s size : ℕ) (g : CanGrow k l s size) where
 
   pub longer-start : startOf long a ≡ start
   unfolding lengthened
-  longer-start = by-size .start (inr (omega arith)) ∙ word-back one (a + 26) start (start-small k l s size g) (omega (arith, in-one))
+  longer-start = by-size .start (inr (omega arith)) ∙ word-back one (a + 26) start (start-small k l a size g) (omega (arith, in-one))
 
   pub longer-size : sizeOf long a ≡ size
   unfolding lengthened
-  longer-size = long-back two (a + 28) size (omega (arith, g .room, room-fits l k v s i)) (omega (arith, in-two))
+  longer-size = long-back two (a + 28) size (omega (arith, g .room, room-fits l k v a (g .file))) (omega (arith, in-two))
 
   -- ---- its bytes, as many as there were
 
   area : Area (512 * firstData k) (clusterBytes k) (lastCluster k) (length l)
   area = on-clusters l k v
 
-  own-link : (c : ℕ) → c ∈ fileChain k l s → Link (lastCluster k) c
-  own-link c m = chain-mem (geometry k u) (valueOf k l) (startOf l a) (fileChain k l s) (file-chain l k v s i) c m .0
+  own-link : (c : ℕ) → c ∈ fileChain k l a → Link (lastCluster k) c
+  own-link c m = chain-mem (geometry k u) (valueOf k l) (startOf l a) (fileChain k l a) (g .file .chain) c m .0
 
-  pub longer-content : content (512 * firstData k) (clusterBytes k) long (fileChain k l s) (sizeOf l a) ≡ content (512 * firstData k) (clusterBytes k) l (fileChain k l s) (sizeOf l a)
+  pub longer-content : content (512 * firstData k) (clusterBytes k) long (fileChain k l a) (sizeOf l a) ≡ content (512 * firstData k) (clusterBytes k) l (fileChain k l a) (sizeOf l a)
   longer-content =
-      content-same (512 * firstData k) (clusterBytes k) (area .wide) l long (fileChain k l s) (sizeOf l a)
+      content-same (512 * firstData k) (clusterBytes k) (area .wide) l long (fileChain k l a) (sizeOf l a)
       (λ c m. (own-link c m .0, omega (arith, area .clusters, cluster-high (512 * firstData k) (clusterBytes k) (area .wide) (geometry k u) c (own-link c m))))
-      (longer-frame .long) (λ c q m h. longer-touches [] .rest c q (own-link c m) (λ x. x) h) (file-holds l k v s i)
+      (longer-frame .long) (λ c q m h. longer-touches [] .rest c q (own-link c m) (λ x. x) h) (g .file .holds)

@@ -137,17 +137,17 @@ module _ (k : Kind) (l : List ℕ) (v : OnVolume l k) (b : Bytes l) (given : Lis
     old : IsFile k l s
     old = record { below = named .0 .0; plain = named .0 .1 .0 }
 
-    freed : Emptied k l (chainFreed k l s) s
+    freed : Emptied k l (chainFreed k l (slotAt k s)) s
     freed = file-emptied k l v b s old
 
-    pub empty-changed : SlotChanged k l (withEntry (chainFreed k l s) (slotAt k s) name attr time date 0 0) s []
-    empty-changed = made-changed (old .below) (chainFreed k l s) freed (used-lower k l v s old) (λ t h n p e. name-once k l v s old t h n p (e ∙ sym (named .0 .1 .1)))
+    pub empty-changed : SlotChanged k l (withEntry (chainFreed k l (slotAt k s)) (slotAt k s) name attr time date 0 0) s []
+    empty-changed = made-changed (old .below) (chainFreed k l (slotAt k s)) freed (used-lower k l v s old) (λ t h n p e. name-once k l v s old t h n p (e ∙ sym (named .0 .1 .1)))
 
-    pub empty-holds : Holds k (withEntry (chainFreed k l s) (slotAt k s) name attr time date 0 0) s (file name attr [])
-    empty-holds = made-holds (old .below) (chainFreed k l s) freed
+    pub empty-holds : Holds k (withEntry (chainFreed k l (slotAt k s)) (slotAt k s) name attr time date 0 0) s (file name attr [])
+    empty-holds = made-holds (old .below) (chainFreed k l (slotAt k s)) freed
 
-    pub empty-bytes : Bytes (withEntry (chainFreed k l s) (slotAt k s) name attr time date 0 0)
-    empty-bytes = emptied (old .below) (chainFreed k l s) freed .bytes
+    pub empty-bytes : Bytes (withEntry (chainFreed k l (slotAt k s)) (slotAt k s) name attr time date 0 0)
+    empty-bytes = emptied (old .below) (chainFreed k l (slotAt k s)) freed .bytes
 
   -- ---- a new file takes the lowest open slot
 

@@ -23,10 +23,10 @@ module _ (k : Kind) (l : List ℕ) (v : OnVolume l k) (s : ℕ) where
     pub root-file-holder : rootHolders k l (slotAt k s) ≡ fileHolder (clusterBytes k) (startOf l (slotAt k s)) (sizeOf l (slotAt k s))
     root-file-holder = root-holder k l s (i .below) ∙ plain-holder (clusterBytes k) l (slotAt k s) (i .plain)
 
-    pub root-file : rootChains k l (slotAt k s) ≡ fileChain k l s
+    pub root-file : rootChains k l (slotAt k s) ≡ fileChain k l (slotAt k s)
     root-file =
-        owns-same (geometry k (on-usable l k v)) (valueOf k l) (rootHolders k l (slotAt k s)) (rootChains k l (slotAt k s)) (fileChain k l s) (on-theory k l v .owns (slotAt k s))
-        (subst (λ (h : Holder). Owns (lastCluster k) (valueOf k l) h (fileChain k l s)) (sym root-file-holder) (file-owned l k v s i))
+        owns-same (geometry k (on-usable l k v)) (valueOf k l) (rootHolders k l (slotAt k s)) (rootChains k l (slotAt k s)) (fileChain k l (slotAt k s)) (on-theory k l v .owns (slotAt k s))
+        (subst (λ (h : Holder). Owns (lastCluster k) (valueOf k l) h (fileChain k l (slotAt k s))) (sym root-file-holder) (file-owned l k v s i))
 
   pub root-none : s < rootEntries k → ¬ PlainAt l (slotAt k s) → rootChains k l (slotAt k s) ≡ []
   root-none h n =

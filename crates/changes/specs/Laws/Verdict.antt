@@ -14,7 +14,7 @@ use Rattle.directory.specs.Slots.{standingOf, isPlain}
 use Rattle.directory.specs.Laws.Slots.{plain-is}
 use Rattle.sound.specs.Answer.{AnswersBy}
 use Rattle.sound.specs.Counts.{isFile, fileCount, countsOf}
-use Rattle.sound.specs.Files.{IsFile}
+use Rattle.sound.specs.Files.{IsFile, AreChains}
 use Rattle.sound.specs.Judged.{checkOf}
 use Rattle.sound.specs.Laws.OneAnswer.{checked-is}
 use Rattle.sound.specs.Laws.Sound.{sound-exactly}
@@ -23,12 +23,13 @@ use Rattle.calls.specs.Aids.Ready.{OnVolume}
 use Rattle.calls.specs.Laws.Ready.{on-usable}
 use Rattle.changes.specs.Laws.Changed.{on-sound}
 
-pub sound-verdict : (k : Kind) (l : List ℕ) → OnVolume l k → checkOf l ≡ Sound (countsOf k l)
-sound-verdict k l v =
+-- lists are any that are the files' chains
+pub sound-verdict : (k : Kind) (l : List ℕ) → OnVolume l k → (lists : ℕ → List ℕ) → AreChains k l lists → checkOf l ≡ Sound (countsOf k l lists)
+sound-verdict k l v lists p =
     let n = sound-exactly k (on-usable l k v) l .0 (on-sound k l v) in
     sym (checked-is (record {
-      is = subst (λ (w : WhichKind). AnswersBy w l (Sound (countsOf k l))) (sym (v .known))
-          (inr (n .tables, inr (n .values, inr (n .slots, inr (n .chains, inr (n .two, inr (n .lost, refl)))))));
+      is = subst (λ (w : WhichKind). AnswersBy w l (Sound (countsOf k l lists))) (sym (v .known))
+          (inr (n .tables, inr (n .values, inr (n .slots, inr (n .chains, inr (n .two, inr (n .lost, (lists, p, refl))))))));
     }))
 
 -- ---- a count of the first numbers

@@ -1,26 +1,31 @@
 -- Write: one slot changes, and its file has the bytes put at the pointer, zeros before them where that was past the size.
-use Prim.Native.Nat.{ℕ, _+_, _*_, _≤_}
+use Prim.Native.Nat.{ℕ, _+_, _-_, _*_, _≤_, _<_}
 use native.Mathlib.Omega.{arith}
-use mathlib.Core.List.{List}
+use mathlib.Core.List.{List, [], _∷_, append-nil}
+use mathlib.Core.Logic.{inl}
 use mathlib.Core.Path.{_≡_, refl, sym, ap, ap₂, _∙_, subst}
 use lib.ListN.{length, getD}
 use Rattle.image.specs.Bytes.{Bytes}
+use Rattle.image.specs.Laws.Store.{stored-outside}
 use Rattle.chains.specs.Content.{clusterBegin, content}
 use Rattle.chains.specs.Aids.Content.{Touches}
 use Rattle.chains.specs.Free.{freeClusters}
 use Rattle.chains.specs.Aids.Growth.{longerChain, longerTable}
 use Rattle.chains.specs.Aids.Holders.{Holder, Owns, fileHolder}
 use Rattle.chains.specs.Aids.Replace.{Replaced}
+use Rattle.chains.specs.Aids.Chain.{Chain}
+use Rattle.chains.specs.Sizes.{clustersFor}
 use Rattle.chains.specs.Values.{Link}
 use Rattle.chains.specs.Write.{written, writtenImage}
 use Rattle.sound.specs.Laws.Clusters.{owns-file}
 use Rattle.chains.specs.Laws.Content.{cluster-high}
 use Rattle.chains.specs.Laws.Free.{free-length}
+use Rattle.chains.specs.Laws.Sizes.{clusters-least}
 use Rattle.chains.specs.Laws.Touched.{touched-twice}
 use Rattle.chains.specs.Laws.Write.{write-bytes, write-replaces, write-touches}
 use Rattle.contents.specs.Aids.Contents.{Area}
 use Rattle.diskette.specs.Aids.Usable.{Usable}
-use Rattle.diskette.specs.Places.{firstData, clusterBytes, lastCluster, slotAt}
+use Rattle.diskette.specs.Places.{firstData, clusterBytes, lastCluster, rootAt, slotAt}
 use Rattle.diskette.specs.declared.Kind.{Kind}
 use Rattle.directory.specs.Aids.Entries.{SameFields}
 use Rattle.fields.specs.Fields.{nameOf, attrOf, startOf, sizeOf}
@@ -33,11 +38,12 @@ use Rattle.sound.specs.Laws.Holders.{plain-holder}
 use Rattle.sound.specs.Laws.Sound.{chain-only}
 use Rattle.calls.specs.Aids.Ready.{OnVolume}
 use Rattle.calls.specs.Laws.Ready.{on-usable}
+use Rattle.links.specs.Linked.{linked}
 use Rattle.holding.specs.Holding.{fileChain}
 use Rattle.holding.specs.Laws.Clusters.{on-clusters}
-use Rattle.holding.specs.Laws.Chain.{file-owned, file-within}
+use Rattle.holding.specs.Laws.Chain.{file-owned}
 use Rattle.putting.specs.Longer.{chainAfter, lengthened}
-use Rattle.putting.specs.Aids.Longer.{CanGrow}
+use Rattle.putting.specs.Aids.Longer.{withClusters, CanGrow}
 use Rattle.putting.specs.Aids.Put.{CanPut}
 use Rattle.putting.specs.Written.{sizeAfter, writtenIn}
 use Rattle.putting.specs.Laws.Longer.{longer-length, longer-table}
@@ -52,12 +58,9 @@ use Rattle.changes.specs.Laws.Root.{root-file, root-file-holder}
 use Rattle.changes.specs.Laws.SameSlot.{same-good, same-plain}
 
 -- the bytes bs are put into the file in slot s
-module _ (k : Kind) (l : List ℕ) (s pointer : ℕ) (bs : List ℕ) (p : CanPut k l s pointer (length bs)) where
+module _ (k : Kind) (l : List ℕ) (s pointer : ℕ) (bs : List ℕ) (i : IsFile k l s) (p : CanPut k l (slotAt k s) pointer (length bs)) where
   v : OnVolume l k
   v = p .on
-
-  i : IsFile k l s
-  i = p .file
 
   u : Usable k
   u = on-usable l k v
@@ -82,60 +85,60 @@ module _ (k : Kind) (l : List ℕ) (s pointer : ℕ) (bs : List ℕ) (p : CanPut
   size = sizeOf l a
 
   abbrev more : ℕ
-  more = sizeAfter k l s pointer (length bs)
+  more = sizeAfter l a pointer (length bs)
 
   abbrev own : List ℕ
   own = rootChains k l a
 
   abbrev ds : List ℕ
-  ds = chainAfter k l s more
+  ds = chainAfter k l a more
 
   -- the image with the file made longer, and then with the bytes
   abbrev long : List ℕ
-  long = lengthened k l s more
+  long = lengthened k l a more
 
   abbrev m : List ℕ
-  m = writtenIn k l s pointer bs
+  m = writtenIn k l a pointer bs
 
-  grow : CanGrow k l s more
-  grow = can-grow k l s pointer (length bs) p a size more refl refl refl
+  grow : CanGrow k l a more
+  grow = can-grow k l a pointer (length bs) p size more refl refl
 
-  own-is : own ≡ fileChain k l s
+  own-is : own ≡ fileChain k l a
   own-is = root-file k l v s i
 
   wrote-table : (c : ℕ) → valueOf k m c ≡ longerTable last cb (valueOf k l) own more c
   unfolding writtenIn longerTable
-  wrote-table c = put-table k u long ds size pointer bs c ∙ longer-table k l s more grow c ∙ ap (λ (cs : List ℕ). longerTable last cb (valueOf k l) cs more c) (sym own-is)
+  wrote-table c = put-table k u long ds size pointer bs c ∙ longer-table k l a more grow c ∙ ap (λ (cs : List ℕ). longerTable last cb (valueOf k l) cs more c) (sym own-is)
 
   wrote-frame : Framed k l m s
   unfolding writtenIn
-  wrote-frame = frame-then k u s l long m (longer-frame k l s more grow) (put-frame k u long ds size pointer bs s)
+  wrote-frame = frame-then k u s l long m (longer-frame k l s more i grow) (put-frame k u long ds size pointer bs s)
 
   pub wrote-bytes : Bytes bs → Bytes m
   unfolding writtenIn
-  wrote-bytes b = put-bytes k u long ds size pointer bs (longer-bytes k l s more grow) b
+  wrote-bytes b = put-bytes k u long ds size pointer bs (longer-bytes k l s more i grow) b
 
   -- ---- the entry
 
   entry : SameFields m a long a
   unfolding writtenIn
-  entry = put-entry k u long ds size pointer bs s (i .below) (rw (longer-length k l s more grow) (file-within l k v s i a refl))
+  entry = put-entry k u long ds size pointer bs s (i .below) (rw (longer-length k l a more grow) (p .file .within))
 
   wrote-first : getD m a 0 ≡ getD l a 0
   unfolding writtenIn
-  wrote-first = put-before k u long ds size pointer bs a (omega (arith, i .below)) ∙ longer-first k l s more grow
+  wrote-first = put-before k u long ds size pointer bs a (omega (arith, i .below)) ∙ longer-first k l s more i grow
 
   wrote-name : nameOf m a ≡ nameOf l a
-  wrote-name = entry .name ∙ longer-name k l s more grow
+  wrote-name = entry .name ∙ longer-name k l s more i grow
 
   wrote-attr : attrOf m a ≡ attrOf l a
-  wrote-attr = entry .attr ∙ longer-attr k l s more grow
+  wrote-attr = entry .attr ∙ longer-attr k l s more i grow
 
   wrote-start : startOf m a ≡ getD ds 0 0
-  wrote-start = entry .start ∙ longer-start k l s more grow
+  wrote-start = entry .start ∙ longer-start k l s more i grow
 
   wrote-size : sizeOf m a ≡ more
-  wrote-size = entry .size ∙ longer-size k l s more grow
+  wrote-size = entry .size ∙ longer-size k l s more i grow
 
   wrote-plain : PlainAt m a
   wrote-plain = same-plain k l m s v i wrote-first wrote-name wrote-attr
@@ -153,7 +156,7 @@ module _ (k : Kind) (l : List ℕ) (s pointer : ℕ) (bs : List ℕ) (p : CanPut
   chain-is = rw own-is
 
   whole : (c : ℕ) → Link last c → clusterBegin base cb c + cb ≤ length long
-  whole c h = omega (arith, longer-length k l s more grow, area .clusters, cluster-high base cb (area .wide) (geometry k u) c h)
+  whole c h = omega (arith, longer-length k l a more grow, area .clusters, cluster-high base cb (area .wide) (geometry k u) c h)
 
   wrote-chain : Replaced last (valueOf k l) (valueOf k m) (holderAt cb m a) own ds
   wrote-chain =
@@ -173,28 +176,52 @@ module _ (k : Kind) (l : List ℕ) (s pointer : ℕ) (bs : List ℕ) (p : CanPut
     slot = i .below;
     frame = wrote-frame;
     chain = wrote-chain;
-    clusters = touched-twice last base cb l long m ds (longer-touches k l s more grow ds) put-touches;
+    clusters = touched-twice last base cb l long m ds (longer-touches k l s more i grow ds) put-touches;
     good = same-good k l m s v i wrote-first wrote-name wrote-attr;
   }
+
+  -- ---- where the file's clusters have room for it all: nothing before the root is altered, and the start stays
+
+  module _ (within : more ≤ length (fileChain k l a) * cb) where
+    kept : (ds ≡ fileChain k l a) × (withClusters k l a more ≡ l)
+    unfolding linked
+    kept =
+        let z : clustersFor cb more - length (fileChain k l a) ≡ 0 = omega (arith, clusters-least cb (area .wide) more (length (fileChain k l a)) within) in
+        (rw z (append-nil (fileChain k l a)), rw z)
+
+    pub tables-kept : (j : ℕ) → j < rootAt k → getD m j 0 ≡ getD l j 0
+    unfolding writtenIn lengthened
+    tables-kept j h =
+        put-before k u long ds size pointer bs j (omega arith)
+        ∙ stored-outside _ (a + 28) _ j (inl (omega arith))
+        ∙ stored-outside _ (a + 26) _ j (inl (omega arith))
+        ∙ ap (λ (x : List ℕ). getD x j 0) (kept .1)
+
+    pub start-kept : startOf m a ≡ startOf l a
+    start-kept = wrote-start ∙ ap (λ (cs : List ℕ). getD cs 0 0) (kept .0) ∙ by (fileChain k l a) (p .file .chain)
+      where
+        by : (cs : List ℕ) → Chain last (valueOf k l) (startOf l a) cs → getD cs 0 0 ≡ startOf l a
+        by [] c = sym c
+        by (x ∷ xs) c = sym (c .0)
 
   -- ---- what the file holds then
 
   chain-after : ChainOf k m s ds
   chain-after = owns-file last cb (area .wide) (valueOf k m) (startOf m a) (sizeOf m a) ds (subst (λ (h : Holder). Owns last (valueOf k m) h ds) (plain-holder cb m a wrote-plain) (wrote-chain .owns))
 
-  wrote-content : content base cb m ds more ≡ written (content base cb l (fileChain k l s) size) pointer bs
+  wrote-content : content base cb m ds more ≡ written (content base cb l (fileChain k l a) size) pointer bs
   unfolding writtenIn
   wrote-content =
       ap (λ (cs : List ℕ). content base cb (writtenImage base cb long cs size pointer bs) cs more) (sym chain-is)
       ∙ write-bytes (geometry k u) base (valueOf k l) (rootHolders k l) (rootChains k l) (on-theory k l v) long whole a (startOf l a) size (root-file-holder k l v s i) pointer bs fit
       ∙ ap (λ (cs : List ℕ). written (content base cb long cs size) pointer bs) own-is
-      ∙ ap (λ (xs : List ℕ). written xs pointer bs) (longer-content k l s more grow)
+      ∙ ap (λ (xs : List ℕ). written xs pointer bs) (longer-content k l s more i grow)
 
   module _ (f : File) (x : Holds k l s f) where
-    held : content base cb l (fileChain k l s) size ≡ f .bytes
+    held : content base cb l (fileChain k l a) size ≡ f .bytes
     held =
-        let chain : ChainOf k l s (fileChain k l s) = owns-file last cb (area .wide) (valueOf k l) (startOf l a) size (fileChain k l s) (file-owned l k v s i) in
-        ap (λ (cs : List ℕ). content base cb l cs size) (chain-only k u l s (fileChain k l s) (x .bytes .0) chain (x .bytes .1)) ∙ x .bytes .2
+        let chain : ChainOf k l s (fileChain k l a) = owns-file last cb (area .wide) (valueOf k l) (startOf l a) size (fileChain k l a) (file-owned l k v s i) in
+        ap (λ (cs : List ℕ). content base cb l cs size) (chain-only k u l s (fileChain k l a) (x .bytes .0) chain (x .bytes .1)) ∙ x .bytes .2
 
     pub wrote-holds : Holds k m s (file (f .name) (f .attr) (written (f .bytes) pointer bs))
     wrote-holds = record {

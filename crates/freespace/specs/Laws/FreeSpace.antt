@@ -48,7 +48,7 @@ counted k l v =
     (unless (BadSlot k l) 4 c (FromChains k l) v
     (unless (BadChain k l) 5 c (FromTwo k l) v
     (unless (InTwoChains k l) 6 c (FromLost k l) v
-    (unless (Lost k l) 7 c (Counted k l) v (λ e. ap (freeIn c) e))))))
+    (unless (Lost k l) 7 c (Counted k l) v (λ e. ap (freeIn c) (e .2)))))))
 
 -- ---- the whole answer x: r is the kind that was found, v what check answered
 

@@ -10,7 +10,7 @@ use Rattle.stamps.specs.declared.Stamp.{Stamp}
 use Rattle.opened.specs.Aids.Places.{holdsFile}
 use Rattle.opened.specs.Records.{placeCount, usedOf, slotOf, accessOf}
 use Rattle.calls.specs.Outcome.{Outcome, outcome}
-use Rattle.calls.specs.Refusals.{theKind, noFile}
+use Rattle.calls.specs.Refusals.{theKind, noFile, addressOf}
 use Rattle.freeing.specs.Freed.{chainFreed}
 use Rattle.creating.specs.Create.{madeBy}
 use Rattle.deleting.specs.Delete.{erasedIn}
@@ -58,7 +58,7 @@ taking name attr stamp w =
     let l = w .image in
     let o = ourCreate name attr stamp w in
     cond (eqb (o .number) 0 && (noFile l name && (usedOf (w .table) 0 && fileIn l 0)))
-    (madeBy (chainFreed (theKind l) l 0) (w .table) (theKind l) 0 (nameGiven name .name) attr (packed stamp)) o
+    (madeBy (chainFreed (theKind l) l (addressOf l 0)) (w .table) (theKind l) 0 (nameGiven name .name) attr (packed stamp)) o
 
 abbrev pub takesFirst : Library
 takesFirst = oursBut taking ourWrite ourDelete

@@ -84,7 +84,7 @@ module _ (k : Kind) (w : World) (b : Begins k w) where
           let i = live-there k l (on b) t h (row 2) in
           let s = slotOf t h in
           let pointer = pointerOf t h in
-          let n = writeCount k l s pointer (length bs) in
+          let n = writeCount k l (slotAt k s) pointer (length bs) in
           let kind = on-kind l k (on b) in
           let named : Names (write h bs) k w s = reaches k w (on b) h (row 2) in
           elim (ℕ-discrete n 0) [
@@ -97,13 +97,13 @@ module _ (k : Kind) (w : World) (b : Begins k w) where
                 let q = ne-eqb n 0 d in
                 let does : Does k w (write h bs) s = record { well = ap (λ (o : Outcome). o .number) e ∙ rw (kind, q); named = named } in
                 let value : ours (write h bs) w .value ≡ n = ap (λ (o : Outcome). o .value) e ∙ rw (kind, q) in
-                let m : step w (write h bs) .image ≡ writtenIn k l s pointer (take n bs) = ap (λ (o : Outcome). o .image) e ∙ rw (kind, q) in
+                let m : step w (write h bs) .image ≡ writtenIn k l (slotAt k s) pointer (take n bs) = ap (λ (o : Outcome). o .image) e ∙ rw (kind, q) in
                 let p = taken-fits k l s pointer bs (on b) i (b .bytes) d in
                 came-at k w (write h bs) s _ _ does m
-                (wrote-changed k l s pointer (take n bs) p)
-                (wrote-bytes k l s pointer (take n bs) p (bytes-take n bs given))
+                (wrote-changed k l s pointer (take n bs) i p)
+                (wrote-bytes k l s pointer (take n bs) i p (bytes-take n bs given))
                 i (λ f. file (f .name) (f .attr) (written (f .bytes) pointer (take n bs))) (λ f g. rw (value, q) (λ p. p, λ p. p))
-                (wrote-holds k l s pointer (take n bs) p)
+                (wrote-holds k l s pointer (take n bs) i p)
           ]
 
   -- ---- create
@@ -153,7 +153,7 @@ module _ (k : Kind) (w : World) (b : Begins k w) where
         let fits = good-name given (row 2) in
         let s = fileSlot l given in
         let found = file-found k l (on b) given q in
-        made-in (chainFreed k l s) s time date (inl (has-name k l (on b) given fits q)) fits (e ∙ rw (q, pe, on-kind l k (on b)))
+        made-in (chainFreed k l (slotAt k s)) s time date (inl (has-name k l (on b) given fits q)) fits (e ∙ rw (q, pe, on-kind l k (on b)))
         (empty-changed k l (on b) (b .bytes) given fits attr (row 4) time date s found)
         (empty-bytes k l (on b) (b .bytes) given fits attr (row 4) time date s found)
         (empty-holds k l (on b) (b .bytes) given fits attr (row 4) time date s found)

@@ -26,12 +26,12 @@ use Rattle.changes.specs.Laws.Slots.{used-lower}
 module _ (k : Kind) (l : List ℕ) (v : OnVolume l k) (b : Bytes l) (s : ℕ) (i : IsFile k l s) where
   emptied : Emptied k l (erasedIn k l s) s
   emptied =
-      entry-emptied k l v b s (chainFreed k l s) (slotAt k s) (0xE5 ∷ []) (omega arith) (omega arith) (i .below)
+      entry-emptied k l v b s (chainFreed k l (slotAt k s)) (slotAt k s) (0xE5 ∷ []) (omega arith) (omega arith) (i .below)
       (bytes-one 0xE5 (omega arith)) (file-emptied k l v b s i)
 
   erased : ErasedAt (erasedIn k l s) (slotAt k s)
   erased =
-      byte-back (chainFreed k l s) (slotAt k s) 0xE5 (omega (arith, file-emptied k l v b s i .frame .long, file-within l k v s i (slotAt k s) refl))
+      byte-back (chainFreed k l (slotAt k s)) (slotAt k s) 0xE5 (omega (arith, file-emptied k l v b s i .frame .long, file-within l k v s i (slotAt k s) refl))
 
   -- no live entry is there
   ended : ¬ LiveAt (erasedIn k l s) (slotAt k s)

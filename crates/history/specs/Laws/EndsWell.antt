@@ -93,12 +93,12 @@ module _ (k : Kind) (w : World) (v : OnVolume (w .image) k) where
         plain = rw (x .holds .slot) (i .plain);
       })))
 
-  pub count-all : (n length : ℕ) → length ≤ freeOf k l * clusterBytes k → writeCount k l n 0 length ≡ length
+  pub count-all : (n length : ℕ) → length ≤ freeOf k l * clusterBytes k → writeCount k l (slotAt k n) 0 length ≡ length
   unfolding roomOf
   count-all n length h = omega arith
 
   pub write-well : (n : ℕ) → TakenFor t n 0 false → IsFile k l n → (bs : List ℕ) → 0 < length bs → length bs ≤ freeOf k l * clusterBytes k
-      → ours (write 0 bs) w ≡ outcome 0 (length bs) (writtenIn k l n 0 (take (length bs) bs)) (withWritten (withPointer t 0 (length bs)) 0) []
+      → ours (write 0 bs) w ≡ outcome 0 (length bs) (writtenIn k l (slotAt k n) 0 (take (length bs) bs)) (withWritten (withPointer t 0 (length bs)) 0) []
   unfolding writeOutcome writeEffect decided refusal
   write-well n x i bs some room =
       let z : 0 + length bs ≡ length bs = omega arith in

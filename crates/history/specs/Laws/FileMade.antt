@@ -15,10 +15,9 @@ use Rattle.chains.specs.Write.{written}
 use Rattle.chains.specs.Laws.Put.{put-same, put-other}
 use Rattle.chains.specs.Sizes.{clustersFor}
 use Rattle.chains.specs.Aids.Values.{OutOfUse}
-use Rattle.chains.specs.Laws.Sizes.{clusters-zero}
 use Rattle.diskette.specs.Places.{clusterBytes, lastCluster, rootEntries, slotAt}
 use Rattle.diskette.specs.declared.Kind.{Kind}
-use Rattle.fields.specs.Fields.{timeOf, dateOf}
+use Rattle.fields.specs.Fields.{sizeOf, timeOf, dateOf}
 use Rattle.names.specs.Reading.{nameGiven}
 use Rattle.stamps.specs.declared.Stamp.{Stamp}
 use Rattle.stamps.specs.declared.Packed.the-variants.{Words}
@@ -34,11 +33,21 @@ use Rattle.calls.specs.Refusals.{placeFound, fileFound, slotForNew}
 use Rattle.calls.specs.Laws.Ready.{on-kind, on-usable}
 use Rattle.calls.specs.Laws.Files.{slot-within}
 use Rattle.closing.specs.Close.{archived, stamped, closeEffect}
-use Rattle.holding.specs.Laws.Clusters.{on-clusters}
+use Rattle.holding.specs.Holding.{fileChain}
+use Rattle.holding.specs.Laws.Chain.{file-at}
 use Rattle.creating.specs.Create.{made}
-use Rattle.putting.specs.Written.{writtenIn}
+use Rattle.putting.specs.Longer.{chainAfter}
+use Rattle.putting.specs.Written.{sizeAfter, writtenIn}
+use Rattle.putting.specs.Aids.Put.{CanPut}
+use Rattle.putting.specs.Laws.Longer.{after-long}
+use Rattle.putting.specs.Laws.Put.{can-grow}
+use Rattle.changes.specs.Aids.Changed.{SlotChanged}
 use Rattle.changes.specs.Files.{File, file, Files, ShowsAt}
+use Rattle.changes.specs.Laws.Made.{new-changed}
+use Rattle.changes.specs.Laws.Marks.{close-changed}
 use Rattle.changes.specs.Laws.NewSlot.{none-of-name, lowest-vacant}
+use Rattle.changes.specs.Laws.Root.{root-file, root-none}
+use Rattle.changes.specs.Laws.Wrote.{wrote-changed}
 use Rattle.history.specs.Aids.Ours.{step, run}
 use Rattle.history.specs.ListingCase.{fileCalls, HasStamp, answered}
 use Rattle.history.specs.Meant.{Reaches, IsForNew}
@@ -49,8 +58,9 @@ use Rattle.history.specs.Laws.Given.{given-create, given-write, given-cl
 use Rattle.history.specs.Laws.HasFiles.{HasFiles, GoodFile}
 use Rattle.history.specs.Laws.Meant.{means, for-new, reaches}
 use Rattle.history.specs.Laws.OneFile.{take-all, written-first}
-use Rattle.history.specs.Laws.OneSlot.{Stands, Makes, stands-step, others-step, free-step, out-of-use-step}
-use Rattle.history.specs.Laws.Room.{needed}
+use Rattle.history.specs.Laws.OneSlot.{Stands, Makes, stands-step, others-step, out-of-use-step}
+use Rattle.history.specs.Laws.Room.{changed-chain, changed-free}
+use Rattle.history.specs.Laws.Shown.{bytes-long, holds-bytes}
 use Rattle.history.specs.Laws.Stamped.{stamped-words, same-stamp}
 
 -- what is told of an answer
@@ -124,18 +134,20 @@ module _ (k : Kind) (w : World) (fs : Files) (n free : ℕ) (x : HasFiles k w fs
   stands-created : Stands k world-created (put-file attr []) n
   stands-created = stands-step k w fs (put-file attr []) n slot (x .stands) (create s attr stamp) makes-created
 
-  none-needed : (o : Option File) → ShowsAt k (w .image) n o → needed k o ≡ 0
-  none-needed none y = refl
-  none-needed (some f) y = absurd (y .is-file .plain .0 .0 (x .never))
-
-  empty-needed : needed k (put-file attr [] n) ≡ 0
-  empty-needed = ap (needed k) (there attr []) ∙ clusters-zero (clusterBytes k) (on-clusters (w .image) k (on (x .stands .begins)) .wide)
+  -- it has no cluster, and neither had its slot
+  changed-created : SlotChanged k (w .image) (world-created .image) n []
+  unfolding fileFound slotForNew
+  changed-created =
+      let v = on (x .stands .begins) in
+      let e = on-kind (w .image) k v in
+      subst (λ (m : List ℕ). SlotChanged k (w .image) m n []) (sym (ap (λ (o : Outcome). o .image) created))
+      (new-changed k (w .image) v (x .stands .begins .bytes) s (g .fits) attr (g .may) (g .time) (g .date) n (rw e at none-named) (rw e at lowest))
 
   free-created : freeOf k (world-created .image) ≡ free
   free-created =
-      let e = free-step k w fs (put-file attr []) n slot (x .stands) (create s attr stamp) makes-created in
-      let b : needed k (fs n) ≡ 0 = none-needed (fs n) (x .stands .shows n) in
-      omega (arith, e, empty-needed, b, x .free-are)
+      let v = on (x .stands .begins) in
+      let z = root-none k (w .image) v n slot (λ p. p .0 .0 (x .never)) in
+      omega (arith, changed-free k (w .image) v n (world-created .image) [] changed-created, ap length z, x .free-are)
 
   -- ---- write
 
@@ -143,7 +155,7 @@ module _ (k : Kind) (w : World) (fs : Files) (n free : ℕ) (x : HasFiles k w fs
   world-wrote = step world-created (write 0 bs)
 
   wrote : ours (write 0 bs) world-created
-      ≡ outcome 0 (length bs) (writtenIn k (world-created .image) n 0 (take (length bs) bs))
+      ≡ outcome 0 (length bs) (writtenIn k (world-created .image) (slotAt k n) 0 (take (length bs) bs))
       (withWritten (withPointer (world-created .table) 0 (length bs)) 0) []
   wrote =
       write-well k world-created (on (stands-created .begins)) n taken-created (file-there world-created attr [] stands-created) bs
@@ -168,11 +180,52 @@ module _ (k : Kind) (w : World) (fs : Files) (n free : ℕ) (x : HasFiles k w fs
   stands-wrote : Stands k world-wrote (put-file attr bs) n
   stands-wrote = stands-step k world-created (put-file attr []) (put-file attr bs) n slot stands-created (write 0 bs) makes-wrote
 
+  -- its clusters are new, as many as its bytes need
+  empty-size : sizeOf (world-created .image) (slotAt k n) ≡ 0
+  empty-size =
+      let v = on (stands-created .begins) in
+      let y = subst (ShowsAt k (world-created .image) n) (there attr []) (stands-created .shows n) in
+      sym (bytes-long k (world-created .image) v n (y .is-file)) ∙ ap length (holds-bytes k (world-created .image) v n _ y)
+
+  can-put : CanPut k (world-created .image) (slotAt k n) 0 (length (take (length bs) bs))
+  can-put =
+      let v = on (stands-created .begins) in
+      let i = file-there world-created attr [] stands-created in
+      record {
+        on = v;
+        file = file-at (world-created .image) k v n i (slotAt k n) refl;
+        bytes = stands-created .begins .bytes;
+        fits = rw (take-all bs) (omega (arith, (rw (← free-created) (g .room))));
+      }
+
+  abbrev clusters-wrote : List ℕ
+  clusters-wrote = chainAfter k (world-created .image) (slotAt k n) (sizeAfter (world-created .image) (slotAt k n) 0 (length (take (length bs) bs)))
+
+  changed-wrote : SlotChanged k (world-created .image) (world-wrote .image) n clusters-wrote
+  changed-wrote =
+      subst (λ (m : List ℕ). SlotChanged k (world-created .image) m n clusters-wrote) (sym (ap (λ (o : Outcome). o .image) wrote))
+      (wrote-changed k (world-created .image) n 0 (take (length bs) bs) (file-there world-created attr [] stands-created) can-put)
+
+  many-wrote : length clusters-wrote ≡ clustersFor (clusterBytes k) (length bs)
+  many-wrote =
+      let v = on (stands-created .begins) in
+      let i = file-there world-created attr [] stands-created in
+      let own : length (fileChain k (world-created .image) (slotAt k n)) ≡ 0
+      = ap length (sym (root-file k (world-created .image) v n i) ∙ changed-chain k (w .image) (on (x .stands .begins)) n (world-created .image) [] changed-created) in
+      let size : sizeAfter (world-created .image) (slotAt k n) 0 (length (take (length bs) bs)) ≡ length bs = rw (take-all bs, empty-size) (omega arith) in
+      let grow = can-grow k (world-created .image) (slotAt k n) 0 (length (take (length bs) bs)) can-put _ _ refl refl in
+      omega (arith, after-long k (world-created .image) (slotAt k n) _ grow, own, ap (clustersFor (clusterBytes k)) size)
+
   free-wrote : freeOf k (world-wrote .image) + clustersFor (clusterBytes k) (length bs) ≡ free
   free-wrote =
-      let e = free-step k world-created (put-file attr []) (put-file attr bs) n slot stands-created (write 0 bs) makes-wrote in
-      let b : needed k (put-file attr bs n) ≡ clustersFor (clusterBytes k) (length bs) = ap (needed k) (there attr bs) in
-      omega (arith, e, empty-needed, b, free-created)
+      let chain = changed-chain k (w .image) (on (x .stands .begins)) n (world-created .image) [] changed-created in
+      omega (
+        arith,
+        changed-free k (world-created .image) (on (stands-created .begins)) n (world-wrote .image) clusters-wrote changed-wrote,
+        many-wrote,
+        ap length chain,
+        free-created,
+      )
 
   -- ---- close
 
@@ -199,12 +252,17 @@ module _ (k : Kind) (w : World) (fs : Files) (n free : ℕ) (x : HasFiles k w fs
   stands-closed : Stands k world-closed (put-file (archived attr) bs) n
   stands-closed = stands-step k world-wrote (put-file attr bs) (put-file (archived attr) bs) n slot stands-wrote (close 0 stamp) makes-closed
 
-  free-closed : freeOf k (world-closed .image) + clustersFor (clusterBytes k) (length bs) ≡ free
+  image-closed : world-closed .image ≡ stamped (world-wrote .image) (slotAt k n) (g .time) (g .date)
+  image-closed =
+      ap (λ (o : Outcome). o .image) closed
+      ∙ rw (taken-wrote .holds .written, taken-wrote .holds .slot, g .stamped, on-kind (world-wrote .image) k (on (stands-wrote .begins)))
+
+  free-closed : freeOf k (world-closed .image) ≡ freeOf k (world-wrote .image)
   free-closed =
-      let e = free-step k world-wrote (put-file attr bs) (put-file (archived attr) bs) n slot stands-wrote (close 0 stamp) makes-closed in
-      let a : needed k (put-file attr bs n) ≡ clustersFor (clusterBytes k) (length bs) = ap (needed k) (there attr bs) in
-      let b : needed k (put-file (archived attr) bs n) ≡ clustersFor (clusterBytes k) (length bs) = ap (needed k) (there (archived attr) bs) in
-      omega (arith, e, a, b, free-wrote)
+      let v = on (stands-wrote .begins) in
+      let i = file-there world-wrote attr bs stands-wrote in
+      let c = close-changed k (world-wrote .image) v n i (g .time) (g .date) in
+      ap (freeOf k) image-closed ∙ omega (arith, changed-free k (world-wrote .image) v n _ _ c)
 
   out-of-use-closed : (t : ℕ → Bool) → OutOfUse (lastCluster k) t → clustersWith t k (world-closed .image) ≡ 0
   out-of-use-closed t o =
@@ -217,10 +275,7 @@ module _ (k : Kind) (w : World) (fs : Files) (n free : ℕ) (x : HasFiles k w fs
   pub file-stamp : HasStamp k (world-closed .image) n stamp
   file-stamp =
       let v = on (stands-wrote .begins) in
-      let e : world-closed .image ≡ stamped (world-wrote .image) (slotAt k n) (g .time) (g .date)
-      = ap (λ (o : Outcome). o .image) closed
-      ∙ rw (taken-wrote .holds .written, taken-wrote .holds .slot, g .stamped, on-kind (world-wrote .image) k v) in
-      ap (λ (l : List ℕ). Words (timeOf l (slotAt k n)) (dateOf l (slotAt k n))) e
+      ap (λ (l : List ℕ). Words (timeOf l (slotAt k n)) (dateOf l (slotAt k n))) image-closed
       ∙ stamped-words (world-wrote .image) (slotAt k n) (g .time) (g .date) (slot-within (world-wrote .image) k v n (slotAt k n) slot refl)
       (g .small-time) (g .small-date)
       ∙ sym (g .stamped)
@@ -248,7 +303,7 @@ module _ (k : Kind) (w : World) (fs : Files) (n free : ℕ) (x : HasFiles k w fs
       | yes e ↦ (file name (archived attr) bs, put-same fs n (some (file name (archived attr) bs)) t e)
       | no d ↦ let y = x .below t (omega arith) in (y .0, put-other fs n (some (file name (archived attr) bs)) t d ∙ y .1)
     ];
-    free-are = omega (arith, free-closed);
+    free-are = omega (arith, free-closed, free-wrote);
     out-of-use-none = out-of-use-closed;
     table = table-closed;
   }

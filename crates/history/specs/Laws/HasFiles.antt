@@ -55,8 +55,9 @@ verdict-of k w fs n free x h =
     let G = geometry k (on-usable (w .image) k (on (x .stands .begins))) in
     let bad : badOf k (w .image) ≡ 0 = x .out-of-use-none badb (bad-out-of-use G) in
     let reserved : reservedOf k (w .image) ≡ 0 = x .out-of-use-none reservedb (reserved-out-of-use G) in
-    let held : heldOf k (w .image) ≡ clusters k - free = omega (arith, total-of k w (x .stands .begins), x .free-are, bad, reserved) in
-    sound-verdict k (w .image) (on (x .stands .begins)) ∙ rw (files, x .free-are, held, bad, reserved)
+    let sound = x .stands .begins .sound in
+    let held : heldOf k (w .image) (sound .0) ≡ clusters k - free = omega (arith, total-of k w (x .stands .begins) (sound .0) (sound .1 .chains), x .free-are, bad, reserved) in
+    sound-verdict k (w .image) (on (x .stands .begins)) (sound .0) (sound .1 .chains) ∙ rw (files, x .free-are, held, bad, reserved)
 
 -- what is given for a new file: the calls have no reason to refuse it
 pub record GoodFile (k : Kind) (fs : Files) (free : ℕ) (s : List ℕ) (attr : ℕ) (bs : List ℕ) (stamp : Stamp) : Type 0 where

@@ -11,7 +11,7 @@ use Rattle.directory.specs.Entries.{SameBytes}
 use Rattle.directory.specs.Aids.Entries.{SameFields}
 use Rattle.directory.specs.Slots.{NeverUsedAt}
 use Rattle.directory.specs.Laws.Entries.{same-fields}
-use Rattle.sound.specs.Counts.{clustersWith, freeOf}
+use Rattle.sound.specs.Counts.{clustersWith}
 use Rattle.calls.specs.Laws.Files.{slot-within}
 use Rattle.changes.specs.Files.{Files, Shows}
 use Rattle.history.specs.Aids.Ours.{step}
@@ -23,7 +23,7 @@ use Rattle.history.specs.Laws.Begins.{on}
 use Rattle.history.specs.Laws.Came.{came-begins, came-shows, came-entries, after-does}
 use Rattle.history.specs.Laws.EveryCall.{came}
 use Rattle.history.specs.Laws.OneNamed.{names-one}
-use Rattle.history.specs.Laws.Room.{needed, free-after, out-of-use-after}
+use Rattle.history.specs.Laws.Room.{out-of-use-after}
 
 -- the volume has these files, and the slots above n were never used
 pub record Stands (k : Kind) (w : World) (fs : Files) (n : ℕ) : Type 0 where
@@ -61,9 +61,6 @@ module _ (k : Kind) (w : World) (fs gs : Files) (n : ℕ) (below : n < rootEntri
       (slot-within (step w c .image) k (on (stands-step .begins)) t (slotAt k t) i refl)
       (slot-within (w .image) k (on (x .begins)) t (slotAt k t) i refl)
       (same-entry t i d)
-
-  pub free-step : freeOf k (step w c .image) + needed k (gs n) ≡ freeOf k (w .image) + needed k (fs n)
-  free-step = free-after k w c (x .begins) comes n below (y .does .named) (fs n) (gs n) (x .shows n) (stands-step .shows n)
 
   pub out-of-use-step : (t : ℕ → Bool) → OutOfUse (lastCluster k) t → clustersWith t k (step w c .image) ≡ clustersWith t k (w .image)
   out-of-use-step = out-of-use-after k w c (x .begins) comes

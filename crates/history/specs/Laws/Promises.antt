@@ -6,10 +6,11 @@ use mathlib.Core.Logic.{inl, inr}
 use mathlib.Core.Path.{_≡_, refl, sym, ap, _∙_}
 use lib.ListN.{length}
 use borrow.Author.Tests.{eq-eqb, ne-eqb}
-use Rattle.diskette.specs.Places.{clusters}
+use Rattle.diskette.specs.Places.{clusters, slotAt}
 use Rattle.diskette.specs.declared.Kind.{Kind}
 use Rattle.opened.specs.Records.{slotOf, pointerOf}
 use Rattle.sound.specs.Counts.{freeOf, heldOf, badOf, reservedOf}
+use Rattle.sound.specs.Files.{AreChains}
 use Rattle.sound.specs.Laws.Total.{total}
 use Rattle.calls.specs.Outcome.{Outcome}
 use Rattle.calls.specs.Laws.Ready.{on-kind, on-usable}
@@ -42,7 +43,8 @@ alters-no-other k w b cs g c given s h n =
     let x = came k (run w cs) c after given in
     (came-entries k (run w cs) c after x s h n, came-others k (run w cs) c after x s n)
 
-pub total-of : (k : Kind) (w : World) → Begins k w → freeOf k (w .image) + heldOf k (w .image) + badOf k (w .image) + reservedOf k (w .image) ≡ clusters k
+pub total-of : (k : Kind) (w : World) → Begins k w → (lists : ℕ → List ℕ) → AreChains k (w .image) lists
+    → freeOf k (w .image) + heldOf k (w .image) lists + badOf k (w .image) + reservedOf k (w .image) ≡ clusters k
 total-of k w b = total k (on-usable (w .image) k (on b)) (w .image) (b .sound)
 
 pub total-after-each : TotalAfterEach ours
@@ -50,12 +52,12 @@ total-after-each k w b cs g = total-of k (run w cs) (begins-run k cs w b g)
 
 -- as many bytes as the room allows
 counted : (k : Kind) (w : World) → Begins k w → (h : ℕ) (bs : List ℕ) → ours (write h bs) w .number ≡ 0
-    → ours (write h bs) w .value ≡ writeCount k (w .image) (slotOf (w .table) h) (pointerOf (w .table) h) (length bs)
+    → ours (write h bs) w .value ≡ writeCount k (w .image) (slotAt k (slotOf (w .table) h)) (pointerOf (w .table) h) (length bs)
 unfolding writeOutcome writeEffect
 counted k w b h bs well =
     let l = w .image in
     let t = w .table in
-    let n = writeCount k l (slotOf t h) (pointerOf t h) (length bs) in
+    let n = writeCount k l (slotAt k (slotOf t h)) (pointerOf t h) (length bs) in
     elim (decided-cases (writeRows l t h) (writeEffect l t h bs) l t []) [
       | inl x ↦ absurd (x .0 (sym (ap (λ (o : Outcome). o .number) (x .1)) ∙ well))
       | inr x ↦ ap (λ (o : Outcome). o .value) (x .1) ∙ elim (ℕ-discrete n 0) [
@@ -68,6 +70,6 @@ pub short-only-where-full : ShortOnlyWhereFull ours
 short-only-where-full k v b cs g h bs s well named =
     let w = run v cs in
     let value
-    = counted k w (begins-run k cs v b g) h bs well ∙ ap (λ (i : ℕ). writeCount k (w .image) i (pointerOf (w .table) h) (length bs)) (named .slot) in
+    = counted k w (begins-run k cs v b g) h bs well ∙ ap (λ (i : ℕ). writeCount k (w .image) (slotAt k i) (pointerOf (w .table) h) (length bs)) (named .slot) in
     rw value
-    (count-within (roomOf k (w .image) s) (pointerOf (w .table) h) bs _ refl, write-short k (w .image) s (pointerOf (w .table) h) (length bs))
+    (count-within (roomOf k (w .image) (slotAt k s)) (pointerOf (w .table) h) bs _ refl, write-short k (w .image) s (pointerOf (w .table) h) (length bs))

@@ -6,6 +6,7 @@ use mathlib.Core.Logic.{inl, inr}
 use mathlib.Core.Path.{_≡_, refl, ap, ap₂}
 use lib.Dec.{eqb}
 use lib.ListN.{length}
+use Rattle.diskette.specs.Places.{slotAt}
 use Rattle.diskette.specs.declared.Kind.{Kind}
 use Rattle.stamps.specs.declared.Packed.{Packed}
 use Rattle.stamps.specs.declared.Packed.the-variants.{Words, OutOfRange}
@@ -45,12 +46,12 @@ well-made false l m t k i j name attr OutOfRange = refl
 
 well-create : (l t s : List ℕ) (attr : ℕ) (stamp : Stamp) → createEffect l t s attr stamp .number ≡ 0
 well-create l t s attr stamp =
-    well-made (noFile l s) l (chainFreed (theKind l) l (fileSlot l s)) t (theKind l) (placeFound (slotForNew l)) (fileSlot l s)
+    well-made (noFile l s) l (chainFreed (theKind l) l (slotAt (theKind l) (fileSlot l s))) t (theKind l) (placeFound (slotForNew l)) (fileSlot l s)
     (nameGiven s .name) attr (packed stamp)
 
 well-write : (l t : List ℕ) (h : ℕ) (bs : List ℕ) → writeEffect l t h bs .number ≡ 0
 unfolding writeEffect
-well-write l t h bs = well-either (eqb (writeCount (theKind l) l (slotOf t h) (pointerOf t h) (length bs)) 0) (outcome 0 0 l t []) _ refl refl
+well-write l t h bs = well-either (eqb (writeCount (theKind l) l (slotAt (theKind l) (slotOf t h)) (pointerOf t h) (length bs)) 0) (outcome 0 0 l t []) _ refl refl
 
 both : {w : World} {l t : List ℕ} → (l ≡ w .image) × (t ≡ w .table) → world l t ≡ w
 both e = ap₂ world (e .0) (e .1)

@@ -65,25 +65,25 @@ module _ (k : Kind) (l : List ℕ) (v : OnVolume l k) where
   )
 
   -- the chain that a walk finds is the file's
-  pub file-chain-of : (s : ℕ) → IsFile k l s → ChainOf k l s (fileChain k l s)
+  pub file-chain-of : (s : ℕ) → IsFile k l s → ChainOf k l s (fileChain k l (slotAt k s))
   file-chain-of s i =
       let holder = root-holder k l s (i .below) ∙ plain-holder (clusterBytes k) l (slotAt k s) (i .plain) in
-      file-owns-chain k (on-usable l k v) l (rootHolders k l) (root-holder k l) s (fileChain k l s) i .0
-      (subst (λ (h : Holder). Owns (lastCluster k) (valueOf k l) h (fileChain k l s)) (sym holder) (file-owned l k v s i))
+      file-owns-chain k (on-usable l k v) l (rootHolders k l) (root-holder k l) s (fileChain k l (slotAt k s)) i .0
+      (subst (λ (h : Holder). Owns (lastCluster k) (valueOf k l) h (fileChain k l (slotAt k s))) (sym holder) (file-owned l k v s i))
 
   -- as many bytes as its size says
-  pub bytes-long : (s : ℕ) → IsFile k l s → length (fileBytes k l s) ≡ sizeOf l (slotAt k s)
+  pub bytes-long : (s : ℕ) → IsFile k l s → length (fileBytes k l (slotAt k s)) ≡ sizeOf l (slotAt k s)
   unfolding fileBytes
   bytes-long s i =
-      content-length (512 * firstData k) (clusterBytes k) (on-clusters l k v .wide) l (fileChain k l s) (sizeOf l (slotAt k s))
+      content-length (512 * firstData k) (clusterBytes k) (on-clusters l k v .wide) l (fileChain k l (slotAt k s)) (sizeOf l (slotAt k s))
       (chain-room (512 * firstData k) (clusterBytes k) (lastCluster k) l (startOf l (slotAt k s)) (on-clusters l k v)) (file-holds l k v s i)
 
-  pub holds-bytes : (s : ℕ) (f : File) → Holds k l s f → fileBytes k l s ≡ f .bytes
+  pub holds-bytes : (s : ℕ) (f : File) → Holds k l s f → fileBytes k l (slotAt k s) ≡ f .bytes
   unfolding fileBytes
   holds-bytes s f x =
       let i = x .is-file in
       ap (λ (cs : List ℕ). content (512 * firstData k) (clusterBytes k) l cs (sizeOf l (slotAt k s)))
-      (chain-only k (on-usable l k v) l s (fileChain k l s) (x .bytes .0) (file-chain-of s i) (x .bytes .1))
+      (chain-only k (on-usable l k v) l s (fileChain k l (slotAt k s)) (x .bytes .0) (file-chain-of s i) (x .bytes .1))
       ∙ x .bytes .2
 
 pub first-files : FirstFiles
@@ -97,7 +97,7 @@ reads-are-of-history k v c cs g h buffer s f e n x =
     let l = w .image in
     let t = w .table in
     let i = x .is-file in
-    let bytes : fileBytes k l s ≡ f .bytes = holds-bytes k l (on b) s f x in
+    let bytes : fileBytes k l (slotAt k s) ≡ f .bytes = holds-bytes k l (on b) s f x in
     let size : sizeOf l (slotAt k s) ≡ length (f .bytes) = sym (bytes-long k l (on b) s i) ∙ ap length bytes in
     elim (decided-cases (readRows l t h) (readEffect l t h buffer) l t buffer) [
       | inl y ↦ absurd (y .0 (sym (ap (λ (o : Outcome). o .number) (y .1)) ∙ e))

@@ -10,6 +10,7 @@ use lib.Dec.{eqb, leb, ltb}
 use lib.IntN.{ℤ, pos, negsuc, _+ℤ_}
 use lib.ListN.{length}
 use borrow.Author.Tests.{eq-eqb, ne-eqb, leb-true, ltb-false}
+use Rattle.holding.specs.Laws.Chain.{file-at}
 use Rattle.diskette.specs.Places.{slotAt}
 use Rattle.diskette.specs.declared.Kind.{Kind}
 use Rattle.fields.specs.Fields.{sizeOf}
@@ -146,7 +147,7 @@ module _ (k : Kind) (w : World) (v : OnVolume (w .image) k) where
         subst Makes (sym (x .1)) (either (noFile l name) _ _
         (λ e. made-took l (theKind l) (placeFound (slotForNew l))
         (inr (for-new k l v name fits e (rw e at found))) (row 8) (packed stamp))
-        (λ e. made-took (chainFreed (theKind l) l (fileSlot l name)) (theKind l) (fileSlot l name) (inl (has-name k l v name fits e)) (row 8)
+        (λ e. made-took (chainFreed (theKind l) l (slotAt (theKind l) (fileSlot l name))) (theKind l) (fileSlot l name) (inl (has-name k l v name fits e)) (row 8)
         (packed stamp)))
 
   -- ---- read, write and seek
@@ -158,7 +159,8 @@ module _ (k : Kind) (w : World) (v : OnVolume (w .image) k) where
       let x = well-is (readRows l t h) (readEffect l t h buffer) l t buffer well in
       let live = passed-row (readRows l t h) refl (x .0) 2 in
       let i = live-there k l v t h live in
-      let size : sizeOf l (slotAt k (slotOf t h)) < 4294967296 = omega (arith, room-own l k v (slotOf t h) i, room-fits l k v (slotOf t h) i) in
+      let f = file-at l k v (slotOf t h) i (slotAt k (slotOf t h)) refl in
+      let size : sizeOf l (slotAt k (slotOf t h)) < 4294967296 = omega (arith, room-own l k v (slotAt k (slotOf t h)) f, room-fits l k v (slotAt k (slotOf t h)) f) in
       rw (x .1, on-kind l k v) (record { counted = live-at k l v t h live .counted; table = refl; fits = λ small. omega (arith, size, small) })
 
   -- "If 0, nothing changes"
@@ -170,7 +172,7 @@ module _ (k : Kind) (w : World) (v : OnVolume (w .image) k) where
   write-pointed h bs well =
       let x = well-is (writeRows l t h) (writeEffect l t h bs) l t [] well in
       let live = passed-row (writeRows l t h) refl (x .0) 2 in
-      let n = writeCount k l (slotOf t h) (pointerOf t h) (length bs) in
+      let n = writeCount k l (slotAt k (slotOf t h)) (pointerOf t h) (length bs) in
       elim (ℕ-discrete n 0) [
         | yes z ↦ inl (rw (x .1, on-kind l k v, eq-eqb n 0 z) (refl, refl))
         | no d ↦ inr (rw (x .1, on-kind l k v, ne-eqb n 0 d) (
@@ -180,7 +182,7 @@ module _ (k : Kind) (w : World) (v : OnVolume (w .image) k) where
           record {
             counted = live-at k l v t h live .counted;
             table = refl;
-            fits = λ small. pointer-fits l k (slotOf t h) _ (pointerOf t h) (length bs) n refl refl d v (live-there k l v t h live);
+            fits = λ small. pointer-fits l k (slotAt k (slotOf t h)) _ (pointerOf t h) (length bs) n refl refl d v (file-at l k v (slotOf t h) (live-there k l v t h live) (slotAt k (slotOf t h)) refl);
           },
         ))
       ]

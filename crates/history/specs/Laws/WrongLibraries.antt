@@ -137,7 +137,7 @@ module _ {k : Kind} {w : World} {fs : Files} {f : File} {name : List ℕ} {attr 
   -- ---- create of a new name, with place 0 in use
 
   abbrev remade : List ℕ
-  remade = withEntry (chainFreed k l 0) (slotAt k 0) (nameGiven name .name) attr (g .time) (g .date) 0 0
+  remade = withEntry (chainFreed k l (slotAt k 0)) (slotAt k 0) (nameGiven name .name) attr (g .time) (g .date) 0 0
 
   not-named : ¬ Names (create name attr stamp) k u 0
   not-named (inl y) = no-file 0 y
@@ -147,7 +147,7 @@ module _ {k : Kind} {w : World} {fs : Files} {f : File} {name : List ℕ} {attr 
   other-name y =
       let long = file-emptied k l v (begins .bytes) 0 first-file .frame .long in
       let fits = slot-within l k v 0 (slotAt k 0) (first-file .below) refl in
-      let made = fresh (nameGiven name .name) attr (g .time) (g .date) 0 0 (g .long) (chainFreed k l 0) (slotAt k 0) (rw long fits) in
+      let made = fresh (nameGiven name .name) attr (g .time) (g .date) 0 0 (g .long) (chainFreed k l (slotAt k 0)) (slotAt k 0) (rw long fits) in
       g .new-name 0 f (x .here) (sym (y .name) ∙ made (g .small-time) (g .small-date) (omega arith) (omega arith) .name)
 
   pub takes-first-spoils : usedOf t 0 ≡ true → (p : ℕ) → lowestUnused t ≡ At p → Spoils takesFirst
@@ -162,9 +162,9 @@ module _ {k : Kind} {w : World} {fs : Files} {f : File} {name : List ℕ} {attr 
   module _ (lets : List ℕ → ℕ → Bool) (passes : lets t 0 ≡ true) (at : slotOf t 0 ≡ 0) (pointer : pointerOf t 0 ≡ 0)
       (dead : ¬ LivePlace t 0 l (slotAt k) (rootEntries k)) where
     abbrev m : List ℕ
-    m = writtenIn k l 0 0 (take (length bs) bs)
+    m = writtenIn k l (slotAt k 0) 0 (take (length bs) bs)
 
-    count : writeCount k l 0 0 (length bs) ≡ length bs
+    count : writeCount k l (slotAt k 0) 0 (length bs) ≡ length bs
     count = count-all k u v 0 (length bs) (rw (x .has .free-are) (g .room))
 
     wrote : (stepBy (writesThrough lets) u (write 0 bs) .image ≡ m) × (writesThrough lets (write 0 bs) u .number ≡ 0)
@@ -174,10 +174,10 @@ module _ {k : Kind} {w : World} {fs : Files} {f : File} {name : List ℕ} {attr 
     -- the file has other bytes then
     other-bytes : written (f .bytes) 0 bs ≢ f .bytes → ¬ Holds k m 0 f
     other-bytes differ y =
-        let many : writeCount k l 0 0 (length bs) ≢ 0 = λ z. let q : length bs ≡ 0 = sym count ∙ z in omega (arith, g .some-bytes) in
+        let many : writeCount k l (slotAt k 0) 0 (length bs) ≢ 0 = λ z. let q : length bs ≡ 0 = sym count ∙ z in omega (arith, g .some-bytes) in
         let p = rw count at (taken-fits k l 0 0 bs v first-file (begins .bytes) many) in
-        let after = changed-on k l v m 0 _ (wrote-changed k l 0 0 (take (length bs) bs) p) in
-        let e = sym (holds-bytes k m after 0 _ (wrote-holds k l 0 0 (take (length bs) bs) p f first-holds)) ∙ holds-bytes k m after 0 f y in
+        let after = changed-on k l v m 0 _ (wrote-changed k l 0 0 (take (length bs) bs) first-file p) in
+        let e = sym (holds-bytes k m after 0 _ (wrote-holds k l 0 0 (take (length bs) bs) first-file p f first-holds)) ∙ holds-bytes k m after 0 f y in
         differ (rw (take-all bs) at e)
 
     pub writes-through-spoils : written (f .bytes) 0 bs ≢ f .bytes → Spoils (writesThrough lets)

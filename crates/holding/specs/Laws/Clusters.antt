@@ -5,23 +5,24 @@ use mathlib.Core.List.{List}
 use mathlib.Core.Path.{_≡_}
 use lib.ListN.{length}
 use Rattle.contents.specs.Aids.Contents.{Area}
-use Rattle.contents.specs.Laws.Kinds.{area-kind}
 use Rattle.diskette.specs.Aids.Usable.{Usable}
 use Rattle.diskette.specs.Places.{firstData, clusterBytes, copyTwo, lastCluster}
 use Rattle.diskette.specs.declared.Kind.{Kind}
 use Rattle.table.specs.Aids.Copies.{Reaches}
 use Rattle.calls.specs.Aids.Ready.{OnVolume}
-use Rattle.calls.specs.Laws.Ready.{on-usable, on-of-kind, on-area}
+use Rattle.calls.specs.Laws.Ready.{on-usable, on-area}
+use Rattle.holding.specs.Laws.Kinds.{clusters-inside, area-inside}
+use Rattle.holding.specs.Laws.Kinds as kinds
 
 module _ (img : List ℕ) (k : Kind) (v : OnVolume img k) where
   pub on-clusters : Area (512 * firstData k) (clusterBytes k) (lastCluster k) (length img)
-  on-clusters = area-kind k (on-usable img k v) (length img) (omega (arith, on-of-kind img k v .long))
+  on-clusters = clusters-inside img k (v .known)
 
   pub kind-area : (first cb last : ℕ) → first ≡ firstData k → cb ≡ clusterBytes k → last ≡ lastCluster k → Area (512 * first) cb last (length img)
-  kind-area first cb last fe ce le = rw (fe, ce, le) on-clusters
+  kind-area = area-inside img k (v .known)
 
   pub base-fits : (first : ℕ) → first ≡ firstData k → 512 * first < 18446744073709551616
-  base-fits first e = omega (arith, on-usable img k v .whole, on-usable img k v .small)
+  base-fits = kinds.base-fits img k (v .known)
 
   pub cluster-wide : (cb : ℕ) → cb ≡ clusterBytes k → 0 < cb
   cluster-wide cb e = rw e (on-clusters .wide)
@@ -35,4 +36,4 @@ module _ (img : List ℕ) (k : Kind) (v : OnVolume img k) where
       rw (e, f) (record { low = omega arith; high = omega arith })
 
   pub last-small : (last : ℕ) → last ≡ lastCluster k → last ≤ 4079
-  last-small last e = rw e (on-usable img k v .below-reserved)
+  last-small = kinds.last-small img k (v .known)

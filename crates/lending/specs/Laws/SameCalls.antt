@@ -172,10 +172,10 @@ module _ (t : List ℕ) (h : ℕ) (t′ : List ℕ) (h′ : ℕ) (e : recordAt (
     effect-same : Lives → Same t h t′ h′ (writeEffect img t h bs) (writeEffect img t′ h′ bs)
     unfolding writeEffect
     effect-same w =
-        let slot = slotOf t′ h′ in
+        let a = addressOf img (slotOf t′ h′) in
         let pointer = pointerOf t′ h′ in
-        let n = writeCount (theKind img) img slot pointer (length bs) in
-        rw (w .fields .pointer, w .fields .slot) (by-count w (eqb n 0) n (pointer + n) (writtenIn (theKind img) img slot pointer (take n bs)))
+        let n = writeCount (theKind img) img a pointer (length bs) in
+        rw (w .fields .pointer, w .fields .slot) (by-count w (eqb n 0) n (pointer + n) (writtenIn (theKind img) img a pointer (take n bs)))
 
     pub write-same : Same t h t′ h′ (writeOutcome img t h bs) (writeOutcome img t′ h′ bs)
     unfolding writeOutcome

@@ -1,5 +1,5 @@
 -- Along a chain all its clusters are freed, and no others: the table gives the chain back.
-use Prim.Native.Nat.{ℕ, suc, _≤_}
+use Prim.Native.Nat.{ℕ, zero, suc, _≤_}
 use native.Mathlib.Omega.{arith}
 use native.Mathlib.Decide.{ℕ-discrete}
 use mathlib.Core.List.{List, [], _∷_}
@@ -11,7 +11,7 @@ use Rattle.chains.specs.Lists.{_∈_}
 use Rattle.chains.specs.Values.{Link}
 use Rattle.chains.specs.Aids.Chain.{Leads, Chain}
 use Rattle.chains.specs.Aids.Growth.{released}
-use Rattle.chains.specs.Laws.Tests.{true-says}
+use Rattle.chains.specs.Laws.Tests.{false-says, true-says}
 use Rattle.chains.specs.Laws.Values.{says-link}
 use Rattle.chains.specs.Laws.Put.{put-same, put-other}
 use Rattle.chains.specs.Laws.Lists.{dec-mem, mem-occ}
@@ -36,21 +36,29 @@ module _ (second last : ℕ) where
   unfolding freedFrom
   freed-link l n c h = rw (true-says (says-link last c) h, table-inside last l c (h .0) (h .1))
 
-  leads-freed : (cs : List ℕ) (l : List ℕ) (v : ℕ) → HasTable second last l → Leads last (tableOf last l) v cs → freedFrom second last l (length cs) v ≡ freed second l cs
-  leads-freed [] l v holds p = unfold freedFrom freed in refl
-  leads-freed (x ∷ xs) l v holds p =
+  -- a value that is no cluster's number ends it
+  freed-stops : (l : List ℕ) (n v : ℕ) → ¬ Link last v → freedFrom second last l n v ≡ l
+  unfolding freedFrom
+  freed-stops l zero v e = refl
+  freed-stops l (suc n) v e = rw (false-says (says-link last v) e)
+
+  -- n is the length of the chain or more
+  leads-freed : (cs : List ℕ) (l : List ℕ) (v n : ℕ) → HasTable second last l → Leads last (tableOf last l) v cs → length cs ≤ n → freedFrom second last l n v ≡ freed second l cs
+  leads-freed [] l v n holds p h = freed-stops l n v (λ q. omega (arith, holds .small)) ∙ (unfold freed in refl)
+  leads-freed (x ∷ xs) l v zero holds p h = absurd (omega arith)
+  leads-freed (x ∷ xs) l v (suc n) holds p h =
       let m = setBoth second l x 0 in
       let fresh : ¬ (x ∈ xs) = λ i. omega (arith, after-fresh (geometry last (holds .small)) (tableOf last l) x xs (p .2), mem-occ x xs i) in
       let same : (a : ℕ) → a ∈ xs → tableOf last m a ≡ tableOf last l a
       = λ a i. ap (λ (f : ℕ → ℕ). f a) (table-set second last l holds x 0 (p .1) (omega arith)) ∙ put-other (tableOf last l) x 0 a (λ e. fresh (subst (λ (b : ℕ). b ∈ xs) e i)) in
-      ap (freedFrom second last l (suc (length xs))) (p .0)
-      ∙ freed-link l (length xs) x (p .1)
-      ∙ leads-freed xs m (tableOf last l x) (holds-set second last l holds x 0) (leads-kept last (holds .small) (tableOf last l) (tableOf last m) (tableOf last l x) xs same (p .2))
+      ap (freedFrom second last l (suc n)) (p .0)
+      ∙ freed-link l n x (p .1)
+      ∙ leads-freed xs m (tableOf last l x) n (holds-set second last l holds x 0) (leads-kept last (holds .small) (tableOf last l) (tableOf last m) (tableOf last l x) xs same (p .2)) (omega arith)
       ∙ (unfold freed in refl)
 
-  pub chain-freed : (l : List ℕ) (start : ℕ) (cs : List ℕ) → HasTable second last l → Chain last (tableOf last l) start cs → freedFrom second last l (length cs) start ≡ freed second l cs
-  chain-freed l start [] holds p = unfold freedFrom freed in refl
-  chain-freed l start (x ∷ xs) holds p = leads-freed (x ∷ xs) l start holds p
+  pub chain-freed : (l : List ℕ) (start : ℕ) (cs : List ℕ) (n : ℕ) → HasTable second last l → Chain last (tableOf last l) start cs → length cs ≤ n → freedFrom second last l n start ≡ freed second l cs
+  chain-freed l start [] n holds p h = freed-stops l n start (λ q. omega arith) ∙ (unfold freed in refl)
+  chain-freed l start (x ∷ xs) n holds p h = leads-freed (x ∷ xs) l start n holds p h
 
 -- ---- the table then
 
@@ -81,9 +89,3 @@ module _ (second last : ℕ) where
   -- other clusters keep their entries
   pub freed-others : (l cs : List ℕ) → HasTable second last l → ((c : ℕ) → c ∈ cs → Link last c) → (a : ℕ) → ¬ (a ∈ cs) → tableOf last (freed second l cs) a ≡ tableOf last l a
   freed-others l cs holds r a n = freed-at cs l holds r a ∙ released-out (tableOf last l) cs a n
-
-  -- and so for a chain
-  pub chain-released : (l : List ℕ) (start : ℕ) (cs : List ℕ) → HasTable second last l → Chain last (tableOf last l) start cs → tableOf last (freedFrom second last l (length cs) start) ≡ released (tableOf last l) cs
-  chain-released l start cs holds p =
-      ap (tableOf last) (chain-freed second last l start cs holds p)
-      ∙ table-freed l cs holds (λ c i. chain-mem (geometry last (holds .small)) (tableOf last l) start cs p c i .0)

@@ -13,11 +13,9 @@ use Rattle.chains.specs.Values.{Link}
 use Rattle.chains.specs.Aids.Chain.{Chain}
 use Rattle.chains.specs.Aids.Free.{Takable}
 use Rattle.chains.specs.Aids.Growth.{extended, laid}
-use Rattle.chains.specs.Aids.Steps.{followed}
 use Rattle.chains.specs.Laws.Put.{put-same, put-other}
 use Rattle.chains.specs.Laws.Lists.{last-mem, last-index, once-head, once-tail}
 use Rattle.chains.specs.Laws.Chain.{chain-mem}
-use Rattle.chains.specs.Laws.Follow.{last-followed}
 use Rattle.chains.specs.Laws.Growth.{laid-other}
 use Rattle.table.specs.Entries.{tableOf}
 use Rattle.links.specs.Linked.{endOf, linkedTo, linked}
@@ -71,11 +69,11 @@ module _ (second last : ℕ) where
 
 -- ---- behind a chain
 
-end-none : endOf [] ≡ 0
+pub end-none : endOf [] ≡ 0
 unfolding endOf
 end-none = refl
 
-end-last : (c : ℕ) (cs : List ℕ) → endOf (c ∷ cs) ≡ lastOf c cs
+pub end-last : (c : ℕ) (cs : List ℕ) → endOf (c ∷ cs) ≡ lastOf c cs
 unfolding endOf
 end-last c cs = let e : length (c ∷ cs) - 1 ≡ length cs = omega arith in rw e (last-index c cs)
 
@@ -86,13 +84,6 @@ module _ (last : ℕ) (small : last ≤ 4079) (f : ℕ → ℕ) (start : ℕ) wh
   end-behind (c ∷ cs) p =
       let r = chain-mem (geometry last small) f start (c ∷ cs) p (lastOf c cs) (last-mem c cs) in
       rw (end-last c cs) (inr (r .0, λ z. elim (r .1) [ inl h ↦ omega arith | inr h ↦ omega arith ]))
-
-  -- it is what last_of answers
-  pub end-followed : (cs : List ℕ) → Chain last f start cs → followed f (length cs - 1) start ≡ endOf cs
-  end-followed [] p = let e : followed f 0 start ≡ start = unfold followed in refl in e ∙ p ∙ sym end-none
-  end-followed (c ∷ cs) p =
-      let e : length (c ∷ cs) - 1 ≡ length cs = omega arith in
-      ap (λ (n : ℕ). followed f n start) e ∙ ap (followed f (length cs)) (p .0) ∙ last-followed (geometry last small) f c cs (p .2) ∙ sym (end-last c cs)
 
 module _ (second last : ℕ) (l : List ℕ) (holds : HasTable second last l) (start : ℕ) where
   linked-at : (cs new : List ℕ) → Chain last (tableOf last l) start cs → Takable last (tableOf last l) new → (a : ℕ) → tableOf last (linked second l (endOf cs) new) a ≡ extended (tableOf last l) cs new a

@@ -11,9 +11,7 @@ use lib.ListN.{length, getD, take}
 use borrow.Author.Tests.{le-leb, lt-leb, eq-eqb, ne-eqb}
 use Rattle.chains.specs.Values.{linkb}
 use Rattle.chains.specs.Free.{freeFrom, freeClusters}
-use Rattle.chains.specs.Aids.Steps.{followed}
 use Rattle.chains.specs.Laws.FreeTurns as free
-use Rattle.chains.specs.Laws.StepTurns.{followed-turn, followed-end}
 use Rattle.table.specs.Entries.{entryOf, setBoth, tableOf}
 use Rattle.table.specs.Aids.Copies.{Reaches}
 use Rattle.table.specs.Laws.View.{table-inside, table-outside}
@@ -65,15 +63,6 @@ module _ (last : ℕ) (l : List ℕ) (c : ℕ) where
 
   pub value-inside : (e : ℕ) → e ≡ entryOf l c → 2 ≤ c → c ≤ last → e ≡ tableOf last l c
   value-inside e r h k = r ∙ sym (table-inside last l c h k)
-
--- ---- a chain followed
-
-module _ (f : ℕ → ℕ) (n c whole : ℕ) (inv : followed f (n - 1) c ≡ whole) where
-  pub follow-turn : (v : ℕ) → 1 < n → v ≡ f c → followed f (n - 1 - 1) v ≡ whole
-  follow-turn v h e = followed-turn f (n - 1) c v (n - 1 - 1) whole (omega arith) e refl inv
-
-  pub follow-end : n ≤ 1 → c ≡ whole
-  follow-end h = followed-end f (n - 1) c whole (omega arith) inv
 
 -- ---- the search for a free cluster
 

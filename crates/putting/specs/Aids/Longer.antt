@@ -4,42 +4,40 @@ use mathlib.Core.List.{List}
 use mathlib.Core.Path.{_≡_}
 use lib.ListN.{length, getD}
 use Rattle.image.specs.Bytes.{Bytes}
-use Rattle.diskette.specs.Places.{slotAt, lastCluster, copyTwo, firstData, clusterBytes}
+use Rattle.diskette.specs.Places.{lastCluster, copyTwo, firstData, clusterBytes}
 use Rattle.diskette.specs.declared.Kind.{Kind}
-use Rattle.fields.specs.Fields.{sizeOf}
 use Rattle.sound.specs.Counts.{freeOf}
-use Rattle.sound.specs.Files.{IsFile}
 use Rattle.links.specs.Linked.{linked, endOf}
 use Rattle.links.specs.Aids.Linked.{newClusters}
 use Rattle.contents.specs.Aids.Contents.{chainFrom, Area}
 use Rattle.calls.specs.Aids.Ready.{OnVolume}
 use Rattle.holding.specs.Holding.{fileChain}
+use Rattle.holding.specs.Aids.Files.{FileAt}
 use Rattle.putting.specs.Longer.{newFor, chainAfter, lengthened}
 
 -- the image with the new clusters linked behind those of the file, in both copies of the table
 abbrev pub withClusters : Kind → List ℕ → ℕ → ℕ → List ℕ
-withClusters k img slot size = linked (copyTwo k) img (endOf (fileChain k img slot)) (newFor k img slot size)
+withClusters k img a size = linked (copyTwo k) img (endOf (fileChain k img a)) (newFor k img a size)
 
-pub record CanGrow (k : Kind) (img : List ℕ) (slot size : ℕ) : Type 0 where
+pub record CanGrow (k : Kind) (img : List ℕ) (a size : ℕ) : Type 0 where
   pub on : OnVolume img k
-  pub file : IsFile k img slot
+  pub file : FileAt k img a
   pub bytes : Bytes img
-  pub grow : sizeOf img (slotAt k slot) ≤ size
-  pub room : size ≤ (length (fileChain k img slot) + freeOf k img) * clusterBytes k
+  pub room : size ≤ (length (fileChain k img a) + freeOf k img) * clusterBytes k
 
 -- n clusters were added behind those of the file: the answer is the first of them
-pub record AddedBehind (k : Kind) (img : List ℕ) (slot n answer : ℕ) (after : List ℕ) : Type 0 where
+pub record AddedBehind (k : Kind) (img : List ℕ) (a n answer : ℕ) (after : List ℕ) : Type 0 where
   pub first : answer ≡ getD (newClusters (lastCluster k) img n) 0 0
-  pub image : after ≡ linked (copyTwo k) img (endOf (fileChain k img slot)) (newClusters (lastCluster k) img n)
+  pub image : after ≡ linked (copyTwo k) img (endOf (fileChain k img a)) (newClusters (lastCluster k) img n)
 
 -- the file has the clusters for that size: the answer is where its chain starts
-pub record Grows (k : Kind) (img : List ℕ) (slot size answer : ℕ) (after : List ℕ) : Type 0 where
-  pub start : answer ≡ getD (chainAfter k img slot size) 0 0
-  pub image : after ≡ withClusters k img slot size
+pub record Grows (k : Kind) (img : List ℕ) (a size answer : ℕ) (after : List ℕ) : Type 0 where
+  pub start : answer ≡ getD (chainAfter k img a size) 0 0
+  pub image : after ≡ withClusters k img a size
 
 -- its entry says so: from the answer on its clusters are found, and they hold the size
-pub record Lengthens (k : Kind) (img : List ℕ) (slot size answer : ℕ) (after : List ℕ) : Type 0 where
-  pub image : after ≡ lengthened k img slot size
+pub record Lengthens (k : Kind) (img : List ℕ) (a size answer : ℕ) (after : List ℕ) : Type 0 where
+  pub image : after ≡ lengthened k img a size
   pub area : Area (512 * firstData k) (clusterBytes k) (lastCluster k) (length after)
-  pub found : chainFrom (lastCluster k) after answer ≡ chainAfter k img slot size
-  pub holds : size ≤ length (chainAfter k img slot size) * clusterBytes k
+  pub found : chainFrom (lastCluster k) after answer ≡ chainAfter k img a size
+  pub holds : size ≤ length (chainAfter k img a size) * clusterBytes k

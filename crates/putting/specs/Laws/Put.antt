@@ -5,7 +5,7 @@ use mathlib.Core.List.{List}
 use mathlib.Core.Path.{_≡_, refl, sym, ap, _∙_}
 use lib.ListN.{length, take, drop, replicate}
 use Rattle.chains.specs.Write.{poured, writtenImage}
-use Rattle.diskette.specs.Places.{firstData, clusterBytes, lastCluster, slotAt}
+use Rattle.diskette.specs.Places.{firstData, clusterBytes, lastCluster}
 use Rattle.diskette.specs.declared.Kind.{Kind}
 use Rattle.fields.specs.Fields.{sizeOf}
 use Rattle.contents.specs.Aids.Contents.{chainFrom, Area, bytesPut, zerosPut}
@@ -62,34 +62,30 @@ module _ (k : Kind) (img : List ℕ) (start pointer n : ℕ) (r : HasRoom k img 
 
 -- ---- into a file
 
-module _ (k : Kind) (img : List ℕ) (slot pointer n : ℕ) (p : CanPut k img slot pointer n) where
-  pub count-fits : n < 4294967296
-  count-fits = omega (arith, p .fits, room-fits img k (p .on) slot (p .file))
-
+module _ (k : Kind) (img : List ℕ) (a pointer n : ℕ) (p : CanPut k img a pointer n) where
   pub reach-fits : pointer + n < 4294967296
-  reach-fits = omega (arith, p .fits, room-fits img k (p .on) slot (p .file))
+  reach-fits = omega (arith, p .fits, room-fits img k (p .on) a (p .file))
 
-  module _ (a size after : ℕ) (ea : a ≡ slotAt k slot) (es : size ≡ sizeOf img a) (e : after ≡ max size (pointer + n)) where
-    pub can-grow : CanGrow k img slot after
-    can-grow =
-        let z : size ≡ sizeOf img (slotAt k slot) = rw (es, ea) in
-        record {
-          on = p .on;
-          file = p .file;
-          bytes = p .bytes;
-          grow = omega arith;
-          room = omega (arith, p .fits, room-own img k (p .on) slot (p .file));
-        }
+  pub count-fits : n < 4294967296
+  count-fits = omega (arith, reach-fits)
 
-module _ (k : Kind) (img : List ℕ) (slot after start : ℕ) (m : List ℕ) (x : Lengthens k img slot after start m) (size pointer n : ℕ) (e : after ≡ max size (pointer + n)) where
+  pub can-grow : (size after : ℕ) → size ≡ sizeOf img a → after ≡ max size (pointer + n) → CanGrow k img a after
+  can-grow size after es e = record {
+    on = p .on;
+    file = p .file;
+    bytes = p .bytes;
+    room = omega (arith, p .fits, room-own img k (p .on) a (p .file));
+  }
+
+module _ (k : Kind) (img : List ℕ) (a after start : ℕ) (m : List ℕ) (x : Lengthens k img a after start m) (size pointer n : ℕ) (e : after ≡ max size (pointer + n)) where
   pub has-room : HasRoom k m start pointer n
   has-room = record { area = x .area; fits = rw (x .found) (omega (arith, x .holds)) }
 
-  pub written-is : (a : ℕ) → a ≡ slotAt k slot → size ≡ sizeOf img a → (bs l : List ℕ) → n ≡ length bs
-      → l ≡ writtenImage (512 * firstData k) (clusterBytes k) m (chainFrom (lastCluster k) m start) size pointer bs → l ≡ writtenIn k img slot pointer bs
+  pub written-is : size ≡ sizeOf img a → (bs l : List ℕ) → n ≡ length bs
+      → l ≡ writtenImage (512 * firstData k) (clusterBytes k) m (chainFrom (lastCluster k) m start) size pointer bs → l ≡ writtenIn k img a pointer bs
   unfolding writtenIn
-  written-is a ea es bs l en q = q ∙ rw (x .found, x .image, e, es, ea, en)
+  written-is es bs l en q = q ∙ rw (x .found, x .image, e, es, en)
 
 -- the code's part of the bytes from 0 on is the first n
-pub first-put : (k : Kind) (img : List ℕ) (slot pointer n : ℕ) (bs m : List ℕ) → m ≡ writtenIn k img slot pointer (take (n - 0) (drop 0 bs)) → m ≡ writtenIn k img slot pointer (take n bs)
-first-put k img slot pointer n bs m e = let z : n - 0 ≡ n = omega arith in rw z at e
+pub first-put : (k : Kind) (img : List ℕ) (a pointer n : ℕ) (bs m : List ℕ) → m ≡ writtenIn k img a pointer (take (n - 0) (drop 0 bs)) → m ≡ writtenIn k img a pointer (take n bs)
+first-put k img a pointer n bs m e = let z : n - 0 ≡ n = omega arith in rw z at e

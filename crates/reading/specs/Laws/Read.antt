@@ -58,17 +58,17 @@ module _ (img : List ℕ) (k : Kind) (v : OnVolume img k) where
       module _ (a start : ℕ) (ae : a ≡ slotAt k slot) (se : start ≡ startOf img a) where
         pub copy-room : pointer + n ≤ length (chainFrom last img start) * cb
         copy-room =
-            let h : sizeOf img (slotAt k slot) ≤ length (fileChain k img slot) * clusterBytes k = file-holds img k v slot i in
-            let g : pointer + n ≤ length (fileChain k img slot) * clusterBytes k = omega arith in
+            let h : sizeOf img (slotAt k slot) ≤ length (fileChain k img (slotAt k slot)) * clusterBytes k = file-holds img k v slot i in
+            let g : pointer + n ≤ length (fileChain k img (slotAt k slot)) * clusterBytes k = omega arith in
             rw (se, ae, ce, le) g
 
-        pub copied-is : (first : ℕ) → first ≡ firstData k → (buf m : List ℕ) → m ≡ stored buf 0 (fetched (512 * first) cb last img start pointer n) → m ≡ stored buf 0 (part (fileBytes k img slot) pointer n)
+        pub copied-is : (first : ℕ) → first ≡ firstData k → (buf m : List ℕ) → m ≡ stored buf 0 (fetched (512 * first) cb last img start pointer n) → m ≡ stored buf 0 (part (fileBytes k img (slotAt k slot)) pointer n)
         unfolding fileBytes
         copied-is first fe buf m e =
             let q = fetched-content (512 * firstData k) (clusterBytes k) (lastCluster k) img (startOf img (slotAt k slot)) (on-clusters img k v) pointer n (sizeOf img (slotAt k slot)) (omega arith) (file-holds img k v slot i) in
             rw (e, fe, ce, le, se, ae, q)
 
-pub copied-none : (k : Kind) (img : List ℕ) (slot pointer n : ℕ) (buf : List ℕ) → n ≡ 0 → buf ≡ stored buf 0 (part (fileBytes k img slot) pointer n)
+pub copied-none : (k : Kind) (img : List ℕ) (slot pointer n : ℕ) (buf : List ℕ) → n ≡ 0 → buf ≡ stored buf 0 (part (fileBytes k img (slotAt k slot)) pointer n)
 unfolding stored
 copied-none k img slot pointer n buf e = rw e
 
@@ -82,7 +82,7 @@ module _ (img t : List ℕ) (h : ℕ) (buf : List ℕ) (a : Answer) where
   pub read-well : (k : Kind) → OnVolume img k → (f : Found) → f ≡ liveSlot t h img (slotAt k) (rootEntries k) → (slot : ℕ) → f ≡ At slot
       → (access : ℕ) → access ≡ accessOf t h → access ≢ 1 → (pointer : ℕ) → pointer ≡ pointerOf t h
       → (e size : ℕ) → e ≡ slotAt k slot → size ≡ sizeOf img e → (n : ℕ) → n ≡ readCount (length buf) size pointer
-      → (b m : List ℕ) → b ≡ stored buf 0 (part (fileBytes k img slot) pointer n) → m ≡ withPointer t h (pointer + n) → a ≡ answering n → Reads img t h buf a m b
+      → (b m : List ℕ) → b ≡ stored buf 0 (part (fileBytes k img (slotAt k slot)) pointer n) → m ≡ withPointer t h (pointer + n) → a ≡ answering n → Reads img t h buf a m b
   unfolding readOutcome decided refusal
   read-well k v f found slot at access has may pointer from e size ee sized n count b m be me x = record {
     is = rw (x, be, me, known-passed img k v, sound-passed img k v, live-passed img k t h f found slot at v, ← has, ne-eqb access 1 may, on-kind img k v, ← live-slot img k t h f found slot at, ← from, ← ee, ← sized, ← count);
@@ -95,7 +95,7 @@ read-stops t h access has q rows = stops-at _ accessDenied rows (rw (← has) (e
 
 -- as many bytes are moved as are answered
 module _ (img : List ℕ) (k : Kind) (v : OnVolume img k) (slot : ℕ) (i : IsFile k img slot) (pointer n : ℕ) (short : n ≤ sizeOf img (slotAt k slot) - pointer) where
-  pub moved-length : length (part (fileBytes k img slot) pointer n) ≡ n
+  pub moved-length : length (part (fileBytes k img (slotAt k slot)) pointer n) ≡ n
   unfolding fileBytes
   moved-length = elim (decLt 0 n) [
     | no z ↦ let e : n ≡ 0 = omega arith in rw e
@@ -106,5 +106,5 @@ module _ (img : List ℕ) (k : Kind) (v : OnVolume img k) (slot : ℕ) (i : IsFi
   ]
 
   -- the rest of the buffer keeps its bytes
-  pub rest-kept : (buf : List ℕ) (j : ℕ) → n ≤ j → getD (stored buf 0 (part (fileBytes k img slot) pointer n)) j 0 ≡ getD buf j 0
-  rest-kept buf j h = stored-outside buf 0 (part (fileBytes k img slot) pointer n) j (inr (rw moved-length (omega arith)))
+  pub rest-kept : (buf : List ℕ) (j : ℕ) → n ≤ j → getD (stored buf 0 (part (fileBytes k img (slotAt k slot)) pointer n)) j 0 ≡ getD buf j 0
+  rest-kept buf j h = stored-outside buf 0 (part (fileBytes k img (slotAt k slot)) pointer n) j (inr (rw moved-length (omega arith)))

@@ -1,38 +1,20 @@
--- n clusters and then an end: what the test means, and the loop that makes it.
-use Prim.Native.Nat.{ℕ, zero, suc, _-_, _≤_, _<_}
+-- An end value, in the form of the code's needs; and a chain whose last cluster has one.
+use Prim.Native.Nat.{ℕ, zero, suc, _≤_, _<_}
 use native.Mathlib.Omega.{arith}
-use mathlib.Core.Bool.{Bool, false, _&&_}
+use mathlib.Core.Bool.{Bool, true, false, cond}
 use mathlib.Core.List.{List, [], _∷_}
-use mathlib.Core.Path.{_≡_, refl, sym, ap, _∙_}
+use mathlib.Core.Path.{_≡_, refl, ap, _∙_}
 use lib.Dec.{leb}
 use lib.ListN.{length}
 use borrow.Author.Tests.{le-leb, lt-leb}
-use Rattle.chains.specs.Aids.Chain.{Leads}
-use Rattle.chains.specs.Aids.Tests.{Says}
-use Rattle.chains.specs.Values.{Link, End, linkb, endb}
-use Rattle.chains.specs.Laws.Tests.{says-and, says-map}
-use Rattle.chains.specs.Laws.Values.{says-end, says-link}
-use Rattle.rescuing.specs.Rescue.{endsAfter}
-
--- ---- what it means
-
-abbrev pub LeadsTo : ℕ → (ℕ → ℕ) → ℕ → ℕ → Type 0
-LeadsTo last f v n = (cs : List ℕ) × Leads last f v cs × (length cs ≡ n)
-
-pub says-ends : (last : ℕ) (f : ℕ → ℕ) (v n : ℕ) → Says (endsAfter last f v n) (LeadsTo last f v n)
-unfolding endsAfter
-says-ends last f v zero = says-map (λ e. ([], e, refl)) none (says-end v)
-  where
-    none : LeadsTo last f v 0 → End v
-    none ([], p, q) = p
-    none (d ∷ ds, p, q) = absurd (omega arith)
-says-ends last f v (suc n) = says-map (λ r. (v ∷ r .1 .0, (refl, r .0, r .1 .1), ap suc (r .1 .2))) some (says-and (says-link last v) (says-ends last f (f v) n))
-  where
-    some : LeadsTo last f v (suc n) → Link last v × LeadsTo last f (f v) n
-    some ([], p, q) = absurd (omega arith)
-    some (d ∷ ds, p, q) = (rw (p .0) (p .1), (ds, rw (p .0) (p .2), omega arith))
-
--- ---- an end value
+use Rattle.chains.specs.Aids.Chain.{Chain, Leads}
+use Rattle.chains.specs.Aids.Lists.{lastOf}
+use Rattle.chains.specs.Chain.{clustersFrom}
+use Rattle.chains.specs.Values.{End, endb, linkb}
+use Rattle.chains.specs.Laws.Tests.{says-true}
+use Rattle.chains.specs.Laws.Values.{says-link}
+use Rattle.links.specs.Linked.{endOf}
+use Rattle.links.specs.Laws.Linked.{end-none, end-last}
 
 module _ (v : ℕ) where
   pub end-below : v < 0xFF8 → false ≡ endb v
@@ -43,25 +25,32 @@ module _ (v : ℕ) where
   unfolding endb
   end-within h = rw (le-leb 0xFF8 v h)
 
--- ---- the loop: what is left from here gives the whole
+-- c was met last, and clusters from its value on: where the last of all has an end value, that value leads to them
+pub met-leads : (last : ℕ) (f : ℕ → ℕ) (n c : ℕ) → End (f (lastOf c (clustersFrom last f n (f c)))) → Leads last f (f c) (clustersFrom last f n (f c))
+unfolding clustersFrom lastOf
+met-leads last f zero c e = e
+met-leads last f (suc n) c e = by (linkb last (f c)) refl e
+  where
+    by : (b : Bool) → linkb last (f c) ≡ b → End (f (lastOf c (cond b (f c ∷ clustersFrom last f n (f (f c))) [])))
+        → Leads last f (f c) (cond b (f c ∷ clustersFrom last f n (f (f c))) [])
+    by true q e = (refl, says-true (says-link last (f c)) q, met-leads last f n (f c) e)
+    by false q e = e
 
-module _ (last : ℕ) (f : ℕ → ℕ) (v left : ℕ) (whole : Bool) (inv : endsAfter last f v left ≡ whole) where
-  turn : 0 < left → endsAfter last f v left ≡ (linkb last v && endsAfter last f (f v) (left - 1))
-  unfolding endsAfter
-  turn h = let e : left ≡ suc (left - 1) = omega arith in ap (endsAfter last f v) e
+-- so clusters from start on are a chain where there are any and the last has an end value
+pub met-chain : (last : ℕ) (f : ℕ → ℕ) → f 0 ≡ 0 → (n start : ℕ) → End (f (endOf (clustersFrom last f n start)))
+    → (0 < length (clustersFrom last f n start)) × Chain last f start (clustersFrom last f n start)
+unfolding clustersFrom
+met-chain last f z zero start e = absurd (let q : f (endOf []) ≡ 0 = ap f end-none ∙ z in omega arith)
+met-chain last f z (suc n) start e = by (linkb last start) refl e
+  where
+    by : (b : Bool) → linkb last start ≡ b → End (f (endOf (cond b (start ∷ clustersFrom last f n (f start)) [])))
+        → (0 < length (cond b (start ∷ clustersFrom last f n (f start)) [])) × Chain last f start (cond b (start ∷ clustersFrom last f n (f start)) [])
+    by true q e = (omega arith, refl, says-true (says-link last start) q, met-leads last f n start (rw (end-last start (clustersFrom last f n (f start))) at e))
+    by false q e = absurd (let q : f (endOf []) ≡ 0 = ap f end-none ∙ z in omega arith)
 
-  pub ends-low : 0 < left → v < 2 → false ≡ whole
-  unfolding linkb
-  ends-low h k = sym (rw (lt-leb 2 v k) at (turn h)) ∙ inv
-
-  pub ends-high : 0 < left → 2 ≤ v → last < v → false ≡ whole
-  unfolding linkb
-  ends-high h j k = sym (rw (le-leb 2 v j, lt-leb v last k) at (turn h)) ∙ inv
-
-  pub ends-on : 0 < left → 2 ≤ v → v ≤ last → (w m : ℕ) → w ≡ f v → m ≡ left - 1 → endsAfter last f w m ≡ whole
-  unfolding linkb
-  ends-on h j k w m e q = rw (e, q) (sym (rw (le-leb 2 v j, le-leb v last k) at (turn h)) ∙ inv)
-
-  pub ends-here : left ≤ 0 → (b : Bool) → b ≡ endb v → b ≡ whole
-  unfolding endsAfter
-  ends-here h b e = let z : left ≡ 0 = omega arith in e ∙ (rw z at inv)
+pub met-start : (last : ℕ) (f : ℕ → ℕ) → f 0 ≡ 0 → (n start : ℕ) → End (f (endOf (clustersFrom last f n start))) → 2 ≤ start
+met-start last f z n start e = let m = met-chain last f z n start e in by (clustersFrom last f n start) (m .0) (m .1)
+  where
+    by : (cs : List ℕ) → 0 < length cs → Chain last f start cs → 2 ≤ start
+    by [] h p = absurd (omega arith)
+    by (c ∷ cs) h p = omega (arith, p .0, p .1 .0)

@@ -25,7 +25,7 @@ use Rattle.holding.specs.Holding.{fileBytes}
 use Rattle.sound.specs.Files.{IsFile}
 use Rattle.holding.specs.Laws.Found.{named-file}
 use Rattle.rescuing.specs.Rescue.{goodChain, rescueCount, rescueOutcome, Rescues}
-use Rattle.rescuing.specs.Laws.Kinds.{slot-inside}
+use Rattle.holding.specs.Laws.Kinds.{slot-inside}
 use Rattle.names.specs.Reading.{nameGiven}
 
 pub rescues-only : {img s out : List ℕ} {r r′ : Answer} {b b′ : List ℕ} → Rescues img s out r b → Rescues img s out r′ b′
@@ -96,7 +96,7 @@ module _ (img s out : List ℕ) where
         good-chain h = sym judged ∙ not-false b h
 
         pub rescue-well : not b ≡ false → (a size n : ℕ) → a ≡ slotAt k slot → size ≡ sizeOf img a → n ≡ rescueCount (length out) size
-            → (after : List ℕ) → after ≡ stored out 0 (take n (fileBytes k img slot)) → (r : Answer) → r ≡ answering n → Rescues img s out r after
+            → (after : List ℕ) → after ≡ stored out 0 (take n (fileBytes k img (slotAt k slot))) → (r : Answer) → r ≡ answering n → Rescues img s out r after
         unfolding rescueOutcome decided refusal
         rescue-well h a size n ae ze ne after q r x =
             record { is = rw (x, q, passed, found-is, ← given, fits, at, is-kind, ← judged, h, ← ae, ← ze, ← ne) }

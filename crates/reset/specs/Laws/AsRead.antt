@@ -54,7 +54,7 @@ module _ (k : Kind) (img : List ℕ) (v : OnVolume img k) (name : List ℕ) wher
 
   -- what rescue and read leave of a buffer
   abbrev filled : List ℕ → List ℕ
-  filled out = stored out 0 (take (min (length out) size) (fileBytes k img slot))
+  filled out = stored out 0 (take (min (length out) size) (fileBytes k img (slotAt k slot)))
 
   module _ (there : noFile img name ≡ false) where
     rescue-is : badName name ≡ false → (out : List ℕ) → rescueOutcome img name out ≡ outcome 0 (min (length out) size) img [] (filled out)

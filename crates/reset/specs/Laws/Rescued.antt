@@ -63,7 +63,7 @@ module _ (m : List ℕ) (k : Kind) (e : kindOfImage m ≡ Known k) (s : ℕ) (f 
   good : goodChain k m s ≡ true
   good = true-says (says-chain m k e s) (h .bytes .0, h .bytes .1)
 
-  held : fileBytes k m s ≡ f .bytes
+  held : fileBytes k m (slotAt k s) ≡ f .bytes
   held = held-by m k e s (h .bytes .0) (h .bytes .1) ∙ h .bytes .2
 
   rescue-is : (out : List ℕ) → let n = min (length out) (length (f .bytes)) in rescueOutcome m name out ≡ outcome 0 n m [] (stored out 0 (take n (f .bytes)))

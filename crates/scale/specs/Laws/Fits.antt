@@ -24,7 +24,7 @@ use Rattle.diskette.specs.declared.WhichKind.{WhichKind}
 use Rattle.diskette.specs.declared.WhichKind.the-variants.{Known, Unknown}
 use Rattle.sound.specs.Counts.{isFile}
 use Rattle.sound.specs.Answer.{AnswersOf, AnswersBy, Checked, CheckedArea}
-use Rattle.sound.specs.Files.{ChainOf, none-of-it, as-many}
+use Rattle.sound.specs.Files.{ChainOf, none-of-it, enough}
 use Rattle.sound.specs.Findings.{TablesDiffer, NoValue, BadSlot, BadChain, InTwoChains, Lost}
 use Rattle.sound.specs.Aids.FromFinding.{FromLost, FromTwo, FromChains, FromSlots, FromValues, Counted}
 use Rattle.sound.specs.Sound.{NoFinding}
@@ -72,7 +72,7 @@ each P (x ∷ xs) h a (inr m) = each P xs (λ i p. h (suc i) (omega arith)) a m
 
 chain-link : (k : Kind) (l : List ℕ) (s c : ℕ) (cs : List ℕ) → ChainOf k l s cs → c ∈ cs → Link (lastCluster k) c
 chain-link k l s c cs (none-of-it z o e) m = absurd (subst (λ (ds : List ℕ). c ∈ ds) e m)
-chain-link k l s c cs (as-many z n q) m = each (Link (lastCluster k)) cs (q .in-range) c m
+chain-link k l s c cs (enough z n q) m = each (Link (lastCluster k)) cs (q .in-range) c m
 
 -- ---- a verdict
 
@@ -87,11 +87,11 @@ module _ (k : Kind) (u : Usable k) (f : k .fat ≤ 2) (l : List ℕ) where
 
   counts-fit : (v : Verdict) → NoFinding k l → Counted k l v → VerdictFits v
   counts-fit v n e =
-      let t = total k u l (sound-exactly k u l .1 n) in
+      let t = total k u l (sound-exactly k u l .1 n) (e .0) (e .1) in
       let files = tally-low (isFile k l) (rootEntries k) 0 in
       let c = u .below-reserved in
       let r = u .few-slots in
-      subst VerdictFits (sym e) (record { numbers = (omega arith, omega arith, omega arith, omega arith, omega arith) })
+      subst VerdictFits (sym (e .2)) (record { numbers = (omega arith, omega arith, omega arith, omega arith, omega arith) })
 
   answer-fits : (v : Verdict) → AnswersOf k l v → VerdictFits v
   answer-fits v =

@@ -6,13 +6,14 @@ use lib.Dec.{ltb}
 use Rattle.chains.specs.Verdict.{OrElse}
 use Rattle.diskette.specs.declared.Kind.{Kind}
 use Rattle.sound.specs.Findings.{NoValue, BadSlot, BadChain, InTwoChains, Lost}
+use Rattle.sound.specs.Files.{AreChains}
 use Rattle.sound.specs.Counts.{countsOf}
 use Rattle.sound.specs.declared.Verdict.{Verdict}
 use Rattle.sound.specs.declared.Verdict.the-variants.{Sound, Finding}
 
--- none of them: the counts
+-- none of them: the counts, by lists that are the files' chains
 abbrev pub Counted : Kind → List ℕ → Verdict → Type 0
-Counted k l v = v ≡ Sound (countsOf k l)
+Counted k l v = (lists : ℕ → List ℕ) × AreChains k l lists × (v ≡ Sound (countsOf k l lists))
 
 -- 7
 abbrev pub FromLost : Kind → List ℕ → Verdict → Type 0

@@ -12,9 +12,11 @@ use Rattle.diskette.specs.declared.WhichKind.{WhichKind}
 use Rattle.diskette.specs.declared.WhichKind.the-variants.{Known, Unknown}
 use Rattle.tablecheck.specs.Aids.Copies.{differsAt}
 use Rattle.slotcheck.specs.Aids.Slots.{badSlotAt}
+use Rattle.chains.specs.Sums.{sum}
 use Rattle.chaincheck.specs.Aids.Entries.{holderAt, entriesOf, badChainSlot}
+use Rattle.chaincheck.specs.Aids.Held.{heldSlot}
 use Rattle.sound.specs.Files.{valueOf}
-use Rattle.sound.specs.Counts.{countsOf, fileCount, heldOf}
+use Rattle.sound.specs.Counts.{fileCount, freeOf, badOf, reservedOf}
 use Rattle.sound.specs.declared.Verdict.{Verdict}
 use Rattle.sound.specs.declared.Verdict.the-variants.{Finding, Sound}
 
@@ -22,18 +24,22 @@ use Rattle.sound.specs.declared.Verdict.the-variants.{Finding, Sound}
 unfoldable pub marksOfFiles : Kind → List ℕ → List ℕ
 marksOfFiles k l = chainMarks 4080 (lastCluster k) (valueOf k l) (holderAt (clusterBytes k) l) (entriesOf (slotAt k) (rootEntries k))
 
+-- the counts put together
+abbrev pub soundWith : ℕ → ℕ → ℕ → ℕ → ℕ → Verdict
+soundWith files free held bad reserved = Sound (record { files = files; free = free; held = held; bad = bad; reserved = reserved })
+
+-- held, by the walks
+abbrev pub heldFound : Kind → List ℕ → ℕ
+heldFound k l = sum (rootEntries k) (heldSlot (lastCluster k) (clusterBytes k) l (slotAt k))
+
 -- how the answer is said
 abbrev pub voice : Kind → List ℕ → Voice ℕ Verdict
 voice k l = record {
   badChain = Finding 5;
   inTwo = Finding 6;
   lost = Finding 7;
-  fine = Sound (countsOf k l);
+  fine = soundWith (fileCount k l) (freeOf k l) (heldFound k l) (badOf k l) (reservedOf k l);
 }
-
--- the counts put together
-abbrev pub soundWith : ℕ → ℕ → ℕ → ℕ → ℕ → Verdict
-soundWith files free held bad reserved = Sound (record { files = files; free = free; held = held; bad = bad; reserved = reserved })
 
 -- findings 6 and 7 by the marks m, as the code goes
 unfoldable pub marksJudged : ℕ → (ℕ → ℕ) → List ℕ → Verdict → Verdict
@@ -45,7 +51,7 @@ marksJudged last f m fine =
 unfoldable pub chainsJudged : Kind → List ℕ → ℕ → ℕ → ℕ → Verdict
 chainsJudged k l free bad reserved =
     orElse (Finding 5) (optional (lowest (badChainSlot (lastCluster k) (clusterBytes k) l (slotAt k)) 0 (rootEntries k)))
-    (marksJudged (lastCluster k) (valueOf k l) (marksOfFiles k l) (soundWith (fileCount k l) free (heldOf k l) bad reserved))
+    (marksJudged (lastCluster k) (valueOf k l) (marksOfFiles k l) (soundWith (fileCount k l) free (heldFound k l) bad reserved))
 
 -- all findings but the first
 unfoldable pub judged : Kind → List ℕ → Verdict

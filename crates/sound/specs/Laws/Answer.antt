@@ -27,6 +27,7 @@ use Rattle.sound.specs.Aids.Judged.{marksOfFiles, voice, judged, judgedB
 use Rattle.sound.specs.Laws.BadSlot.{found-bad-slot}
 use Rattle.sound.specs.Laws.Chains.{bad-chain-as, in-two-as, lost-as}
 use Rattle.sound.specs.Laws.Geometry.{geometry}
+use Rattle.sound.specs.Laws.Held.{found-counted}
 use Rattle.sound.specs.Laws.Holders.{slots-once}
 use Rattle.sound.specs.Laws.SamePlaces.{or-else-as, turned}
 use Rattle.sound.specs.Laws.Copies.{found-difference}
@@ -41,9 +42,9 @@ chains-answer k u l v =
     let f = valueOf k l in
     let h = holderAt (clusterBytes k) l in
     let at : (s : ℕ) → s < rootEntries k → h (slotAt k s) ≡ h (slotAt k s) = λ s i. refl in
-    or-else-as ltb _ (BadChain k l) (λ s. turned (bad-chain-as k u l h at s)) (Finding 5) (Theory.FromTwo last f h (rootRows k) (voice k l)) (FromTwo k l) v
-    (or-else-as ltb _ (InTwoChains k l) (λ c. turned (in-two-as k u l h at c)) (Finding 6) (Theory.FromLost last f h (rootRows k) (voice k l)) (FromLost k l) v
-    (or-else-as ltb _ (Lost k l) (λ c. turned (lost-as k u l h at c)) (Finding 7) (Counted k l) (Counted k l) v (λ e. e)))
+    or-else-as ltb _ (BadChain k l) (λ s. turned (bad-chain-as k u l h at s)) (Finding 5) (Theory.FromTwo last f h (rootRows k) (voice k l)) (FromTwo k l) v (λ n5.
+    or-else-as ltb _ (InTwoChains k l) (λ c. turned (in-two-as k u l h at c)) (Finding 6) (Theory.FromLost last f h (rootRows k) (voice k l)) (FromLost k l) v (λ n6.
+    or-else-as ltb _ (Lost k l) (λ c. turned (lost-as k u l h at c)) (Finding 7) (λ a. a ≡ voice k l .fine) (Counted k l) v (λ n7. found-counted k u l n5 v)))
 
 pub judged-answers : (k : Kind) (l : List ℕ) → Usable k → 512 * firstData k ≤ length l → AnswersOf k l (judged k l)
 unfolding judged marksOfFiles badChainSlot

@@ -124,15 +124,19 @@ module _ (k : Kind) (u : Usable k) (m l : List ℕ) (e : SameArea k m l) where
   unfolding isFile
   plain-as s h = ap isPlain (area-fields k u m l e s h .standing)
 
-  held-as : (s : ℕ) → s < rootEntries k → heldBy k m s ≡ heldBy k l s
+  held-as : (lists : ℕ → List ℕ) (s : ℕ) → s < rootEntries k → heldBy k m lists s ≡ heldBy k l lists s
   unfolding heldBy
-  held-as s h = rw (plain-as s h, area-fields k u m l e s h .size)
+  held-as lists s h = rw (plain-as s h)
 
   pub counted-as : (v : Verdict) → Counted k m v → Counted k l v
   counted-as v q =
       let files : fileCount k m ≡ fileCount k l = tally-as in
-      let held : heldOf k m ≡ heldOf k l = sum-cong (rootEntries k) _ _ held-as in
-      rw (files, same-table, held) at q
+      let held : heldOf k m (q .0) ≡ heldOf k l (q .0) = sum-cong (rootEntries k) _ _ (held-as (q .0)) in
+      (
+        q .0,
+        λ s i. chain-to k u m l e s (i .below) (q .0 s) (q .1 s (file-to k u l m (area-back k m l e) s i)),
+        rw (files, same-table, held) at (q .2),
+      )
     where
       tally-as : fileCount k m ≡ fileCount k l
       tally-as = tally-sum (isFile k m) (rootEntries k) 0 ∙ sum-cong (rootEntries k) _ _ (λ i h. ap bit (moved i h)) ∙ sym (tally-sum (isFile k l) (rootEntries k) 0)

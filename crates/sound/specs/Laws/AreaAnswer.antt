@@ -25,12 +25,12 @@ use Rattle.sound.specs.declared.Verdict.the-variants.{Finding}
 module _ (k : Kind) (u : Usable k) (m l : List ℕ) (e : SameArea k m l) where
   pub answers-as : (v : Verdict) → AnswersOf k m v → AnswersOf k l v
   answers-as v =
-      or-else-as ltb (TablesDiffer k m) (TablesDiffer k l) (tables-alike k u m l e) (Finding 2) (FromValues k m) (FromValues k l) v
-      (or-else-as ltb (NoValue k m) (NoValue k l) (values-alike k u m l e) (Finding 3) (FromSlots k m) (FromSlots k l) v
-      (or-else-as ltb (BadSlot k m) (BadSlot k l) (slots-alike k u m l e) (Finding 4) (FromChains k m) (FromChains k l) v
-      (or-else-as ltb (BadChain k m) (BadChain k l) (chains-alike k u m l e) (Finding 5) (FromTwo k m) (FromTwo k l) v
-      (or-else-as ltb (InTwoChains k m) (InTwoChains k l) (two-alike k u m l e) (Finding 6) (FromLost k m) (FromLost k l) v
-      (or-else-as ltb (Lost k m) (Lost k l) (lost-alike k u m l e) (Finding 7) (Counted k m) (Counted k l) v (counted-as k u m l e v))))))
+      or-else-as ltb (TablesDiffer k m) (TablesDiffer k l) (tables-alike k u m l e) (Finding 2) (FromValues k m) (FromValues k l) v (λ n2.
+      or-else-as ltb (NoValue k m) (NoValue k l) (values-alike k u m l e) (Finding 3) (FromSlots k m) (FromSlots k l) v (λ n3.
+      or-else-as ltb (BadSlot k m) (BadSlot k l) (slots-alike k u m l e) (Finding 4) (FromChains k m) (FromChains k l) v (λ n4.
+      or-else-as ltb (BadChain k m) (BadChain k l) (chains-alike k u m l e) (Finding 5) (FromTwo k m) (FromTwo k l) v (λ n5.
+      or-else-as ltb (InTwoChains k m) (InTwoChains k l) (two-alike k u m l e) (Finding 6) (FromLost k m) (FromLost k l) v (λ n6.
+      or-else-as ltb (Lost k m) (Lost k l) (lost-alike k u m l e) (Finding 7) (Counted k m) (Counted k l) v (λ n7. counted-as k u m l e v))))))
 
   pub no-finding-as : NoFinding k m → NoFinding k l
   no-finding-as n = record {

@@ -1,5 +1,5 @@
 -- A chain in the document's words, by index, is the same as Chain.
-use Prim.Native.Nat.{ℕ, zero, suc, _+_, _<_}
+use Prim.Native.Nat.{ℕ, zero, suc, _+_, _≤_, _<_}
 use native.Mathlib.Omega.{arith}
 use native.Mathlib.Nat.{eq-zero-or-pos}
 use mathlib.Core.Path.{_≡_, refl, sym, ap, _∙_}
@@ -9,10 +9,10 @@ use lib.ListN.{length, getD}
 use Rattle.chains.specs.Sizes.{clustersFor}
 use Rattle.chains.specs.Values.{Link}
 use Rattle.chains.specs.Aids.Chain.{After, Chain}
-use Rattle.sound.specs.Files.{Clusters, FileClusters, none-of-it, as-many}
+use Rattle.sound.specs.Files.{Clusters, FileClusters, none-of-it, enough}
 use Rattle.chains.specs.Aids.Holders.{Owns, fileHolder}
 use Rattle.chains.specs.Laws.Chain.{leads-next}
-use Rattle.chains.specs.Laws.Sizes.{clusters-some, clusters-zero, exact-fits, fits-empty, fits-exact}
+use Rattle.chains.specs.Laws.Sizes.{clusters-some, fits-empty, fits-from, fits-least}
 use Rattle.chains.specs.Laws.Holders.{in-range}
 
 next : (i : ℕ) → i + 1 ≡ suc i
@@ -58,15 +58,13 @@ clusters-chain last f c (x ∷ xs) n r = (sym (r .from-start), r .in-range 0 (om
 -- ---- what a file owns
 
 pub owns-file : (last cb : ℕ) → 0 < cb → (f : ℕ → ℕ) (st sz : ℕ) (cs : List ℕ) → Owns last f (fileHolder cb st sz) cs → FileClusters last cb f st sz cs
-owns-file last cb p f st sz cs o = go cs (eq-zero-or-pos sz) (o .chain) (fits-exact cb sz (length cs) (o .long))
+owns-file last cb p f st sz cs o = go cs (eq-zero-or-pos sz) (o .chain) (fits-least cb sz (length cs) (o .long))
   where
-    go : (cs : List ℕ) → (sz ≡ 0) ⊎ (0 < sz) → Chain last f st cs → length cs ≡ clustersFor cb sz → FileClusters last cb f st sz cs
+    go : (cs : List ℕ) → (sz ≡ 0) ⊎ (0 < sz) → Chain last f st cs → clustersFor cb sz ≤ length cs → FileClusters last cb f st sz cs
     go [] (inl e) c n = none-of-it e c refl
     go [] (inr k) c n = absurd (omega (arith, clusters-some cb p sz k))
-    go (x ∷ xs) (inl e) c n = absurd (omega (arith, ap (clustersFor cb) e, clusters-zero cb p))
-    go (x ∷ xs) (inr k) c n = as-many k n (chain-clusters last f st (x ∷ xs) (omega arith) c)
+    go (x ∷ xs) k c n = enough (omega arith) n (chain-clusters last f st (x ∷ xs) (omega arith) c)
 
 pub file-owns : (last cb : ℕ) → 0 < cb → (f : ℕ → ℕ) (st sz : ℕ) (cs : List ℕ) → FileClusters last cb f st sz cs → Owns last f (fileHolder cb st sz) cs
 file-owns last cb p f st sz cs (none-of-it e z q) = rw (e, z, q) (record { chain = refl; long = fits-empty cb p })
-file-owns last cb p f st sz cs (as-many k n c) =
-    record { chain = clusters-chain last f st cs (omega (arith, clusters-some cb p sz k)) c; long = exact-fits cb sz (length cs) n }
+file-owns last cb p f st sz cs (enough k n c) = record { chain = clusters-chain last f st cs k c; long = fits-from cb sz (length cs) n }

@@ -42,7 +42,7 @@ says-no-finding k l v =
     after (BadChain k l) 5 (FromTwo k l) P v (λ n. n .chains) (λ n5.
     after (InTwoChains k l) 6 (FromLost k l) P v (λ n. n .two) (λ n6.
     after (Lost k l) 7 (Counted k l) P v (λ n. n .lost) (λ n7 e.
-    aye (ap isSoundVerdict e) (record { tables = n2; values = n3; slots = n4; chains = n5; two = n6; lost = n7 })))))))
+    aye (ap isSoundVerdict (e .2)) (record { tables = n2; values = n3; slots = n4; chains = n5; two = n6; lost = n7 })))))))
 
 -- a volume of the kind that was found, if one was
 says-by : (w : WhichKind) (l : List ℕ) (v : Verdict) → ((k : Kind) → w ≡ Known k → Usable k) → AnswersBy w l v → Says (isSoundVerdict v) ((k : Kind) × (w ≡ Known k) × Sound k l)

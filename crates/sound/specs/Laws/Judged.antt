@@ -17,12 +17,12 @@ use Rattle.tablecheck.specs.declared.Census.{Census}
 use Rattle.tablecheck.specs.declared.Census.the-variants.{NoValue, Values}
 use Rattle.slotcheck.specs.Aids.Slots.{badSlotAt}
 use Rattle.chaincheck.specs.Aids.Entries.{badChainSlot}
-use Rattle.chaincheck.specs.Aids.Held.{plainSlot, heldSlot}
+use Rattle.chaincheck.specs.Aids.Held.{plainSlot}
 use Rattle.chaincheck.specs.Aids.Visits.{chainsBy, chainsFound, FilesVisited}
 use Rattle.chaincheck.specs.declared.Chains.{Chains}
 use Rattle.chaincheck.specs.declared.Chains.the-variants.{BadChain, Held}
 use Rattle.sound.specs.Files.{valueOf}
-use Rattle.sound.specs.Counts.{isFile, freeOf, heldBy, badOf, reservedOf}
+use Rattle.sound.specs.Counts.{isFile, freeOf, badOf, reservedOf}
 use Rattle.sound.specs.Aids.Judged.{marksOfFiles, voice, soundWith, marksJudged, chainsJudged, judged}
 use Rattle.sound.specs.Laws.Visited.{files-visited-marks}
 use Rattle.sound.specs.declared.Verdict.{Verdict}
@@ -63,7 +63,7 @@ chains-say (At s) files held r e rest = rw e
 
 module _ (k : Kind) (l : List ℕ) (free bad reserved : ℕ) (r : Chains) (e : r ≡ chainsFound (lastCluster k) (clusterBytes k) l (slotAt k) (rootEntries k)) where
   said : (elim r as (λ _. Verdict) [ BadChain s ↦ Finding 5 s | Held a b ↦ marksJudged (lastCluster k) (valueOf k l) (marksOfFiles k l) (soundWith a free b bad reserved) ]) ≡ chainsJudged k l free bad reserved
-  unfolding chainsFound chainsJudged plainSlot heldSlot isFile heldBy
+  unfolding chainsFound chainsJudged plainSlot isFile
   said = chains-say _ _ _ r e (λ a b. marksJudged (lastCluster k) (valueOf k l) (marksOfFiles k l) (soundWith a free b bad reserved))
 
   chains-bad : (s : ℕ) → r ≡ BadChain s → Finding 5 s ≡ chainsJudged k l free bad reserved

@@ -14,6 +14,6 @@ module _ {P : Type 0} (before : P → P → Bool) (B C : P → Type 0) (same : (
   pub lowest-as : (p : P) → Lowest before B p → Lowest before C p
   lowest-as p l = (same p .0 (l .0), λ q e c. l .1 q e (same q .1 c))
 
-  pub or-else-as : {A : Type 0} (say : P → A) (Rest More : A → Type 0) (a : A) → (Rest a → More a) → OrElse before B say Rest a → OrElse before C say More a
+  pub or-else-as : {A : Type 0} (say : P → A) (Rest More : A → Type 0) (a : A) → (None C → Rest a → More a) → OrElse before B say Rest a → OrElse before C say More a
   or-else-as say Rest More a f (inl x) = inl (x .0, lowest-as (x .0) (x .1), x .2)
-  or-else-as say Rest More a f (inr x) = inr (none-as B C same (x .0), f (x .1))
+  or-else-as say Rest More a f (inr x) = inr (none-as B C same (x .0), f (none-as B C same (x .0)) (x .1))

@@ -28,8 +28,8 @@ visit-requires c κs = (search needs, (search needs, (search needs, search needs
 enum-known-n : tie.Need-enum-known-n
 enum-known-n c = search needs
 
-just-enough-requires : tie.Need-just-enough-requires
-just-enough-requires c κs = (search chain-few, search needs)
+has-room-requires : tie.Need-has-room-requires
+has-room-requires c κs = (search chain-few, search needs)
 
 enum-told : tie.Need-enum-told
 enum-told c = search needs
@@ -73,7 +73,7 @@ visit-slot-spec =
     cast-visit
     visit-requires
     enum-known-n
-    just-enough-requires
+    has-room-requires
     enum-told
     same-length
     same-length-2

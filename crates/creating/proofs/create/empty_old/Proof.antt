@@ -2,7 +2,7 @@
 use Rattle.calls.specs.Laws.Ready.{on-usable}
 use Rattle.calls.specs.Laws.Files.{unused-below, unused-fits, place-stops}
 use Rattle.calls.specs.Laws.Rows.{tests}
-use Rattle.holding.specs.Laws.Chain.{file-below, slot-fits}
+use Rattle.holding.specs.Laws.Chain.{file-below, slot-fits, file-at}
 use Rattle.freeing.specs.Laws.Freed.{freed-within}
 use Rattle.creating.specs.Laws.Create.{old-refused, empty-well}
 use borrow.Author.Needs.{needs}
@@ -60,7 +60,7 @@ slot-at-requires : tie.Need-slot-at-requires
 slot-at-requires c κs = (search on-usable, search file-below)
 
 free-file-requires : tie.Need-free-file-requires
-free-file-requires c κs = search needs
+free-file-requires c κs = (search needs, search file-at)
 
 write-entry-requires : tie.Need-write-entry-requires
 write-entry-requires c κs = search (needs, freed-within)

@@ -1,6 +1,6 @@
 -- Freeing keeps the length, so the slot still stands within the image.
 use Rattle.calls.specs.Laws.Ready.{on-usable}
-use Rattle.holding.specs.Laws.Chain.{file-below}
+use Rattle.holding.specs.Laws.Chain.{file-below, file-at}
 use Rattle.freeing.specs.Laws.Freed.{freed-within}
 use borrow.Author.Needs.{needs}
 use Rattle.deleting.proofs.delete.erase_in.Statement.{statement}
@@ -10,7 +10,7 @@ slot-at-requires : tie.Need-slot-at-requires
 slot-at-requires c κs = (search on-usable, search file-below)
 
 free-file-requires : tie.Need-free-file-requires
-free-file-requires c κs = search needs
+free-file-requires c κs = (search needs, search file-at)
 
 put-first-requires : tie.Need-put-first-requires
 put-first-requires c κs = search (needs, freed-within)

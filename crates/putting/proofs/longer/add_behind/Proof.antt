@@ -6,9 +6,6 @@ use borrow.Author.Needs.{needs}
 use Rattle.putting.proofs.longer.add_behind.Statement.{statement}
 use Rattle.putting.proofs.longer.add_behind.Tie as tie
 
-end-of-file-requires : tie.Need-end-of-file-requires
-end-of-file-requires c κs = search needs
-
 copy-two-requires : tie.Need-copy-two-requires
 copy-two-requires c κs = search on-usable
 
@@ -27,10 +24,4 @@ returns c = search added-is
 pub add-behind-spec : {M : Type 1} → statement M
 add-behind-spec =
     tie.close
-    (tie.spec
-    end-of-file-requires
-    copy-two-requires
-    last-cluster-requires
-    add-clusters-requires
-    same-length
-    returns)
+    (tie.spec copy-two-requires last-cluster-requires add-clusters-requires same-length returns)

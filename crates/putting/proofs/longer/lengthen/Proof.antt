@@ -1,6 +1,4 @@
 -- The entry stands behind the tables.
-use Rattle.calls.specs.Laws.Ready.{on-usable}
-use Rattle.holding.specs.Laws.Chain.{file-below}
 use Rattle.putting.specs.Laws.LongerCode.{start-fits, grown-within, lengthened-is}
 use borrow.Author.Needs.{needs}
 use Rattle.putting.proofs.longer.lengthen.Statement.{statement}
@@ -9,11 +7,8 @@ use Rattle.putting.proofs.longer.lengthen.Tie as tie
 grow-chain-requires : tie.Need-grow-chain-requires
 grow-chain-requires c κs = search needs
 
-slot-at-requires : tie.Need-slot-at-requires
-slot-at-requires c κs = (search on-usable, search file-below)
-
-put-extent-requires : tie.Need-put-extent-requires
-put-extent-requires c κs = (search grown-within, search start-fits)
+put-fields-requires : tie.Need-put-fields-requires
+put-fields-requires c κs = (search grown-within, search start-fits)
 
 same-length : tie.Need-same-length
 same-length c = search needs
@@ -22,6 +17,4 @@ returns : tie.Need-returns
 returns c = search lengthened-is
 
 pub lengthen-spec : {M : Type 1} → statement M
-lengthen-spec =
-    tie.close
-    (tie.spec grow-chain-requires slot-at-requires put-extent-requires same-length returns)
+lengthen-spec = tie.close (tie.spec grow-chain-requires put-fields-requires same-length returns)

@@ -1,16 +1,12 @@
 -- The longer chain holds every byte up to the new size.
 use Rattle.calls.specs.Laws.Ready.{on-usable}
-use Rattle.holding.specs.Laws.Chain.{file-below, file-within}
 use Rattle.putting.specs.Laws.Put.{count-fits, reach-fits, can-grow, has-room, written-is}
 use borrow.Author.Needs.{needs}
 use Rattle.putting.proofs.put.put_in_file.Statement.{statement}
 use Rattle.putting.proofs.put.put_in_file.Tie as tie
 
-slot-at-requires : tie.Need-slot-at-requires
-slot-at-requires c κs = (search on-usable, search file-below)
-
 size-at-requires : tie.Need-size-at-requires
-size-at-requires c κs = search file-within
+size-at-requires c κs = search needs
 
 cast-larger : tie.Need-cast-larger
 cast-larger c = search (needs, count-fits)
@@ -22,7 +18,7 @@ larger-requires : tie.Need-larger-requires
 larger-requires c κs = search needs
 
 lengthen-requires : tie.Need-lengthen-requires
-lengthen-requires c κs = search can-grow
+lengthen-requires c κs = (search can-grow, search needs)
 
 put-along-requires : tie.Need-put-along-requires
 put-along-requires c κs = (search on-usable, search has-room)
@@ -37,7 +33,6 @@ pub put-in-file-spec : {M : Type 1} → statement M
 put-in-file-spec =
     tie.close
     (tie.spec
-    slot-at-requires
     size-at-requires
     cast-larger
     add-larger

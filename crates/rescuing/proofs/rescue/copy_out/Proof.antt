@@ -1,6 +1,6 @@
 -- A chain that is as finding 5 asks has room for the size, and what is fetched along it is the file's.
 use native.Mathlib.Omega.{arith}
-use Rattle.rescuing.specs.Laws.Kinds.{usable, slot-inside, area-inside, base-fits}
+use Rattle.holding.specs.Laws.Kinds.{usable, slot-inside, area-inside, base-fits}
 use Rattle.rescuing.specs.Laws.Chain.{copy-room, copied-is}
 use borrow.Author.Needs.{needs}
 use Rattle.rescuing.proofs.rescue.copy_out.Statement.{statement}

@@ -1,5 +1,5 @@
 -- Each way out is one row that holds after those that don't.
-use Rattle.rescuing.specs.Laws.Kinds.{usable, root-inside}
+use Rattle.holding.specs.Laws.Kinds.{usable, root-inside}
 use Rattle.rescuing.specs.Laws.Rescue.{count-roomy, count-short, rescue-42, found-file, found-low, found-inside, rescue-2, rescue-5, good-chain, rescue-well}
 use borrow.Author.Needs.{needs}
 use Rattle.rescuing.proofs.rescue.rescue_on.Statement.{statement}

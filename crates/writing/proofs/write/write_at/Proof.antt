@@ -1,5 +1,6 @@
 -- What is accepted ends within the room.
-use Rattle.writing.specs.Laws.Write.{count-within, count-reaches, pointer-fits, answer-fits, write-none, write-some}
+use Rattle.calls.specs.Laws.Ready.{on-usable}
+use Rattle.writing.specs.Laws.Write.{own-few, room-is, count-within, count-reaches, pointer-fits, answer-fits, write-none, write-some}
 use native.Mathlib.Omega.{arith}
 use borrow.Author.Needs.{needs}
 use Rattle.writing.proofs.write.write_at.Statement.{statement}
@@ -8,8 +9,11 @@ use Rattle.writing.proofs.write.write_at.Tie as tie
 pointer-at-requires : tie.Need-pointer-at-requires
 pointer-at-requires c κs = search needs
 
+extent-at-requires : tie.Need-extent-at-requires
+extent-at-requires c κs = search needs
+
 room-for-requires : tie.Need-room-for-requires
-room-for-requires c κs = search needs
+room-for-requires c κs = (search on-usable, search own-few)
 
 count-of-requires : tie.Need-count-of-requires
 count-of-requires c κs = search needs
@@ -24,17 +28,17 @@ same-length-2 : tie.Need-same-length-2
 same-length-2 c = search needs
 
 returns : tie.Need-returns
-returns c = search write-none
+returns c = search (write-none, room-is)
 
 put-first-requires : tie.Need-put-first-requires
 put-first-requires c κs =
-    (record { on = search needs; file = search needs; bytes = λ i. omega (arith, c .before .before .before .before .before .before .before .before .before .slice-known .given i); fits = search count-reaches }, search count-within)
+    (record { on = search needs; file = search needs; bytes = λ i. omega (arith, c .before .before .before .before .before .before .before .before .before .slice-known .given i); fits = search (count-reaches, room-is) }, (search needs, search count-within))
 
 move-on-requires : tie.Need-move-on-requires
-move-on-requires c κs = (search needs, search pointer-fits)
+move-on-requires c κs = (search needs, search (pointer-fits, room-is))
 
 cast-well : tie.Need-cast-well
-cast-well c = search (needs, answer-fits)
+cast-well c = search (needs, answer-fits, room-is)
 
 well-requires-2 : tie.Need-well-requires-2
 well-requires-2 c κs = search needs
@@ -46,13 +50,14 @@ same-length-4 : tie.Need-same-length-4
 same-length-4 c = search needs
 
 returns-2 : tie.Need-returns-2
-returns-2 c = search write-some
+returns-2 c = search (write-some, room-is)
 
 pub write-at-spec : {M : Type 1} → statement M
 write-at-spec =
     tie.close
     (tie.spec
     pointer-at-requires
+    extent-at-requires
     room-for-requires
     count-of-requires
     well-requires

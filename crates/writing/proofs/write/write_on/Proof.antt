@@ -1,5 +1,7 @@
 -- Each way out is one row that holds after those that don't.
 use Rattle.calls.specs.Laws.Files.{reached, live-counted}
+use Rattle.calls.specs.Laws.Ready.{on-usable}
+use Rattle.holding.specs.Laws.Chain.{file-below, file-at}
 use Rattle.holding.specs.Laws.Found.{live-file}
 use Rattle.writing.specs.Laws.Write.{write-stops, write-refused, write-well}
 use borrow.Author.Needs.{needs}
@@ -35,8 +37,11 @@ same-length-2 c = search needs
 returns : tie.Need-returns
 returns c = search (write-refused, rows)
 
+slot-at-requires : tie.Need-slot-at-requires
+slot-at-requires c κs = (search on-usable, search (file-below, live-file))
+
 write-at-requires : tie.Need-write-at-requires
-write-at-requires c κs = (search needs, (search live-file, (search needs, search live-counted)))
+write-at-requires c κs = (search needs, (search (file-at, live-file), (search needs, search live-counted)))
 
 same-length-3 : tie.Need-same-length-3
 same-length-3 c = search needs
@@ -69,6 +74,7 @@ write-on-spec =
     same-length
     same-length-2
     returns
+    slot-at-requires
     write-at-requires
     same-length-3
     same-length-4

@@ -1,7 +1,7 @@
 -- Two fields are stored one after the other.
 use borrow.Author.Needs.{needs}
-use Rattle.putting.proofs.longer.put_extent.Statement.{statement}
-use Rattle.putting.proofs.longer.put_extent.Tie as tie
+use Rattle.putting.proofs.longer.put_fields.Statement.{statement}
+use Rattle.putting.proofs.longer.put_fields.Tie as tie
 
 cast-put-start : tie.Need-cast-put-start
 cast-put-start c = search needs
@@ -18,6 +18,6 @@ same-length c = search needs
 returns : tie.Need-returns
 returns c = cc
 
-pub put-extent-spec : {M : Type 1} → statement M
-put-extent-spec =
+pub put-fields-spec : {M : Type 1} → statement M
+put-fields-spec =
     tie.close (tie.spec cast-put-start put-start-requires put-size-requires same-length returns)
