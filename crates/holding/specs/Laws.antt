@@ -1,6 +1,6 @@
 -- The laws of the definitions beside this folder.
 pub mod Kinds
 pub mod Clusters
-pub mod Found
 pub mod Chain
+pub mod Found
 pub mod Extent

@@ -77,7 +77,7 @@ module _ (img t : List ℕ) (k : Kind) (slot : ℕ) (name : List ℕ) (attr time
 
   pub empty-well : (o : Bool) → o ≡ isOpen t slot → o ≡ false → (b : Bool) → b ≡ readOnly img slot → b ≡ false
       → (f : Found) → f ≡ lowestUnused t → (place : ℕ) → f ≡ At place
-      → (e : ℕ) → e ≡ slotAt k slot → (l₁ l : List ℕ) → l₁ ≡ chainFreed k img (slotAt k slot) → l ≡ withEntry l₁ e name attr time date 0 0
+      → (e : ℕ) → e ≡ slotAt k slot → (l₁ l : List ℕ) → l₁ ≡ chainFreed k img e → l ≡ withEntry l₁ e name attr time date 0 0
       → (m : List ℕ) → m ≡ withRecord t place 2 slot 0 false → a ≡ answering place → Empties img t k slot name attr time date a l m
   unfolding decided refusal
   empty-well o used shut b kept free f found place at e i l₁ l j₁ j m c x = record { is = rw (x, j, j₁, c, i, ← used, shut, ← kept, free, ← found, at) }

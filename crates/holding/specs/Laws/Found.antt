@@ -18,6 +18,9 @@ use Rattle.opened.specs.Aids.Places.{liveSlot}
 use Rattle.opened.specs.Laws.Places.{live-slot-is}
 use Rattle.calls.specs.Laws.Files.{live-slot, live-below}
 use Rattle.sound.specs.Files.{IsFile}
+use Rattle.calls.specs.Aids.Ready.{OnVolume}
+use Rattle.holding.specs.Aids.Files.{FileAt}
+use Rattle.holding.specs.Laws.Chain.{file-at}
 
 both-first : (a b : Bool) → (a && b) ≡ true → a ≡ true
 both-first true b e = refl
@@ -43,3 +46,7 @@ live-file img k t h f found slot at = record {
   below = live-below img k t h f found slot at;
   plain = rw (live-slot img k t h f found slot at) (live-slot-is t h img (slotAt k) (rootEntries k) slot (sym found ∙ at) .0 .plain);
 }
+
+pub live-file-at : (img : List ℕ) (k : Kind) → OnVolume img k → (t : List ℕ) (h : ℕ) (f : Found) → f ≡ liveSlot t h img (slotAt k) (rootEntries k)
+    → (slot : ℕ) → f ≡ At slot → (a : ℕ) → a ≡ slotAt k slot → FileAt k img a
+live-file-at img k v t h f found slot at a e = file-at img k v slot (live-file img k t h f found slot at) a e

@@ -31,10 +31,6 @@ use Rattle.putting.specs.Longer.{newFor, lengthened}
 use Rattle.putting.specs.Aids.Longer.{CanGrow, AddedBehind, Grows, Lengthens}
 use Rattle.putting.specs.Laws.Longer.{start-small, linked-length, longer-area, longer-found, after-holds}
 
--- none is lacking where the file has as many
-pub none-lacking : (needed own : ℕ) → needed ≤ own → 0 ≡ needed - own
-none-lacking needed own h = omega arith
-
 -- where a chain starts
 module _ (own start first : ℕ) where
   pub starts-new : own ≡ 0 → first ≡ cond (eqb own 0) first start

@@ -29,12 +29,13 @@ module _ (v : ℕ) where
 pub met-leads : (last : ℕ) (f : ℕ → ℕ) (n c : ℕ) → End (f (lastOf c (clustersFrom last f n (f c)))) → Leads last f (f c) (clustersFrom last f n (f c))
 unfolding clustersFrom lastOf
 met-leads last f zero c e = e
-met-leads last f (suc n) c e = by (linkb last (f c)) refl e
+met-leads last f (suc n) c e = by (linkb last (f c)) refl (met-leads last f n (f c)) e
   where
-    by : (b : Bool) → linkb last (f c) ≡ b → End (f (lastOf c (cond b (f c ∷ clustersFrom last f n (f (f c))) [])))
-        → Leads last f (f c) (cond b (f c ∷ clustersFrom last f n (f (f c))) [])
-    by true q e = (refl, says-true (says-link last (f c)) q, met-leads last f n (f c) e)
-    by false q e = e
+    by : (b : Bool) → linkb last (f c) ≡ b
+        → (End (f (lastOf (f c) (clustersFrom last f n (f (f c))))) → Leads last f (f (f c)) (clustersFrom last f n (f (f c))))
+        → End (f (lastOf c (cond b (f c ∷ clustersFrom last f n (f (f c))) []))) → Leads last f (f c) (cond b (f c ∷ clustersFrom last f n (f (f c))) [])
+    by true q later e = (refl, says-true (says-link last (f c)) q, later e)
+    by false q later e = e
 
 -- so clusters from start on are a chain where there are any and the last has an end value
 pub met-chain : (last : ℕ) (f : ℕ → ℕ) → f 0 ≡ 0 → (n start : ℕ) → End (f (endOf (clustersFrom last f n start)))
@@ -45,7 +46,7 @@ met-chain last f z (suc n) start e = by (linkb last start) refl e
   where
     by : (b : Bool) → linkb last start ≡ b → End (f (endOf (cond b (start ∷ clustersFrom last f n (f start)) [])))
         → (0 < length (cond b (start ∷ clustersFrom last f n (f start)) [])) × Chain last f start (cond b (start ∷ clustersFrom last f n (f start)) [])
-    by true q e = (omega arith, refl, says-true (says-link last start) q, met-leads last f n start (rw (end-last start (clustersFrom last f n (f start))) at e))
+    by true q e = (omega arith, (refl, says-true (says-link last start) q, met-leads last f n start (rw (end-last start (clustersFrom last f n (f start))) at e)))
     by false q e = absurd (let q : f (endOf []) ≡ 0 = ap f end-none ∙ z in omega arith)
 
 pub met-start : (last : ℕ) (f : ℕ → ℕ) → f 0 ≡ 0 → (n start : ℕ) → End (f (endOf (clustersFrom last f n start))) → 2 ≤ start

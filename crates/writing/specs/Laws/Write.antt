@@ -51,6 +51,9 @@ module _ (k : Kind) (own free : ℕ) (few : own + free ≤ clusters k) (u : Usab
       let less : (own + free) * cb ≤ 4078 * cb = mul-le-mul-right cb (omega (arith, u .below-reserved)) in
       omega (arith, u .per-high)
 
+  pub room-by : (cb : ℕ) → cb ≡ clusterBytes k → (own + free) * cb ≡ (own + free) * clusterBytes k
+  room-by cb ec = rw ec
+
 module _ (img : List ℕ) (k : Kind) (a : ℕ) (own : Extent) (eo : own ≡ extentOf (fileChain k img a)) (free : ℕ) (ef : free ≡ freeOf k img) where
   own-is : own .clusters ≡ length (fileChain k img a)
   own-is = ap (λ (e : Extent). e .clusters) eo

@@ -29,7 +29,14 @@ same-length : tie.Need-same-length
 same-length c = search needs
 
 returns : tie.Need-returns
-returns c = search freed-is
+returns c =
+    freed-is _ _ (search needs) _ (search needs) (λ i. omega (arith, c .before .before .before .before .before .before .before .before .before .slice-known .given i)) _ _ _ _
+    (c .before .before .before .before .before .before .before .start-at .ensures)
+    (c .before .before .before .clusters .ensures)
+    (c .before .before .before .before .before .copy-two .ensures)
+    (c .before .before .before .before .last-cluster .ensures)
+    _
+    (c .before .before .free-chain .ensures)
 
 pub free-file-spec : {M : Type 1} → statement M
 free-file-spec =

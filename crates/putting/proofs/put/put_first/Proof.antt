@@ -14,7 +14,7 @@ part-put-in-file-end : tie.Need-part-put-in-file-end
 part-put-in-file-end c = search needs
 
 put-in-file-requires : tie.Need-put-in-file-requires
-put-in-file-requires c κs = search needs
+put-in-file-requires c κs = (search needs, search needs)
 
 same-length : tie.Need-same-length
 same-length c = search needs

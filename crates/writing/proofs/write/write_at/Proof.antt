@@ -32,7 +32,7 @@ returns c = search (write-none, room-is)
 
 put-first-requires : tie.Need-put-first-requires
 put-first-requires c κs =
-    (record { on = search needs; file = search needs; bytes = λ i. omega (arith, c .before .before .before .before .before .before .before .before .before .slice-known .given i); fits = search (count-reaches, room-is) }, (search needs, search count-within))
+    (record { on = search needs; file = search needs; bytes = λ i. omega (arith, c .before .before .before .before .before .before .before .before .before .before .slice-known .given i); fits = search (count-reaches, room-is) }, (search needs, search count-within))
 
 move-on-requires : tie.Need-move-on-requires
 move-on-requires c κs = (search needs, search (pointer-fits, room-is))
@@ -50,7 +50,18 @@ same-length-4 : tie.Need-same-length-4
 same-length-4 c = search needs
 
 returns-2 : tie.Need-returns-2
-returns-2 c = search (write-some, room-is)
+returns-2 c =
+    write-some _ _ _ _ _ _ _ _ _
+    (c .before .before .before .before .before .before .before .before .before .before .before .before .before .before .pointer-at .ensures)
+    (room-is _ _ _ _ (c .before .before .before .before .before .before .before .before .before .before .before .before .extent-at .ensures) _ (c .before .before .before .before .before .before .before .before .before .before .before .before .before .before .before .before .before .before .before .pre .1 .1 .0) _ (c .before .before .before .before .before .before .before .before .before .before .before .room-for .ensures))
+    (c .before .before .before .before .before .before .before .before .before .before .count-of .ensures)
+    (c .before .before .before .before .before .before .before .before .before .if1 .left)
+    _
+    _
+    (c .before .before .before .before .before .before .before .put-first .ensures)
+    (c .before .before .before .move-on .ensures)
+    _
+    (c .well2 .ensures)
 
 pub write-at-spec : {M : Type 1} → statement M
 write-at-spec =

@@ -1,8 +1,8 @@
 -- Each way out is one row that holds after those that don't.
 use Rattle.calls.specs.Laws.Files.{reached, live-counted}
 use Rattle.calls.specs.Laws.Ready.{on-usable}
-use Rattle.holding.specs.Laws.Chain.{file-below, file-at}
-use Rattle.holding.specs.Laws.Found.{live-file}
+use Rattle.holding.specs.Laws.Chain.{file-below}
+use Rattle.holding.specs.Laws.Found.{live-file, live-file-at}
 use Rattle.writing.specs.Laws.Write.{write-stops, write-refused, write-well}
 use borrow.Author.Needs.{needs}
 use Rattle.writing.proofs.write.write_on.Statement.{statement}
@@ -41,7 +41,7 @@ slot-at-requires : tie.Need-slot-at-requires
 slot-at-requires c κs = (search on-usable, search (file-below, live-file))
 
 write-at-requires : tie.Need-write-at-requires
-write-at-requires c κs = (search needs, (search (file-at, live-file), (search needs, search live-counted)))
+write-at-requires c κs = (search needs, (search live-file-at, (search needs, search live-counted)))
 
 same-length-3 : tie.Need-same-length-3
 same-length-3 c = search needs
