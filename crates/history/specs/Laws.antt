@@ -20,6 +20,7 @@ pub mod Runs
 pub mod Shown
 pub mod Room
 pub mod Promises
+pub mod Spare
 pub mod TarePlaces
 pub mod TareCalls
 pub mod Tare

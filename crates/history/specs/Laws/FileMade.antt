@@ -1,5 +1,5 @@
 -- Create, write and close of a new file, one after the other: each ends well, and the volume has that file then.
-use Prim.Native.Nat.{ℕ, _+_, _-_, _≤_, _<_}
+use Prim.Native.Nat.{ℕ, _+_, _-_, _*_, _≤_, _<_}
 use native.Mathlib.Omega.{arith}
 use native.Mathlib.Decide.{ℕ-discrete}
 use mathlib.Core.Bool.{Bool, true, false, not}
@@ -191,11 +191,12 @@ module _ (k : Kind) (w : World) (fs : Files) (n free : ℕ) (x : HasFiles k w fs
   can-put =
       let v = on (stands-created .begins) in
       let i = file-there world-created attr [] stands-created in
+      let room : length bs ≤ freeOf k (world-created .image) * clusterBytes k = rw free-created (g .room) in
       record {
         on = v;
         file = file-at (world-created .image) k v n i (slotAt k n) refl;
         bytes = stands-created .begins .bytes;
-        fits = rw (take-all bs) (omega (arith, (rw (← free-created) (g .room))));
+        fits = rw (take-all bs) (omega arith);
       }
 
   abbrev clusters-wrote : List ℕ

@@ -131,7 +131,7 @@ space-fits img a t = subst SpaceFits (sym (t .is)) (go (kindOfImage img) refl)
   where
     go : (w : WhichKind) → kindOfImage img ≡ w → SpaceFits (freeSpace img)
     go (Known k) e = elim (says-dec (known-says img k e)) [
-      | yes s ↦ let u = image-usable img k e in let t = total k u img s in
+      | yes s ↦ let u = image-usable img k e in let t = total k u img s (s .0) (s .1 .chains) in
           subst SpaceFits (sym (space-sound img k e s)) (record { number-fits = omega arith; free-fits = omega (arith, u .below-reserved); clusters-fit = omega (arith, u .below-reserved); sector-fits = omega arith; per-fits = omega (arith, u .per-high) })
       | no n ↦ subst SpaceFits (sym (space-unsound img k e n)) (refused-fits unsound (omega arith))
     ]

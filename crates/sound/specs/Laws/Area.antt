@@ -131,8 +131,7 @@ module _ (k : Kind) (u : Usable k) (m l : List ℕ) (e : SameArea k m l) where
   pub counted-as : (v : Verdict) → Counted k m v → Counted k l v
   counted-as v q =
       let files : fileCount k m ≡ fileCount k l = tally-as in
-      let held : heldOf k m (q .0) ≡ heldOf k l (q .0) = sum-cong (rootEntries k) _ _ (held-as (q .0)) in
-      (
+      let held : heldOf k m (q .0) ≡ heldOf k l (q .0) = sum-cong (rootEntries k) _ _ (held-as (q .0)) in (
         q .0,
         λ s i. chain-to k u m l e s (i .below) (q .0 s) (q .1 s (file-to k u l m (area-back k m l e) s i)),
         rw (files, same-table, held) at (q .2),

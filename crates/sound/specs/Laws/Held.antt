@@ -56,9 +56,9 @@ module _ (k : Kind) (u : Usable k) (l : List ℕ) where
       let owned = file-owns-chain k u l (holderAt (clusterBytes k) l) (λ t j. refl) s in
       by-test (ownsb (lastCluster k) (valueOf k l) h)
       (λ e.
-          let w = says-true (says-owned G (valueOf k l) h) e in
-          let c : chainOf (lastCluster k) (valueOf k l) h ≡ w .0 = chain-of G (valueOf k l) h (w .0) (w .1 .chain) in
-          subst (ChainOf k l s) (sym c) (owned (w .0) i .0 (w .1)))
+      let w = says-true (says-owned G (valueOf k l) h) e in
+      let c : chainOf (lastCluster k) (valueOf k l) h ≡ w .0 = chain-of G (valueOf k l) h (w .0) (w .1 .chain) in
+      subst (ChainOf k l s) (sym c) (owned (w .0) i .0 (w .1)))
       (λ e. absurd (n s (i, λ cs c. clash (true-says (says-owned G (valueOf k l) h) (cs, owned cs i .1 c)) e)))
 
   -- where there is no file they find nothing
