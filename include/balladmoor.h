@@ -29,7 +29,7 @@ extern "C" {
 #endif
 
 /* The version of header and archive, also in the file VERSION. */
-#define BM_VERSION "2.0.1"
+#define BM_VERSION "2.1.0"
 
 /* The two halves of an answer. */
 #define BM_NUMBER(answer) ((uint32_t)((uint64_t)(answer) >> 32))
@@ -146,9 +146,11 @@ uint64_t bm_format(uint8_t *image, size_t image_length, uint32_t kind);
  *   2  a table's first bytes are wrong, or its two copies differ         byte of the copy
  *   3  a table entry with a value that means nothing                     cluster
  *   4  a directory entry that can't be, or a name or label twice         slot
- *   5  a file's chain of clusters does not fit its size                  slot
+ *   5  a file's chain of clusters is too short, broken or without end   slot
  *   6  a cluster in two files                                            cluster
  *   7  a cluster in use that is in no file                               cluster
+ *
+ * A file may have more clusters than its size needs; they are held too.
  *
  * out: if sound, 20 bytes: files, free clusters, clusters held by files, bad clusters, reserved clusters. Where a
  * cluster is bad, the disk is worn. No call puts a file's bytes into a bad or reserved cluster.
@@ -214,7 +216,7 @@ uint64_t bm_open(const uint8_t *image, size_t image_length, uint8_t *table, size
 
 /* Makes an empty file and opens it with BM_READ_AND_WRITE, even one that is marked read-only.
  *
- * A file of that name is emptied: its bytes are lost and its clusters free. Else the lowest erased or never used slot
+ * A file of that name is emptied: its bytes are lost and all its clusters free. Else the lowest erased or never used slot
  * is taken. The entry gets the attribute and the stamp. It takes the lowest unused place.
  *
  * Value: the handle.
@@ -236,8 +238,9 @@ uint64_t bm_read(const uint8_t *image, size_t image_length, uint8_t *table, size
 
 /* Writes at the pointer, as many bytes as there is room for, and moves the pointer behind them.
  *
- * The room is the file's own clusters and all free ones. Where the pointer was past the end of the file, the bytes
- * between become 0. The entry's size and start are stored at once. If it writes nothing, nothing changes.
+ * The room is all of the file's own clusters, which are used first, and all free ones. Where the pointer was past the
+ * end of the file, the bytes between become 0. The entry's size and start are stored at once. If it writes nothing,
+ * nothing changes.
  *
  * Value: how many bytes; fewer than data_length if the room ends before, 0 with the pointer at or past it.
  * Refusals: 40, 41; 6; 5 if the place has BM_READ. */
@@ -259,7 +262,7 @@ uint64_t bm_seek(const uint8_t *image, size_t image_length, uint8_t *table, size
 uint64_t bm_close(uint8_t *image, size_t image_length, uint8_t *table, size_t table_length, uint32_t handle,
                   uint32_t hour, uint32_t minute, uint32_t step, uint32_t year, uint32_t month, uint32_t day);
 
-/* Deletes a file: its clusters are free and its slot is erased.
+/* Deletes a file: all its clusters are free and its slot is erased.
  *
  * Value: 0.
  * Refusals: 40, 41; 42; 2; 5 if the file is open or read-only. */
@@ -298,7 +301,7 @@ uint64_t bm_view_number(const uint8_t *image, size_t image_length, const uint8_t
  * filled. The rest of out stays. Where several plain files have the name, the one in the lowest slot counts.
  *
  * Value: how many bytes.
- * Refusals: 40; 42; 2; 5 if the file's chain does not fit its size, as in finding 5 of bm_check. */
+ * Refusals: 40; 42; 2; 5 if the file's chain is too short, broken or without end, as in finding 5 of bm_check. */
 uint64_t bm_rescue(const uint8_t *image, size_t image_length, const uint8_t *name, size_t name_length, uint8_t *out,
                    size_t out_length);
 

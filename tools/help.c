@@ -114,7 +114,7 @@ const struct help help_get = {
     "--rescue brings a file off a disk that is not sound, such as a reset in the\n"
     "middle of a save leaves it. The file is read by its own chain of clusters,\n"
     "whatever else is wrong, and a sentence on standard error says so. A file whose\n"
-    "chain does not fit its size is refused. It takes no patterns.\n",
+    "chain is too short, broken or without end is refused. It takes no patterns.\n",
 };
 
 const struct help help_put = {

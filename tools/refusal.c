@@ -8,8 +8,8 @@
 /* Number 5. Whoever asks here has no file open but the one in hand, so it is never for an open file. */
 static const char *const denied[TASKS] = {
     [READING] = "The file was not opened for reading. That is a mistake in this program: please report it.",
-    [RESCUING] = "The file's chain of clusters does not fit its size, so its bytes can't be told. Take the disk to the "
-                 "service bench.",
+    [RESCUING] = "The file's chain of clusters is too short, broken or without end, so its bytes can't be told. Take the disk "
+                 "to the service bench.",
     [MATCHING] = "No file is opened while others are found. That is a mistake in this program: please report it.",
     [MAKING] = "The directory has no room for another name. Delete a file first, or take another disk.",
     [REPLACING] = "A file of that name is read-only. If it may be replaced, take that mark away first (mode -r).",
@@ -53,7 +53,7 @@ static const struct {
     [2] = {"the table's first bytes are wrong, or its two copies differ", "byte of the table"},
     [3] = {"a table entry with a value that means nothing", "cluster"},
     [4] = {"a directory entry that can't be, or a name or label twice", "slot"},
-    [5] = {"a file's chain of clusters does not fit its size", "slot"},
+    [5] = {"a file's chain of clusters is too short, broken or without end", "slot"},
     [6] = {"a cluster in two files", "cluster"},
     [7] = {"a cluster in use that is in no file", "cluster"},
 };

@@ -38,7 +38,7 @@ broken "finding 4 at slot 1" "(refusal 41; finding 4 " "DAY001.LOG, a directory;
 
 cp listed.img broken.img
 poke broken.img $((root_at + 29)) '\x02'
-broken "finding 5 at slot 0" "(refusal 41; finding 5 " "does not fit its size: TARE.KEY; see it with: balladmoor map broken.img)"
+broken "finding 5 at slot 0" "(refusal 41; finding 5 " "is too short, broken or without end: TARE.KEY; see it with: balladmoor map broken.img)"
 ends 1 "list shows the files of a broken disk" balladmoor list broken.img
 prints "DAY001   LOG      1025 1983-09-01  18:05  ---A"
 

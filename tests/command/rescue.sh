@@ -73,7 +73,7 @@ while IFS='|' read -r number sentence names; do
   says "$sentence"
   says "(refusal $number)"
 done <<'END'
-5|TARE.KEY: The file's chain of clusters does not fit its size, so its bytes can't be told.|TARE.KEY
+5|TARE.KEY: The file's chain of clusters is too short, broken or without end, so its bytes can't be told.|TARE.KEY
 5|TARE.KEY: The file's chain of clusters|DAY001.LOG TARE.KEY
 2|DAY002.LOG: No file of that name is on the disk.|DAY002.LOG
 42|A/B: A name has 1 to 8|A/B

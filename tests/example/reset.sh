@@ -87,7 +87,7 @@ root_at=1536
 start=$(od -An -tu2 -j$((root_at + 26)) -N2 old.img)
 mix 1
 poke torn.img $((root_at + 29)) '\x02'
-no_tare "the tare's chain does not fit its size" "The tare's chain of clusters does not fit its size, so nothing is weighed."
+no_tare "the tare's chain is too short, broken or without end" "The tare's chain of clusters is too short, broken or without end, so nothing is weighed."
 tells "(refusal 5)"
 mix 1
 poke torn.img $root_at '\xE5'

@@ -1,7 +1,7 @@
 -- All of demand 3, of one library.
 use Rattle.history.specs.Handles.{HandsOutItsFile, HandlesKeepTheirFiles, PointersMove}
 use Rattle.history.specs.Promises.{SoundAfterEach, FilesOfHistory, FirstFiles, ReadsAreOfHistory, SeeksAreOfHistory, NamesAFile, AltersNoOther}
-use Rattle.history.specs.Promises.{TotalAfterEach, ShortOnlyWhereFull, LooksAlterNothing, RefusalsLeaveAll, RefusedReadsLeaveBuffer}
+use Rattle.history.specs.Promises.{TotalAfterEach, ShortOnlyWhereFull, SpareFirst, LooksAlterNothing, RefusalsLeaveAll, RefusedReadsLeaveBuffer}
 use Rattle.history.specs.Tare.{TareStays}
 use Rattle.history.specs.World.{Library}
 
@@ -15,6 +15,7 @@ pub record Keeps (lib : Library) : Type 0 where
   pub others : AltersNoOther lib
   pub total : TotalAfterEach lib
   pub short : ShortOnlyWhereFull lib
+  pub spare : SpareFirst lib
   pub looks : LooksAlterNothing lib
   pub refusals : RefusalsLeaveAll lib
   pub buffer : RefusedReadsLeaveBuffer lib

@@ -19,3 +19,4 @@ pub mod Judged
 pub mod Visited
 pub mod Checks
 pub mod Clusters
+pub mod Spare

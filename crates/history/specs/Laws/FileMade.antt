@@ -5,7 +5,7 @@ use native.Mathlib.Decide.{ℕ-discrete}
 use mathlib.Core.Bool.{Bool, true, false, not}
 use mathlib.Core.List.{List, [], _∷_}
 use mathlib.Core.Logic.{_≢_, inr}
-use mathlib.Core.Option.{Option, none, some}
+use mathlib.Core.Option.{some}
 use mathlib.Core.Path.{_≡_, refl, sym, ap, _∙_, subst}
 use lib.ListN.{length, replicate, take}
 use borrow.Author.Tests.{ne-eqb}
@@ -42,7 +42,7 @@ use Rattle.putting.specs.Aids.Put.{CanPut}
 use Rattle.putting.specs.Laws.Longer.{after-long}
 use Rattle.putting.specs.Laws.Put.{can-grow}
 use Rattle.changes.specs.Aids.Changed.{SlotChanged}
-use Rattle.changes.specs.Files.{File, file, Files, ShowsAt}
+use Rattle.changes.specs.Files.{file, Files, ShowsAt}
 use Rattle.changes.specs.Laws.Made.{new-changed}
 use Rattle.changes.specs.Laws.Marks.{close-changed}
 use Rattle.changes.specs.Laws.NewSlot.{none-of-name, lowest-vacant}

@@ -8,6 +8,7 @@ use Rattle.history.specs.Laws.Promises.{sound-after-each, files-of-histo
 use Rattle.history.specs.Laws.Refused.{refusals-leave-all, refused-reads-leave-buffer}
 use Rattle.history.specs.Laws.Seeks.{seeks-are-of-history}
 use Rattle.history.specs.Laws.Shown.{first-files, reads-are-of-history}
+use Rattle.history.specs.Laws.Spare.{spare-first}
 use Rattle.history.specs.Laws.TableBecomes.{pointers-move}
 use Rattle.history.specs.Laws.Tare.{tare-stays}
 
@@ -22,6 +23,7 @@ ours-keeps = record {
   others = alters-no-other;
   total = total-after-each;
   short = short-only-where-full;
+  spare = spare-first;
   looks = looks-alter-nothing;
   refusals = refusals-leave-all;
   buffer = refused-reads-leave-buffer;

@@ -12,7 +12,7 @@ use Rattle.diskette.specs.Places.{clusterBytes, rootAt, slotAt}
 use Rattle.diskette.specs.declared.Kind.{Kind}
 use Rattle.fields.specs.Fields.{startOf}
 use Rattle.opened.specs.Records.{slotOf, pointerOf}
-use Rattle.sound.specs.Files.{ChainOf, IsFile}
+use Rattle.sound.specs.Files.{IsFile}
 use Rattle.sound.specs.Laws.Sound.{chain-only}
 use Rattle.calls.specs.Outcome.{Outcome}
 use Rattle.calls.specs.Aids.Ready.{OnVolume}

@@ -2,7 +2,7 @@
 use Prim.Native.Nat.{ℕ, _+_, _*_, _≤_, _<_}
 use native.Mathlib.Omega.{arith}
 use mathlib.Core.List.{List}
-use mathlib.Core.Path.{_≡_, refl, sym, ap, _∙_, subst}
+use mathlib.Core.Path.{_≡_, refl, sym, subst}
 use lib.ListN.{length}
 use Rattle.chains.specs.Aids.Chain.{Chain}
 use Rattle.chains.specs.Aids.Holders.{Holder, Owns, fileHolder}

@@ -2,11 +2,11 @@
 use Prim.Native.Nat.{ℕ, suc, _+_, _-_, _≤_, _<_}
 use native.Mathlib.Omega.{arith}
 use mathlib.Core.List.{List, [], _∷_}
-use mathlib.Core.Path.{_≡_, refl, sym, ap, _∙_}
+use mathlib.Core.Path.{_≡_, sym, ap, _∙_}
 use lib.ListN.{length}
 use Rattle.chains.specs.Chain.{clustersFrom}
 use Rattle.chains.specs.Aids.Lists.{lastOf}
-use Rattle.chains.specs.Values.{Link, linkb}
+use Rattle.chains.specs.Values.{Link}
 use Rattle.chains.specs.Laws.Met.{from-link, from-none}
 use Rattle.chains.specs.Laws.Tests.{false-says, true-says}
 use Rattle.chains.specs.Laws.Values.{says-link}

@@ -15,7 +15,7 @@ use Rattle.chains.specs.Laws.Tests.{false-says, true-says}
 use Rattle.chains.specs.Laws.Values.{says-link}
 use Rattle.chains.specs.Laws.Put.{put-same, put-other}
 use Rattle.chains.specs.Laws.Lists.{dec-mem, mem-occ}
-use Rattle.chains.specs.Laws.Chain.{after-fresh, chain-frame, chain-mem}
+use Rattle.chains.specs.Laws.Chain.{after-fresh, chain-frame}
 use Rattle.chains.specs.Laws.Growth.{released-in, released-out}
 use Rattle.table.specs.Entries.{setBoth, tableOf}
 use Rattle.table.specs.Laws.View.{table-inside}

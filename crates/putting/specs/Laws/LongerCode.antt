@@ -16,7 +16,7 @@ use Rattle.diskette.specs.declared.Kind.{Kind}
 use Rattle.fields.specs.Fields.{startOf, withStart, withSize}
 use Rattle.links.specs.Linked.{endOf}
 use Rattle.links.specs.Aids.Extent.{extentOf}
-use Rattle.links.specs.Aids.Linked.{Behind, linkedFrom, Added}
+use Rattle.links.specs.Aids.Linked.{Behind, Added}
 use Rattle.links.specs.Aids.Leaves.{HasTable}
 use Rattle.links.specs.Laws.Linked.{end-behind}
 use Rattle.links.specs.Laws.New.{added-linked}

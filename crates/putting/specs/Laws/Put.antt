@@ -2,7 +2,7 @@
 use Prim.Native.Nat.{ℕ, _+_, _-_, _*_, _≤_, _<_, max}
 use native.Mathlib.Omega.{arith}
 use mathlib.Core.List.{List}
-use mathlib.Core.Path.{_≡_, refl, sym, ap, _∙_}
+use mathlib.Core.Path.{_≡_, _∙_}
 use lib.ListN.{length, take, drop, replicate}
 use Rattle.chains.specs.Write.{poured, writtenImage}
 use Rattle.diskette.specs.Places.{firstData, clusterBytes, lastCluster}
