@@ -2,7 +2,7 @@
 
 mod common;
 
-use common::{expect_words, Desk, EVENING};
+use common::{expect_words, record, Desk, EVENING};
 use compare::volume::{entry, format, free_space, open, view, view_number};
 
 /// A FE volume with a file LONG of 1,025 bytes in slot 0, all closed.
@@ -10,15 +10,6 @@ fn desk() -> Desk {
     let mut desk = Desk::new(0xFE);
     desk.put("LONG", &[1; 1025]);
     desk
-}
-
-/// A record with these fields; bytes 3 and 12 to 15 hold junk.
-fn record(used: u8, access: u8, written: u8, slot: u32, pointer: u32) -> Vec<u8> {
-    let mut bytes = vec![used, access, written, 0x77];
-    bytes.extend(slot.to_le_bytes());
-    bytes.extend(pointer.to_le_bytes());
-    bytes.extend([0x77; 4]);
-    bytes
 }
 
 #[test]

@@ -4,6 +4,7 @@
 use std::sync::atomic::{AtomicU64, Ordering::Relaxed};
 use std::sync::OnceLock;
 
+use compare::comparison::deeds::{altered_file, DEEDS};
 use compare::comparison::files::{After, Files};
 use compare::comparison::guarded::{Guarded, GUARD};
 use compare::comparison::lines::{allows, LINES};
@@ -11,11 +12,14 @@ use compare::comparison::search::compare_search;
 use compare::comparison::seeds::over_seeds;
 use compare::comparison::tally::{rows, Tally};
 use compare::comparison::{compare_seed, history, singles, Library, CALLS_OF_A_SEED};
-use compare::volume::answer::number;
-use compare::volume::kind::Kind;
+use compare::volume::answer::{number, packed};
+use compare::volume::kind::{Kind, KINDS};
+use compare::volume::table::set_in_both;
 use compare::volume::{check_system, find};
 use compare::volumes::calls::{perform, Call, Scene};
+use compare::volumes::chains::{self, Chain};
 use compare::volumes::finds::Search;
+use compare::volumes::plan::{File, Plan};
 use compare::volumes::random::Random;
 use compare::volumes::random_calls::buffer_for;
 use compare::volumes::scenes::history_scene;
@@ -232,6 +236,99 @@ fn faults_of_check_are_told() {
         let report = report_of_histories(library);
         assert!(report.starts_with("history, call "), "{fault}: {report}");
         assert!(report.contains(" check"), "{fault}: {report}");
+    }
+}
+
+/// What a fault on an altered file goes by.
+struct Altered {
+    kind: &'static Kind,
+    before: Vec<u8>,
+    /// The file's chain before the call.
+    old: Chain,
+}
+
+/// The plain Rust, but a call of this name that alters a file's entry leaves a
+/// fault on the image.
+fn with_fault(
+    call: &Call,
+    scene: &mut Scene<Guarded>,
+    name: &str,
+    put: fn(&Altered, &mut [u8]),
+) -> u64 {
+    if call.name() != name {
+        return perform(call, scene);
+    }
+    let before = scene.image.to_vec();
+    let answer = perform(call, scene);
+    if let Some(kind) = Kind::of_image(&before) {
+        if let Some((old, _)) = altered_file(kind, &before, &scene.image) {
+            put(&Altered { kind, before, old }, &mut scene.image);
+        }
+    }
+    answer
+}
+
+/// The clusters that the size did not need stay in use.
+fn keep_spare(altered: &Altered, image: &mut [u8]) {
+    let values = chains::table(altered.kind, &altered.before);
+    for &cluster in altered.old.clusters.iter().skip(altered.old.needed) {
+        set_in_both(altered.kind, image, cluster, values[usize::from(cluster)]);
+    }
+}
+
+/// Where no cluster was added, the end is written once more all the same.
+fn write_end(altered: &Altered, image: &mut [u8]) {
+    let tables = altered.kind.copy_at(0)..altered.kind.root_at();
+    let is_as_it_was = altered.before[tables.clone()] == image[tables];
+    if let (Some(&last), true) = (altered.old.clusters.last(), is_as_it_was) {
+        set_in_both(altered.kind, image, last, 0xFFF);
+    }
+}
+
+/// The clusters that the size did not need keep the bytes that they had, where
+/// these become zero.
+fn keep_gap(altered: &Altered, image: &mut [u8]) {
+    for &cluster in altered.old.clusters.iter().skip(altered.old.needed) {
+        let at = altered.kind.cluster_at(cluster);
+        let old = &altered.before[at..];
+        let new = image[at..][..altered.kind.cluster_bytes()].iter_mut();
+        for (new, old) in new.zip(old).filter(|(new, _)| **new == 0) {
+            *new = *old;
+        }
+    }
+}
+
+/// The plain Rust, but a chain that is longer than its size needs is finding 5.
+fn exact_chains(call: &Call, scene: &mut Scene<Guarded>) -> u64 {
+    let answer = perform(call, scene);
+    match (call, Kind::of_image(&scene.image)) {
+        (Call::Check, Some(kind)) if chains::sorts(kind, &scene.image, 0, 0)[0] => packed(5, 0),
+        _ => answer,
+    }
+}
+
+const FAULTS_OF_SPARE: [(&str, Library); 5] = [
+    (" create ", |call, scene| {
+        with_fault(call, scene, "create", keep_spare)
+    }),
+    (" delete ", |call, scene| {
+        with_fault(call, scene, "delete", keep_spare)
+    }),
+    (" write ", |call, scene| {
+        with_fault(call, scene, "write", write_end)
+    }),
+    (" write ", |call, scene| {
+        with_fault(call, scene, "write", keep_gap)
+    }),
+    (" check", exact_chains),
+];
+
+#[test]
+fn faults_on_spare_clusters_are_told() {
+    for (number, (told, library)) in FAULTS_OF_SPARE.into_iter().enumerate() {
+        for report in [report_of_singles(library), report_of_histories(library)] {
+            assert!(report.contains(told), "fault {number}: {report}");
+        }
     }
 }
 
@@ -461,8 +558,11 @@ fn pairs_that_are_not_met_or_not_allowed_are_faults() {
     for _ in 0..10_000 {
         tally.note(&Call::Check, None);
     }
-    let too_rare = rows().count() - 1 + lines;
+    let too_rare = rows().count() - 1 + lines + DEEDS.len();
     assert_eq!(tally.faults().len(), LINES.len() + too_rare);
+    tally.note_deed(None);
+    tally.note_deed(Some(DEEDS[0]));
+    assert_eq!(tally.faults().len(), LINES.len() + too_rare - 1);
     assert!(!allows("check", Some(LINES[0].refusal)));
 }
 
@@ -509,6 +609,42 @@ fn the_history_tells_invented_answers() {
     let free = files.free();
     assert!(followed(&mut files, Call::FreeSpace, free + 1, &[]).is_err());
     assert!(followed(&mut files, Call::FreeSpace, free, &[]).is_ok());
+}
+
+/// A history of FE with one file of a byte and five clusters, open at place 0.
+fn with_spare_clusters() -> Files {
+    let mut plan = Plan::blank(&KINDS[0]);
+    let file = File {
+        slot: 0,
+        clusters: vec![9, 8, 7, 6, 5],
+        content: vec![1],
+    };
+    plan.add_file(file, *b"A          ", 0, 0xFFF);
+    let mut table = [0; 16];
+    table[..2].copy_from_slice(&[1, 2]);
+    Files::of(&plan, &table)
+}
+
+/// So many bytes at the file's begin, and the free and held clusters then.
+#[test]
+fn the_history_counts_spare_clusters() {
+    let all = 313 * 512;
+    for (length, held) in [(0, 5), (1, 5), (2000, 5), (2560, 5), (2561, 6), (all, 313)] {
+        let mut files = with_spare_clusters();
+        assert_eq!([files.free(), files.held()], [308, 5]);
+        let (handle, data) = (0, vec![2; length]);
+        let write = Call::Write { handle, data };
+        assert!(followed(&mut files, write, length as u32, &[]).is_ok());
+        assert_eq!([files.free(), files.held()], [313 - held, held]);
+    }
+    // All its clusters are in the room, and all become free with it.
+    let mut files = with_spare_clusters();
+    let (handle, data) = (0, vec![2; all + 1]);
+    let write = Call::Write { handle, data };
+    assert!(followed(&mut files, write, all as u32, &[]).is_ok());
+    let name = b"A".to_vec();
+    assert!(followed(&mut files, Call::Delete { name }, 0, &[]).is_ok());
+    assert_eq!([files.free(), files.held()], [313, 0]);
 }
 
 #[test]

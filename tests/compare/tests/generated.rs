@@ -4,14 +4,17 @@ mod common;
 
 use std::ops::RangeInclusive;
 
-use common::{halves, letter, words};
+use common::{halves, letter, words, Desk};
+use compare::volume::answer::number;
 use compare::volume::check::{examined_image, examined_system_area, Counts, Sound};
 use compare::volume::kind::{Kind, KINDS};
 use compare::volume::{check, check_system};
 use compare::volumes::bad_or_reserved::{sorts, SORTS};
 use compare::volumes::broken::{break_copies, break_kind, break_plan};
+use compare::volumes::chains;
 use compare::volumes::damage::{flip_byte, flip_root_byte, flip_table_byte, lengths};
-use compare::volumes::plan::Plan;
+use compare::volumes::mixed::mixed_image;
+use compare::volumes::plan::{File, Plan};
 use compare::volumes::random::Random;
 use compare::volumes::sound::{sound_plan, sound_plan_of};
 
@@ -74,6 +77,10 @@ fn features(plan: &Plan) -> Vec<bool> {
     let is_live = |slot: &&[u8; 32]| slot[0] != 0 && slot[0] != 0xE5;
     let any_live = |test: fn(&[u8; 32]) -> bool| plan.slots.iter().filter(is_live).any(test);
     let any_value = |low, high| plan.values.iter().any(|value| (low..=high).contains(value));
+    let any_file = |test: fn(usize, &File) -> bool| {
+        let mut files = plan.files.iter();
+        files.any(|file| test(file.needed(plan.kind), file))
+    };
     let jumps = |pair: &[u16]| pair[1] != pair[0] + 1;
     let last = plan.kind.last_cluster() + 1;
     let mut features = vec![
@@ -94,6 +101,10 @@ fn features(plan: &Plan) -> Vec<bool> {
         plan.slots.iter().all(|slot| slot[0] != 0),
         plan.files.is_empty(),
         plan.free_clusters().is_empty(),
+        any_file(|needed, file| 0 < needed && needed + 1 == file.clusters.len()),
+        any_file(|needed, file| 0 < needed && needed + 4 < file.clusters.len()),
+        any_file(|needed, file| needed == 0 && !file.clusters.is_empty()),
+        any_file(|needed, file| needed == 0 && file.clusters.is_empty()),
     ];
     features.extend(sorts(&plan.values));
     features
@@ -102,7 +113,7 @@ fn features(plan: &Plan) -> Vec<bool> {
 #[test]
 fn sound_volumes_show_all_features() {
     for kind in &KINDS {
-        let mut times = [0; 13 + SORTS.len()];
+        let mut times = [0; 17 + SORTS.len()];
         for seed in 0..ROUNDS {
             let features = features(&sound_plan_of(kind, &mut Random::new(seed)));
             assert_eq!(features.len(), times.len());
@@ -129,6 +140,96 @@ fn sorts_of_bad_and_reserved_clusters() {
     assert_eq!(named(&[0xFF6]), "reserved only, FF6");
     assert_eq!(named(&[0xFF7, 0xFF3]), "both, FF7");
     assert_eq!(named(&[0xFF0, 0xFF6, 0xFF7]), "both, FF0, FF6, FF7");
+}
+
+/// FE: LONG with clusters 2, 3 and 4 in slot 0, SHORT with 5 in slot 1.
+fn long_and_short() -> Desk {
+    let mut desk = Desk::new(0xFE);
+    desk.put("LONG", &[1; 1536]);
+    desk.put("SHORT", &[2; 512]);
+    desk
+}
+
+type Change = fn(&mut Desk);
+
+/// SHORT has size 0, and its cluster names this one.
+fn empty_short(desk: &mut Desk, next: u16) {
+    desk.slot(1)[29] = 0;
+    desk.set_value(5, next);
+}
+
+/// Cluster 4 is spare in LONG, and in SHORT too.
+fn both_spare(desk: &mut Desk) {
+    desk.slot(0)[29] = 4;
+    desk.set_value(5, 4);
+}
+
+/// The sort of the volume after a change of the two files.
+fn sort_after(change: Change) -> String {
+    let mut desk = long_and_short();
+    change(&mut desk);
+    let (finding, place) = desk.check();
+    let sorts = chains::sorts(desk.kind(), &desk.image, finding, place);
+    let named = chains::SORTS.iter().zip(sorts).filter(|(_, is)| *is);
+    named.map(|(name, _)| *name).collect::<Vec<_>>().join("; ")
+}
+
+/// The comparison counts these sorts.
+#[test]
+fn sorts_of_chains() {
+    let [spare, size_0, start_0, start_1, past, endless, short, ring, nowhere, both, one] =
+        chains::SORTS;
+    let cases: [(Change, &str); 21] = [
+        (|_| (), ""),
+        (|desk| desk.slot(0)[29] = 4, spare),
+        (|desk| desk.slot(0)[29] = 0, size_0),
+        (|desk| desk.slot(0)[26] = 0, start_0),
+        (
+            |desk| desk.slot(1)[26..30].copy_from_slice(&[1, 0, 0, 0]),
+            start_1,
+        ),
+        (|desk| desk.slot(1)[26] = 1, ""),
+        (|desk| desk.slot(1)[27] = 16, past),
+        (
+            |desk| desk.slot(1)[26..30].copy_from_slice(&[9, 0, 0, 0]),
+            endless,
+        ),
+        (|desk| empty_short(desk, 5), endless),
+        (|desk| desk.slot(0)[26] = 3, short),
+        (|desk| desk.slot(0)[29] = 7, short),
+        (|desk| desk.set_value(4, 2), ring),
+        (|desk| desk.set_value(3, 2), ""),
+        (|desk| desk.set_value(4, 0xFF7), nowhere),
+        (|desk| desk.set_value(4, 9), nowhere),
+        (|desk| desk.set_value(3, 0), ""),
+        (|desk| empty_short(desk, 4), one),
+        (|desk| desk.set_value(5, 4), one),
+        (both_spare, both),
+        (|desk| desk.slot(1)[26] = 4, ""),
+        (|desk| desk.set_value(200, 0xFFF), ""),
+    ];
+    for (number, (change, sort)) in cases.into_iter().enumerate() {
+        assert_eq!(sort_after(change), sort, "case {number}");
+    }
+}
+
+/// The seeds of the comparison have volumes of each of these sorts, at least
+/// one in a thousand.
+#[test]
+fn mixed_volumes_have_chains_of_each_sort() {
+    let count = 3000;
+    let mut times = [0; chains::SORTS.len()];
+    for seed in 0..count {
+        let image = mixed_image(seed);
+        let (finding, place) = halves(check(&image, &mut []));
+        if let Some(kind) = Kind::of_image(&image) {
+            let sorts = chains::sorts(kind, &image, finding, place);
+            for (times, is) in times.iter_mut().zip(sorts) {
+                *times += u64::from(is);
+            }
+        }
+    }
+    assert!(times.iter().all(|&times| times >= count / 500), "{times:?}");
 }
 
 #[test]
@@ -255,6 +356,54 @@ fn broken_heaps_show_what_the_letter_says() {
             assert_as_by_the_letter(&plan.image(), seed);
         }
     }
+}
+
+/// Chains that run together everywhere: each cluster names one above it, or one
+/// of them one below, and files start anywhere. Most sizes need as many clusters
+/// as the chain has, or one or two fewer; a few one too many.
+fn tangled_plan(random: &mut Random) -> Plan {
+    let mut plan = Plan::blank(random.pick(&KINDS));
+    let last = plan.kind.last_cluster();
+    let farthest = random.between(1, 40);
+    for cluster in 2..=last {
+        let next = cluster + random.between(1, farthest);
+        plan.values[cluster] = if next <= last { next as u16 } else { 0xFFF };
+    }
+    if random.one_in(4) {
+        let cluster = random.between(2, last);
+        plan.values[cluster] = random.between(2, cluster) as u16;
+    }
+    for slot in 0..random.between(2, plan.slots.len()) {
+        let start = random.between(2, last);
+        let length = length_from(&plan, start);
+        let other = length.saturating_sub(random.between(1, 2));
+        let one_more = length + usize::from(random.one_in(100));
+        let needed = *random.pick(&[one_more, one_more, other]);
+        let size = (needed * plan.kind.cluster_bytes()) as u32;
+        let entry = &mut plan.slots[slot];
+        entry[..11].copy_from_slice(format!("F{slot:<10}").as_bytes());
+        entry[26..28].copy_from_slice(&(start as u16).to_le_bytes());
+        entry[28..32].copy_from_slice(&size.to_le_bytes());
+    }
+    plan
+}
+
+/// How many clusters come one after the other, at most all of them.
+fn length_from(plan: &Plan, start: usize) -> usize {
+    let next = |&cluster: &usize| Some(usize::from(plan.values[cluster])).filter(|&n| n < 0xFF8);
+    let clusters = std::iter::successors(Some(start), next);
+    clusters.take(plan.kind.clusters()).count()
+}
+
+#[test]
+fn chains_that_run_together_show_what_the_letter_says() {
+    let mut findings = [0; 8];
+    for seed in 0..2 * ROUNDS {
+        let image = tangled_plan(&mut Random::new(seed)).image();
+        assert_as_by_the_letter(&image, seed);
+        findings[number(check(&image, &mut [])) as usize] += 1;
+    }
+    assert!(findings[5] >= 100 && findings[6] >= 100, "{findings:?}");
 }
 
 #[test]

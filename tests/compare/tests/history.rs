@@ -5,6 +5,7 @@ mod common;
 use std::collections::BTreeMap;
 
 use common::model::Model;
+use compare::comparison::deeds::{deed, DEEDS};
 use compare::volume::answer::{packed, value};
 use compare::volume::{check, view, view_number};
 use compare::volumes::broken::{break_kind, break_plan};
@@ -38,17 +39,23 @@ fn step(call: &Call, model: &mut Model, scene: &mut Scene, note: &str) -> u64 {
     answer
 }
 
-/// How often each refusal number came up, and each call ended well.
+/// How often each refusal number came up, each call ended well, and calls did
+/// what with spare clusters.
 #[derive(Debug, Default)]
 struct Tally {
     numbers: BTreeMap<u64, u64>,
     ended_well: BTreeMap<&'static str, u64>,
+    deeds: BTreeMap<&'static str, u64>,
 }
 
 impl Tally {
     fn note(&mut self, call: &Call, answer: u64) {
         *self.numbers.entry(answer >> 32).or_default() += 1;
         *self.ended_well.entry(call.name()).or_default() += u64::from(answer >> 32 == 0);
+    }
+
+    fn note_deed(&mut self, deed: &'static str) {
+        *self.deeds.entry(deed).or_default() += 1;
     }
 }
 
@@ -67,8 +74,12 @@ fn run_history(seed: u64, tally: &mut Tally) {
         let call = random_call(kind, &scene, &mut random);
         scene.buffer = buffer_for(&call, &mut random);
         let note = format!("seed {seed}, call {number}:");
+        let before = scene.image.clone();
         let answer = step(&call, &mut model, &mut scene, &note);
         tally.note(&call, answer);
+        if let Some(deed) = deed(&call, &before, &scene.image) {
+            tally.note_deed(deed);
+        }
     }
     assert_eq!(check(&scene.image, &mut []), 0);
     compare_views(&model.plan, &scene.image);
@@ -92,6 +103,8 @@ fn histories_as_the_model_has_them() {
         tally.ended_well.values().all(|&times| times >= 10),
         "{tally:?}"
     );
+    assert_eq!(tally.deeds.len(), DEEDS.len(), "{tally:?}");
+    assert!(tally.deeds.values().all(|&times| times >= 5), "{tally:?}");
 }
 
 /// All views of a file together are its content.

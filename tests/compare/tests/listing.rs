@@ -107,6 +107,23 @@ fn bad_and_reserved_clusters() {
     }
 }
 
+/// Spare clusters are held; the size and the start are as stored.
+#[test]
+fn spare_clusters() {
+    let mut desk = Desk::new(0xFE);
+    desk.put("A", &[1; 1025]);
+    desk.put("B", b"");
+    desk.slot(0)[28..30].copy_from_slice(&[1, 0]);
+    desk.slot(1)[26] = 9;
+    desk.set_value(9, 0xFF8);
+    let stamp = "date=1983-09-01\ntime=06:40:00\n";
+    let text = format!(
+        "sound=yes\nkind=FE\nclusters=313\nfree=309\nheld=4\nbad=0\nreserved=0\nfiles=2\n\
+        file=A\nattr=20\nsize=1\nstart=2\n{stamp}file=B\nattr=00\nsize=0\nstart=9\n{stamp}"
+    );
+    assert_eq!(listing(&desk.image), text);
+}
+
 #[test]
 fn findings() {
     assert_eq!(listing(&[]), "sound=no\nfinding=1\nplace=0\n");

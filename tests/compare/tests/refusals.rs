@@ -2,7 +2,7 @@
 
 mod common;
 
-use common::{halves, Desk, MORNING};
+use common::{halves, record, Desk, MORNING};
 use compare::volume::{entry, format, free_space, view, view_number};
 
 const BAD_STAMP: [u32; 6] = [24, 0, 0, 0, 1, 1];
@@ -30,6 +30,55 @@ fn sick() -> Desk {
     let mut desk = desk();
     desk.image[1024 + 511] ^= 1;
     desk
+}
+
+/// The same volume, PLAIN with a spare cluster behind its own, 2.
+fn reserving() -> Desk {
+    let mut desk = desk();
+    desk.set_value(2, 9);
+    desk.set_value(9, 0xFFF);
+    desk
+}
+
+/// Makes a call, and answers its number; the value is put aside where it is not
+/// always 0.
+type Made = fn(&mut Desk) -> (u32, u32);
+
+/// A spare cluster is no reason to refuse; a chain without end is, though it
+/// has as many clusters as the size needs.
+#[test]
+fn longer_chains_are_sound_while_they_end() {
+    let calls: [Made; 12] = [
+        |desk| (halves(free_space(&desk.image, &mut [])).0, 0),
+        |desk| desk.find(b"PLAIN", 0, 0),
+        |desk| (desk.open("PLAIN", 2).0, 0),
+        |desk| (desk.create("PLAIN", 0).0, 0),
+        |desk| (desk.read(0, &mut [0; 9]).0, 0),
+        |desk| (desk.write(1, b"x").0, 0),
+        |desk| desk.seek(0, 0, 0),
+        |desk| desk.close(0),
+        |desk| desk.delete("PLAIN"),
+        |desk| desk.rename("PLAIN", "NEW"),
+        |desk| desk.mode("PLAIN", 1, 0),
+        |desk| halves(view_number(&desk.image, b"PLAIN", 0)),
+    ];
+    let without_end: [fn(&mut Desk); 4] = [
+        |desk| desk.set_value(9, 9),
+        |desk| desk.set_value(9, 2),
+        |desk| desk.set_value(9, 0),
+        |desk| desk.set_value(9, 0xFF7),
+    ];
+    for call in calls {
+        let mut desk = reserving();
+        // A place for the write.
+        desk.record(1).copy_from_slice(&record(1, 1, 0, 2, 0));
+        assert_eq!(call(&mut desk), (0, 0));
+        for spoil in without_end {
+            let mut desk = reserving();
+            spoil(&mut desk);
+            desk.refuses(41, call);
+        }
+    }
 }
 
 #[test]

@@ -106,24 +106,23 @@ fn other_findings_are_no_hindrance() {
 
 #[test]
 fn chains_that_do_not_fit_the_size() {
-    let spoilt: [fn(&mut Desk); 15] = [
+    let spoilt: [fn(&mut Desk); 14] = [
         // A start of 0, 1, past the last cluster, or with bits above the 12.
         |desk| desk.slot(0)[26] = 0,
         |desk| desk.slot(0)[26] = 1,
         |desk| desk.slot(0)[26..28].copy_from_slice(&315_u16.to_le_bytes()),
         |desk| desk.slot(0)[27] = 0x10,
         // A value that is free, reserved, bad or nothing, too early an end, a
-        // chain that goes on, one that circles.
+        // chain that goes on to nothing, one that circles.
         |desk| set(desk, 3, 0),
         |desk| set(desk, 4, 0xFF0),
         |desk| set(desk, 4, 0xFF6),
         |desk| set(desk, 4, 0xFF7),
         |desk| set(desk, 4, 1),
         |desk| set(desk, 3, 0xFFF),
-        |desk| set(desk, 4, 5),
+        |desk| set(desk, 4, 6),
         |desk| set(desk, 4, 2),
-        // A size that needs a cluster less or more, or more than there are.
-        |desk| desk.slot(0)[29] = 2,
+        // A size that needs a cluster more, or more than there are.
         |desk| desk.slot(0)[29] = 6,
         |desk| desk.slot(0)[28..32].fill(0xFF),
     ];
@@ -133,14 +132,45 @@ fn chains_that_do_not_fit_the_size() {
         refuses(&desk, b"TARE", 5);
         gives(&desk, b"DAY", &[9; 512]);
     }
-    // Size 0 with a start that is not 0; and each end value is one.
+    // Each end value is one.
     let mut desk = desk();
-    desk.slot(2)[26] = 9;
-    refuses(&desk, b"EMPTY", 5);
     for end in 0xFF8..=0xFFF {
         set(&mut desk, 4, end);
         gives(&desk, b"TARE", &content());
     }
+}
+
+/// The size may need fewer clusters than the chain has, but to its end the
+/// chain must be good.
+#[test]
+fn chains_longer_than_the_size_needs() {
+    let mut desk = desk();
+    // Into the other file's cluster, which is shared then.
+    set(&mut desk, 4, 5);
+    gives(&desk, b"TARE", &content());
+    for size in [0, 1, 512, 513, 1024] {
+        desk.slot(0)[28..30].copy_from_slice(&(size as u16).to_le_bytes());
+        set(&mut desk, 4, 0xFFF);
+        gives(&desk, b"TARE", &content()[..size]);
+        for value in [0, 1, 2, 3, 4, 6, 315, 0xFF0, 0xFF7] {
+            set(&mut desk, 4, value);
+            refuses(&desk, b"TARE", 5);
+        }
+    }
+}
+
+#[test]
+fn size_0_with_a_start() {
+    let mut desk = desk();
+    for start in [1, 9, 314, 315, 0xFF0, 0xFF8, 0xFFF, 0x1002] {
+        desk.slot(2)[26..28].copy_from_slice(&u16::to_le_bytes(start));
+        refuses(&desk, b"EMPTY", 5);
+    }
+    desk.slot(2)[26..28].copy_from_slice(&[9, 0]);
+    set(&mut desk, 9, 0xFF8);
+    gives(&desk, b"EMPTY", b"");
+    set(&mut desk, 9, 9);
+    refuses(&desk, b"EMPTY", 5);
 }
 
 #[test]

@@ -2,6 +2,9 @@
 
 mod common;
 
+use std::hint::black_box;
+use std::time::Instant;
+
 use common::{expect_words, halves, Desk};
 use compare::volume::kind::{Kind, KINDS};
 use compare::volume::table::{is_bad, is_end, is_reserved};
@@ -152,10 +155,10 @@ fn second_labels_and_equal_names() {
 
 #[test]
 fn starts_and_sizes() {
-    for start in [0, 1, 3, 5, 6, 315, 0x1002, 0xFFFF] {
+    for start in [0, 1, 3, 5, 6, 315, 0xFF8, 0xFFF, 0x1002, 0xFFFF] {
         assert_eq!(after(|desk| put_start(desk, 0, start)), (5, 0));
     }
-    for size in [0, 1, 512, 1024, 1537, 0xFFFF_FE01, u32::MAX] {
+    for size in [1537, 0xFFFF_FE01, u32::MAX] {
         assert_eq!(after(|desk| put_size(desk, 0, size)), (5, 0));
     }
     // As many clusters again, were they counted in 16 bits.
@@ -166,14 +169,131 @@ fn starts_and_sizes() {
         put_start(desk, 0, 0);
     };
     assert_eq!(after(wrapped), (5, 0));
-    for size in [1025, 1536] {
-        assert_eq!(after(|desk| put_size(desk, 0, size)), (0, 0));
-    }
     let none = |desk: &mut Desk| {
         put_size(desk, 1, 0);
         put_start(desk, 1, 0);
     };
     assert_eq!(after(none), (7, 5));
+}
+
+/// Sizes that need none, some or all of the three clusters of LONG.
+const SIZES: [u32; 8] = [0, 1, 512, 513, 1024, 1025, 1535, 1536];
+
+#[test]
+fn a_chain_may_be_longer_than_the_size_needs() {
+    for size in SIZES {
+        let mut desk = desk();
+        put_size(&mut desk, 0, size);
+        assert_eq!(desk.counts(), [2, 309, 4, 0, 0], "size {size}");
+        // Cut off behind what the size needs, the rest is in no chain.
+        let needed = size.div_ceil(512);
+        match needed {
+            0 => put_start(&mut desk, 0, 0),
+            _ => desk.set_value(needed as u16 + 1, 0xFFF),
+        }
+        let lost = if needed < 3 { (7, needed + 2) } else { (0, 0) };
+        assert_eq!(desk.check(), lost, "size {size}");
+    }
+}
+
+#[test]
+fn a_chain_without_end_is_broken_behind_enough_clusters_too() {
+    for size in SIZES {
+        let with = |cluster, value| {
+            after(|desk| {
+                put_size(desk, 0, size);
+                desk.set_value(cluster, value);
+            })
+        };
+        for (cluster, ring) in [(4, 4), (4, 3), (4, 2), (3, 3), (3, 2), (2, 2)] {
+            assert_eq!(with(cluster, ring), (5, 0), "size {size}");
+        }
+        for cluster in [2, 3, 4] {
+            for value in [0].into_iter().chain(0xFF0..=0xFF7) {
+                assert_eq!(with(cluster, value), (5, 0), "size {size}");
+            }
+            // On to a cluster that is free.
+            assert_eq!(with(cluster, 6), (5, 0), "size {size}");
+        }
+        for end in 0xFF8..=0xFFF {
+            assert_eq!(with(4, end), (0, 0), "size {size}");
+        }
+    }
+}
+
+/// The two files, and in slot 2 one of size 0 with this start, after some
+/// values were set.
+fn with_size_0(start: u16, values: &[(u16, u16)]) -> Desk {
+    let mut desk = desk();
+    desk.put("EMPTY", b"");
+    put_start(&mut desk, 2, start);
+    for &(cluster, value) in values {
+        desk.set_value(cluster, value);
+    }
+    desk
+}
+
+#[test]
+fn size_0_may_have_a_whole_chain() {
+    assert_eq!(with_size_0(0, &[]).counts(), [3, 309, 4, 0, 0]);
+    let chains: [&[(u16, u16)]; 3] = [
+        &[(9, 0xFF8)],
+        &[(9, 6), (6, 0xFFF)],
+        &[(9, 314), (314, 6), (6, 0xFFB)],
+    ];
+    for (length, chain) in (1..).zip(chains) {
+        let counts = with_size_0(9, chain).counts();
+        assert_eq!(counts, [3, 309 - length, 4 + length, 0, 0]);
+        assert_eq!(with_size_0(0, chain).check().0, 7);
+    }
+}
+
+#[test]
+fn size_0_with_a_start_but_no_whole_chain() {
+    // No cluster, or one that is free, bad or reserved.
+    for start in [1, 6, 314, 315, 0xFF0, 0xFF7, 0xFF8, 0xFFF, 0x1000, 0x1005] {
+        assert_eq!(with_size_0(start, &[]).check(), (5, 2), "start {start}");
+    }
+    for value in 0xFF0..=0xFF7 {
+        assert_eq!(with_size_0(9, &[(9, value)]).check(), (5, 2));
+        assert_eq!(with_size_0(9, &[(9, 8), (8, value)]).check(), (5, 2));
+    }
+    // Rings, and a chain that goes on to a free cluster.
+    assert_eq!(with_size_0(9, &[(9, 9)]).check(), (5, 2));
+    assert_eq!(with_size_0(9, &[(9, 8), (8, 9)]).check(), (5, 2));
+    assert_eq!(with_size_0(9, &[(9, 8), (8, 8)]).check(), (5, 2));
+    assert_eq!(with_size_0(9, &[(9, 8)]).check(), (5, 2));
+    // The other files' clusters make a chain that is whole, but shared.
+    assert_eq!(with_size_0(4, &[]).check(), (6, 4));
+    assert_eq!(with_size_0(2, &[]).check(), (6, 2));
+    assert_eq!(with_size_0(9, &[(9, 5)]).check(), (6, 5));
+}
+
+#[test]
+fn shared_clusters_that_are_spare() {
+    // LONG needs so many bytes of 2, 3 and 4; SHORT goes on from 5, or begins
+    // elsewhere.
+    let sharing = |long: u32, short: u32, start: u16, next: u16| {
+        after(|desk| {
+            put_size(desk, 0, long);
+            put_size(desk, 1, short);
+            put_start(desk, 1, start);
+            desk.set_value(5, next);
+        })
+    };
+    for (long, short) in [(512, 512), (0, 0), (0, 512), (512, 0)] {
+        assert_eq!(sharing(long, short, 5, 4), (6, 4), "spare in both");
+        assert_eq!(sharing(long, short, 5, 3), (6, 3), "spare in both");
+    }
+    assert_eq!(sharing(1025, 512, 5, 4), (6, 4), "spare in SHORT");
+    assert_eq!(sharing(1025, 0, 5, 2), (6, 2), "spare in SHORT");
+    assert_eq!(sharing(1024, 513, 5, 4), (6, 4), "spare in LONG");
+    // Cluster 5 is then in no chain, but 6 comes before 7.
+    assert_eq!(sharing(1024, 512, 4, 0xFFF), (6, 4), "spare in LONG");
+    assert_eq!(sharing(0, 1025, 2, 0xFFF), (6, 2), "spare in LONG");
+    // A chain that runs into another must be long enough all the same.
+    assert_eq!(sharing(512, 1025, 5, 4), (5, 1));
+    assert_eq!(sharing(512, 1025, 5, 3), (6, 3));
 }
 
 #[test]
@@ -206,6 +326,65 @@ fn the_lowest_of_all_shared_clusters() {
     assert_eq!(desk.check(), (6, 3));
     put_size(&mut desk, 2, 512 * 4);
     assert_eq!(desk.check(), (5, 2));
+}
+
+/// FD: 112 files that begin one cluster after the other in one chain of all
+/// clusters, the last of them with this size.
+fn one_chain_for_all(last_size: u32) -> Desk {
+    let mut desk = Desk::new(0xFD);
+    for cluster in 2..355 {
+        desk.set_value(cluster, cluster + 1);
+    }
+    desk.set_value(355, 0xFFF);
+    for slot in 0..112 {
+        desk.slot(slot)[..11].copy_from_slice(format!("F{slot:<10}").as_bytes());
+        // From the back, so that each walk adds to those before it.
+        put_start(&mut desk, slot, 113 - slot as u16);
+        put_size(&mut desk, slot, 1024 * (243 + slot as u32));
+    }
+    put_size(&mut desk, 111, last_size);
+    desk
+}
+
+#[test]
+fn many_files_in_one_chain() {
+    let all = 354 * 1024;
+    for size in [0, 1, all - 1024, all] {
+        assert_eq!(one_chain_for_all(size).check(), (6, 3), "size {size}");
+    }
+    assert_eq!(one_chain_for_all(all + 1).check(), (5, 111));
+    // A second file from the same cluster.
+    let mut desk = one_chain_for_all(all);
+    put_start(&mut desk, 110, 2);
+    assert_eq!(desk.check(), (6, 2));
+}
+
+/// FD: 112 files of three clusters, each its own.
+fn each_its_own_chain() -> Desk {
+    let mut desk = Desk::new(0xFD);
+    for slot in 0..112 {
+        desk.put(&format!("F{slot}"), &[1; 3 * 1024]);
+    }
+    desk
+}
+
+/// The shortest time of a check, in nanoseconds.
+fn time_of_check(desk: &Desk) -> u128 {
+    let time = |_| {
+        let begin = Instant::now();
+        black_box(desk.check());
+        begin.elapsed().as_nanos()
+    };
+    (0..300).map(time).min().unwrap_or(0)
+}
+
+/// Were each of the 112 chains walked to its end, it would take many times as
+/// long.
+#[test]
+fn one_chain_for_all_files_is_not_walked_by_each() {
+    let apart = time_of_check(&each_its_own_chain());
+    let together = time_of_check(&one_chain_for_all(0));
+    assert!(together <= 12 * apart, "{together} ns, apart {apart} ns");
 }
 
 #[test]

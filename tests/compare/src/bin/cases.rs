@@ -177,6 +177,25 @@ fn values(cases: &mut Vec<Case>) {
     cases.push(("values".into(), area(&plan)));
 }
 
+/// Files with spare clusters, and one of size 0 with a chain, on each kind.
+fn spare(cases: &mut Vec<Case>) {
+    for kind in &KINDS {
+        let mut plan = Plan::blank(kind);
+        for (slot, size) in [0, 1, kind.cluster_bytes(), 0].into_iter().enumerate() {
+            let first = 9 * slot as u16 + 2;
+            let file = File {
+                slot,
+                clusters: (first..first + slot as u16 + 1).rev().collect(),
+                content: vec![1; size],
+            };
+            let mut name = *b"SPARE0     ";
+            name[5] += slot as u8;
+            plan.add_file(file, name, 0, 0xFFF);
+        }
+        cases.push((format!("spare-{:02X}", kind.byte), area(&plan)));
+    }
+}
+
 /// Findings 2 to 7, some of each, of all kinds.
 fn findings(cases: &mut Vec<Case>) {
     for (turn, kind) in (0..).zip(KINDS.iter().cycle().take(8)) {
@@ -207,7 +226,9 @@ fn main() -> std::io::Result<()> {
     let folder = std::env::args().nth(1).expect("cases FOLDER");
     let folder = Path::new(&folder);
     let mut cases = vec![("empty".to_string(), Vec::new())];
-    for add in [blanks, names, stamps, labels, values, findings, mixed] {
+    for add in [
+        blanks, names, stamps, labels, values, spare, findings, mixed,
+    ] {
         add(&mut cases);
     }
     std::fs::write(folder.join("paper.in"), paper())?;

@@ -16,11 +16,11 @@ use compare::comparison::both::halves;
 use compare::comparison::guarded::{Guarded, GUARD};
 use compare::comparison::search::{compare_search, listed};
 use compare::comparison::seeds::over_seeds;
-use compare::volume::answer::number;
+use compare::volume::answer::{number, value};
 use compare::volume::kind::{Kind, KINDS, SECTOR};
-use compare::volume::table::values;
-use compare::volumes::bad_or_reserved::{sorts, SORTS};
+use compare::volumes::bad_or_reserved;
 use compare::volumes::calls::{perform, perform_on_archive, Scene};
+use compare::volumes::chains;
 use compare::volumes::finds::{random_find, Search};
 use compare::volumes::mixed::{mixed_image, IN_TURN};
 use compare::volumes::random::Random;
@@ -37,8 +37,8 @@ const LEAST: u64 = 500;
 const LEAST_ENDINGS: u64 = 20;
 
 /// Sound volumes of each sort of bad and reserved clusters must be met this
-/// often, and so must each length of `out` on sound volumes; in a short run,
-/// once in a thousand volumes.
+/// often, and so must volumes with each sort of chains, and each length of `out`
+/// on sound volumes; in a short run, once in a thousand volumes.
 const LEAST_SORTS: u64 = 100;
 
 /// The bytes of check's counts. Free space puts fewer.
@@ -61,8 +61,9 @@ struct Trial {
     plain: Vec<u8>,
     archive: Guarded,
     random: Random,
-    /// What check finds; 0 is sound.
+    /// What check finds, and where; 0 is sound.
     finding: u32,
+    place: u32,
     /// The length of `out` whose turn it is.
     out: usize,
     calls: u64,
@@ -78,9 +79,11 @@ struct Trial {
 impl Trial {
     fn new(seed: u64) -> Trial {
         let plain = mixed_image(seed);
+        let checked = volume::check(&plain, &mut []);
         Trial {
             archive: Guarded::new(&plain, GUARD),
-            finding: number(volume::check(&plain, &mut [])),
+            finding: number(checked),
+            place: value(checked),
             plain,
             random: Random::new(!seed),
             // Volumes of all sorts have this length, and then the next.
@@ -289,13 +292,14 @@ fn ending(numbers: &[u32; 5], answer: u64) -> usize {
     found.expect("a call answers one of its numbers")
 }
 
-/// What was met: volumes by their finding (0: sound), sound ones by kind and by
-/// their bad and reserved clusters, readers on sound volumes by the length of
-/// `out`, how rescue ended on sound volumes and on others, how find ended, and
-/// searches with the slots that they listed.
+/// What was met: volumes by their finding (0: sound) and by their chains, sound
+/// ones by kind and by their bad and reserved clusters, readers on sound volumes
+/// by the length of `out`, how rescue ended on sound volumes and on others, how
+/// find ended, and searches with the slots that they listed.
 #[derive(Default)]
 struct Met {
     findings: [u64; 8],
+    chains: [u64; 11],
     sound: [u64; 4],
     sorts: [u64; 6],
     outs: [[u64; OUTS]; 3],
@@ -310,11 +314,16 @@ impl Met {
     fn of(trial: &Trial) -> Met {
         let mut met = Met::default();
         met.findings[trial.finding as usize] = 1;
-        if let (0, Some(kind)) = (trial.finding, Kind::of_image(&trial.plain)) {
+        let Some(kind) = Kind::of_image(&trial.plain) else {
+            return met;
+        };
+        let chains = chains::sorts(kind, &trial.plain, trial.finding, trial.place);
+        met.chains = chains.map(u64::from);
+        if trial.finding == 0 {
             met.sound = KINDS.each_ref().map(|other| u64::from(other == kind));
-            let values = values(kind, &trial.plain[kind.copy_at(0)..]);
+            let values = chains::table(kind, &trial.plain);
             let clusters = &values[2..=kind.last_cluster()];
-            met.sorts = sorts(clusters).map(u64::from);
+            met.sorts = bad_or_reserved::sorts(clusters).map(u64::from);
         }
         met
     }
@@ -324,6 +333,7 @@ impl Met {
             to.iter_mut().zip(more).for_each(|(to, more)| *to += more);
         };
         add(&mut self.findings, &other.findings);
+        add(&mut self.chains, &other.chains);
         add(&mut self.sound, &other.sound);
         add(&mut self.sorts, &other.sorts);
         for (to, more) in self.outs.iter_mut().zip(&other.outs) {
@@ -343,13 +353,16 @@ impl Met {
             .map(|(kind, times)| format!("{:02X}: {times}", kind.byte))
             .collect();
         println!("sound: {} ({})", self.findings[0], kinds.join(", "));
-        let sorts = SORTS.iter().zip(self.sorts);
+        let sorts = bad_or_reserved::SORTS.iter().zip(self.sorts);
         let sorts: Vec<String> = sorts
             .map(|(sort, times)| format!("{sort}: {times}"))
             .collect();
         println!("sound, with clusters bad or reserved: {}", sorts.join(", "));
         for (finding, times) in self.findings.iter().enumerate().skip(1) {
             println!("finding {finding}: {times}");
+        }
+        for (sort, times) in chains::SORTS.iter().zip(self.chains) {
+            println!("{sort}: {times}");
         }
         for ((name, ..), outs) in READERS.iter().zip(&self.outs) {
             let longest = OUTS - 1;
@@ -369,6 +382,7 @@ impl Met {
         let sorts = LEAST_SORTS.min(count / 1000);
         self.rare_finding(LEAST.min(count / 20))
             .or_else(|| self.rare_sort(sorts))
+            .or_else(|| self.rare_chain(sorts))
             .or_else(|| self.rare_out(sorts))
             .or_else(|| self.rare_ending(LEAST_ENDINGS.min(count / 1000)))
     }
@@ -384,7 +398,15 @@ impl Met {
         let sort = self.sorts.iter().position(|&times| times < volumes)?;
         Some(format!(
             "fewer than {volumes} sound volumes had clusters bad or reserved so: {}",
-            SORTS[sort]
+            bad_or_reserved::SORTS[sort]
+        ))
+    }
+
+    fn rare_chain(&self, volumes: u64) -> Option<String> {
+        let sort = self.chains.iter().position(|&times| times < volumes)?;
+        Some(format!(
+            "fewer than {volumes} volumes had chains so: {}",
+            chains::SORTS[sort]
         ))
     }
 

@@ -3,10 +3,11 @@
 //!
 //! Makes CALLS calls or more from the seeds SEED (0), SEED + 1 and so on: of
 //! each seed single calls on scenes of all sorts, and a history. It prints how
-//! often each call ended well and by each line of the refusal table; a pair
-//! that was met too rarely fails the run. The first difference is printed with
-//! its seed and ends it. With `bare` there are no guard bytes: each buffer ends
-//! where its bytes end, so that valgrind sees each access outside it.
+//! often each call ended well and by each line of the refusal table, and how
+//! often calls met spare clusters; what was met too rarely fails the run. The
+//! first difference is printed with its seed and ends it. With `bare` there are
+//! no guard bytes: each buffer ends where its bytes end, so that valgrind sees
+//! each access outside it.
 
 use std::process::ExitCode;
 

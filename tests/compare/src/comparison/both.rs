@@ -1,5 +1,6 @@
 //! One scene on both libraries, and calls made on both.
 
+use super::deeds::deed;
 use super::guarded::Guarded;
 use super::Library;
 use crate::volume::answer::Refusal;
@@ -22,6 +23,8 @@ pub struct Both {
 pub struct Ending {
     pub answer: u64,
     pub refusal: Option<Refusal>,
+    /// What it did with spare clusters.
+    pub deed: Option<&'static str>,
 }
 
 impl Both {
@@ -76,7 +79,15 @@ impl Both {
         if refusal.is_some() && (self.altered || self.others_altered()) {
             return Err(format!("{ending}, and the refusal altered something"));
         }
-        Ok(Ending { answer, refusal })
+        let deed = match refusal {
+            None => deed(call, &self.before.image, &self.plain.image),
+            Some(_) => None,
+        };
+        Ok(Ending {
+            answer,
+            refusal,
+            deed,
+        })
     }
 
     /// Whether the last call altered the table or the buffer.

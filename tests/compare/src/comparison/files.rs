@@ -1,9 +1,10 @@
 //! The contents of all files, kept by the history of calls alone.
 //!
-//! It knows no clusters, only how many there are: a file begins with the bytes
-//! it has on the first volume, or with none when it is created; a write puts as
-//! many bytes as it answers at the pointer, with zeros before them where that
-//! was past the size; delete ends the file. It follows the calls that ended
+//! It knows no clusters, only how many there are and how many a file has: a file
+//! begins with the bytes it has on the first volume, or with none when it is
+//! created; a write puts as many bytes as it answers at the pointer, with zeros
+//! before them where that was past the size, and takes new clusters only where
+//! the file has too few; delete ends the file. It follows the calls that ended
 //! well, and says where an answer does not fit what went before.
 
 use std::collections::BTreeMap;
@@ -21,6 +22,8 @@ pub struct File {
     pub slot: u32,
     pub attribute: u8,
     pub bytes: Vec<u8>,
+    /// How many it has, with those that its bytes do not need.
+    clusters: u32,
 }
 
 /// A used place of the open table.
@@ -85,6 +88,7 @@ impl Files {
                 slot: planned.slot as u32,
                 attribute: entry[11],
                 bytes: planned.content.clone(),
+                clusters: planned.clusters.len() as u32,
             };
             (name, file)
         };
@@ -101,10 +105,9 @@ impl Files {
         }
     }
 
-    /// The clusters that the files' bytes need.
+    /// The clusters that all files have together.
     pub fn held(&self) -> u32 {
-        let sizes = self.files.values().map(|file| file.bytes.len() as u32);
-        sizes.map(|size| self.kind.clusters_for(size)).sum()
+        self.files.values().map(|file| file.clusters).sum()
     }
 
     pub fn free(&self) -> u32 {
@@ -228,15 +231,13 @@ impl Files {
         if self.files.values().any(|file| file.slot == slot) {
             return Err("the history has a file in the new file's slot".to_string());
         }
-        let bytes = Vec::new();
-        self.files.insert(
-            name,
-            File {
-                slot,
-                attribute,
-                bytes,
-            },
-        );
+        let file = File {
+            slot,
+            attribute,
+            bytes: Vec::new(),
+            clusters: 0,
+        };
+        self.files.insert(name, file);
         Ok(())
     }
 
@@ -265,8 +266,7 @@ impl Files {
     fn write(&mut self, handle: u32, data: &[u8], count: u32) -> Followed {
         let (kind, free) = (self.kind, self.free());
         let (place, file) = self.live_but_for(0, handle)?;
-        let own = kind.clusters_for(file.bytes.len() as u32);
-        let room = (own + free) as usize * kind.cluster_bytes();
+        let room = (file.clusters + free) as usize * kind.cluster_bytes();
         let from = place.pointer as usize;
         let expected = data.len().min(room.saturating_sub(from));
         expect("bytes written", expected as u32, count)?;
@@ -274,6 +274,8 @@ impl Files {
             let end = from + expected;
             file.bytes.resize(end.max(file.bytes.len()), 0);
             file.bytes[from..end].copy_from_slice(&data[..expected]);
+            let needed = kind.clusters_for(file.bytes.len() as u32);
+            file.clusters = file.clusters.max(needed);
             place.pointer = end as u32;
             place.written = true;
         }

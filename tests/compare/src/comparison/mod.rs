@@ -4,9 +4,11 @@
 //! this package's tests the plain Rust with a fault. `both` makes one call on
 //! both and compares all that it can have touched; `singles`, `history` and
 //! `torn` choose the calls; `files` keeps the contents of all files beside a
-//! history; `search` lists by hand what a whole search must find.
+//! history; `search` lists by hand what a whole search must find; `deeds` tells
+//! what a call did with spare clusters.
 
 pub mod both;
+pub mod deeds;
 pub mod files;
 pub mod guarded;
 pub mod history;

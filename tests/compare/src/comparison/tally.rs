@@ -1,7 +1,9 @@
-//! How often each call ended well, and by each line of the refusal table.
+//! How often each call ended well, and by each line of the refusal table; how
+//! often calls met spare clusters.
 
 use std::collections::BTreeMap;
 
+use super::deeds::DEEDS;
 use super::lines::{allows, LINES};
 use crate::volume::answer::Refusal;
 use crate::volumes::calls::{Call, NAMES};
@@ -11,12 +13,19 @@ use crate::volumes::calls::{Call, NAMES};
 const LEAST: u64 = 20;
 const CALLS_FOR_ONE: u64 = 7500;
 
+/// Each deed on spare clusters must be met this often in a run of so many calls;
+/// in a shorter one, once in 8,000 calls.
+const LEAST_DEEDS: u64 = 100;
+const CALLS_OF_A_RUN: u64 = 200_000;
+const CALLS_FOR_ONE_DEED: u64 = 8000;
+
 /// The row of rescue on torn disks, below those of the calls.
 pub const TORN: &str = "rescue_torn";
 
 #[derive(Default)]
 pub struct Tally {
     met: BTreeMap<(&'static str, Option<Refusal>), u64>,
+    deeds: BTreeMap<&'static str, u64>,
 }
 
 /// The calls, and rescue on torn disks.
@@ -39,9 +48,18 @@ impl Tally {
         *self.met.entry((row, refusal)).or_default() += 1;
     }
 
+    pub fn note_deed(&mut self, deed: Option<&'static str>) {
+        if let Some(deed) = deed {
+            *self.deeds.entry(deed).or_default() += 1;
+        }
+    }
+
     pub fn add(&mut self, other: Tally) {
         for (pair, times) in other.met {
             *self.met.entry(pair).or_default() += times;
+        }
+        for (deed, times) in other.deeds {
+            *self.deeds.entry(deed).or_default() += times;
         }
     }
 
@@ -53,7 +71,12 @@ impl Tally {
         self.met.get(&(call, ending)).copied().unwrap_or(0)
     }
 
-    /// The counts, a row for each call, `-` where the line is not about it.
+    fn times_of_deed(&self, deed: &'static str) -> u64 {
+        self.deeds.get(deed).copied().unwrap_or(0)
+    }
+
+    /// The counts, a row for each call, `-` where the line is not about it; then
+    /// the deeds.
     pub fn print(&self) {
         let numbers = LINES.iter().map(|line| line.refusal.number().to_string());
         let words = LINES.iter().map(|line| line.word.to_string());
@@ -66,13 +89,27 @@ impl Tally {
             };
             print_row(call, endings().map(cell));
         }
+        for deed in DEEDS {
+            println!("{deed}: {}", self.times_of_deed(deed));
+        }
     }
 
-    /// What is amiss: pairs that the table has not, and pairs met too rarely.
+    /// What is amiss: pairs that the table has not, pairs and deeds met too
+    /// rarely.
     pub fn faults(&self) -> Vec<String> {
         let least = LEAST.min(self.calls() / CALLS_FOR_ONE);
         let faults_of = |call| endings().filter_map(move |end| self.fault(call, end, least));
-        rows().flat_map(faults_of).collect()
+        let rare_deeds = DEEDS.into_iter().filter_map(|deed| self.rare_deed(deed));
+        rows().flat_map(faults_of).chain(rare_deeds).collect()
+    }
+
+    fn rare_deed(&self, deed: &'static str) -> Option<String> {
+        let least = match self.calls() {
+            calls if calls < CALLS_OF_A_RUN => calls / CALLS_FOR_ONE_DEED,
+            _ => LEAST_DEEDS,
+        };
+        let times = self.times_of_deed(deed);
+        (times < least).then(|| format!("{deed} {times} times, not {least}"))
     }
 
     fn fault(&self, call: &'static str, ending: Option<Refusal>, least: u64) -> Option<String> {

@@ -30,19 +30,18 @@ pub fn rescued(image: &[u8], name: &[u8], out: &mut [u8]) -> Result<u32, Refusal
 /// The clusters of a file by copy 1 of the table; none where finding 5 holds.
 fn good_chain(kind: &Kind, image: &[u8], entry: &Entry) -> Option<Vec<u16>> {
     let copy = &image[kind.copy_at(0)..][..kind.fat_bytes()];
-    let needed = kind.clusters_for(size(entry));
-    if needed == 0 {
-        return (start(entry) == 0).then(Vec::new);
+    let needed = kind.clusters_for(size(entry)) as usize;
+    if start(entry) == 0 {
+        return (needed == 0).then(Vec::new);
     }
     let mut clusters = Vec::new();
     let mut next = start(entry);
-    for _ in 0..needed {
-        // One cluster more than there are would be one met before.
-        if !kind.has_cluster(next) || clusters.len() == kind.clusters() {
-            return None;
-        }
+    // One cluster more than there are is one met before.
+    while kind.has_cluster(next) && clusters.len() <= kind.clusters() {
         clusters.push(next);
         next = value(copy, usize::from(next));
     }
-    is_end(next).then_some(clusters)
+    // A start with an end value names no cluster.
+    let enough = needed.max(1) <= clusters.len();
+    (enough && is_end(next)).then_some(clusters)
 }

@@ -5,14 +5,17 @@ use super::directory::{is_plain_file, size, start, Entry};
 use super::kind::{Kind, MOST_CLUSTERS};
 use super::table::{is_bad, is_end, is_reserved, Values};
 
-/// The walks over all files' chains. Each cluster is visited twice at most.
+/// The walks over all files' chains. Each cluster is visited once where it is
+/// in one chain, three times at most where it is in several.
 pub struct Walks<'a> {
     kind: &'a Kind,
     values: &'a Values,
-    /// How many clusters a chain has from this one on; 0: in no chain.
-    left: [u16; MOST_CLUSTERS + 2],
-    /// Clusters in two files' chains.
-    shared: [bool; MOST_CLUSTERS + 2],
+    /// The file, counted from 1, whose walk came to a cluster first; 0: in no
+    /// chain.
+    first_file: [u8; MOST_CLUSTERS + 2],
+    /// How many clusters a chain has from this one on, where it is in two
+    /// files' chains; 0: it is not.
+    shared: [u16; MOST_CLUSTERS + 2],
     lowest_shared: Option<u16>,
 }
 
@@ -21,8 +24,8 @@ impl<'a> Walks<'a> {
         Walks {
             kind,
             values,
-            left: [0; MOST_CLUSTERS + 2],
-            shared: [false; MOST_CLUSTERS + 2],
+            first_file: [0; MOST_CLUSTERS + 2],
+            shared: [0; MOST_CLUSTERS + 2],
             lowest_shared: None,
         }
     }
@@ -34,12 +37,12 @@ impl<'a> Walks<'a> {
             if !is_plain_file(entry) {
                 continue;
             }
-            let needed = self.kind.clusters_for(size(entry));
-            if !self.walk(start(entry), needed) {
-                return Err(finding(5, slot));
-            }
             files += 1;
-            held += needed;
+            let needed = self.kind.clusters_for(size(entry));
+            match self.walk(files as u8, start(entry)) {
+                Some(length) if needed <= length => held += length,
+                _ => return Err(finding(5, slot)),
+            }
         }
         if let Some(cluster) = self.lowest_shared {
             return Err(finding(6, usize::from(cluster)));
@@ -50,46 +53,56 @@ impl<'a> Walks<'a> {
         }
     }
 
-    /// Whether exactly the needed clusters follow each other from `start`.
-    fn walk(&mut self, start: u16, needed: u32) -> bool {
-        if needed == 0 {
-            return start == 0;
+    /// The length of the file's chain, 0 where it has none; `None` where it is
+    /// broken or has no end.
+    fn walk(&mut self, file: u8, start: u16) -> Option<u32> {
+        if start == 0 {
+            return Some(0);
         }
-        if needed as usize > self.kind.clusters() {
-            return false;
-        }
+        let mut length = 0;
         let mut cluster = start;
-        for left in (1..=needed as u16).rev() {
-            if !self.kind.has_cluster(cluster) {
-                return false;
-            }
+        while self.kind.has_cluster(cluster) {
             let here = usize::from(cluster);
-            if self.left[here] != 0 {
-                // From here on it is a chain walked before, or this one again.
-                self.share_from(cluster);
-                return self.left[here] == left;
+            match self.first_file[here] {
+                0 => self.first_file[here] = file,
+                ring if ring == file => return None,
+                _ => return Some(length + self.share_from(cluster)),
             }
-            self.left[here] = left;
+            length += 1;
             cluster = self.values[here];
         }
-        is_end(cluster)
+        // A start with an end value names no cluster.
+        (length > 0 && is_end(cluster)).then_some(length)
     }
 
-    /// Marks the rest of a chain as shared, up to where it is marked already.
-    fn share_from(&mut self, start: u16) {
-        let mut cluster = start;
-        while self.kind.has_cluster(cluster) && !self.shared[usize::from(cluster)] {
-            self.shared[usize::from(cluster)] = true;
+    /// Marks the rest of another file's chain as shared, up to where it is
+    /// marked already, and answers how many clusters the whole rest has.
+    fn share_from(&mut self, first: u16) -> u32 {
+        let mut unmarked = 0;
+        let mut cluster = first;
+        // That chain is whole: what is past the clusters is its end.
+        let marked = loop {
+            match self.shared.get(usize::from(cluster)) {
+                Some(0) => unmarked += 1,
+                rest => break rest.copied().unwrap_or(0),
+            }
+            cluster = self.values[usize::from(cluster)];
+        };
+        let length = marked + unmarked;
+        cluster = first;
+        for left in (marked + 1..=length).rev() {
+            self.shared[usize::from(cluster)] = left;
             self.lowest_shared = self.lowest_shared.into_iter().chain([cluster]).min();
             cluster = self.values[usize::from(cluster)];
         }
+        u32::from(length)
     }
 
     /// Finding 7: a link or an end in no chain.
     fn lowest_lost(&self) -> Option<usize> {
         (2..=self.kind.last_cluster()).find(|&cluster| {
             let value = self.values[cluster];
-            self.left[cluster] == 0 && value != 0 && !is_bad(value) && !is_reserved(value)
+            self.first_file[cluster] == 0 && value != 0 && !is_bad(value) && !is_reserved(value)
         })
     }
 }

@@ -22,48 +22,74 @@ pub fn stored(
     let open = live(entries, table, handle)?;
     unless(open.access != READ, Refusal::WrongAccess)?;
 
-    let (old_start, old_size) = (start(&entries[open.slot]), size(&entries[open.slot]));
-    let own = volume.kind.clusters_for(old_size);
-    let room = (own + volume.counts.free) as usize * volume.kind.cluster_bytes();
+    let (start, size) = (start(&entries[open.slot]), size(&entries[open.slot]));
     let from = open.pointer as usize;
-    let count = room.saturating_sub(from).min(data.len());
-    if count == 0 {
+    // Where bytes begin to alter: the gap's first, or the data's.
+    let begin = from.min(size as usize);
+    let bytes = volume.kind.cluster_bytes();
+    let own = own_clusters(&volume, start, begin / bytes);
+    let room = (own.count + volume.counts.free as usize) * bytes;
+    let data = &data[..room.saturating_sub(from).min(data.len())];
+    if data.is_empty() {
         return Ok(0);
     }
-    let to = from + count;
-    let new_size = old_size.max(to as u32);
-    let more = volume.kind.clusters_for(new_size) - own;
-    let new_start = extend(&mut volume, image, old_start, more);
-    fill(&volume, image, new_start, old_size as usize, from);
-    copy(&volume, image, new_start, from, &data[..count]);
-    set_extent(
-        entry_mut(volume.kind, image, open.slot),
-        new_start,
-        new_size,
-    );
+    let to = from + data.len();
+    let size = size.max(to as u32);
+    let needed = volume.kind.clusters_for(size) as usize;
+    let more = needed.saturating_sub(own.count);
+    let added = extend(&mut volume, image, own.last, more);
+    let first = own.first_altered.unwrap_or(added);
+    put(&volume, image, first, begin % bytes, from - begin, data);
+    let start = own.last.map_or(added, |_| start);
+    set_extent(entry_mut(volume.kind, image, open.slot), start, size);
     store_pointer(table, open.place, to as u32);
     store_written(table, open.place);
-    Ok(count as u32)
+    Ok(data.len() as u32)
 }
 
-/// Adds the lowest free clusters to the chain and answers its start. Where
-/// none is added, the chain keeps its end value.
-fn extend(volume: &mut Sound, image: &mut [u8], start: u16, more: u32) -> u16 {
+/// A file's clusters before a write, the spare ones with them.
+struct Own {
+    count: usize,
+    last: Option<u16>,
+    /// The first in which bytes alter; none where that is a new one.
+    first_altered: Option<u16>,
+}
+
+/// Walks the chain from `start`. Bytes alter from its cluster `altered` on,
+/// counted from 0.
+fn own_clusters(volume: &Sound, start: u16, altered: usize) -> Own {
+    let mut own = Own {
+        count: 0,
+        last: None,
+        first_altered: None,
+    };
+    for cluster in chain(volume.kind, &volume.values, start) {
+        if own.count == altered {
+            own.first_altered = Some(cluster);
+        }
+        own.count += 1;
+        own.last = Some(cluster);
+    }
+    own
+}
+
+/// Adds so many of the lowest free clusters behind the last one, and answers
+/// the first of them. Where none is added, it answers 0 and alters nothing.
+fn extend(volume: &mut Sound, image: &mut [u8], last: Option<u16>, more: usize) -> u16 {
     let Sound { kind, values, .. } = volume;
-    let mut start = start;
-    let mut last = chain(kind, values, start).last();
+    let (mut first, mut last) = (0, last);
     let mut candidate = 2;
     for _ in 0..more {
         while values[candidate] != 0 {
             candidate += 1;
         }
         let fresh = candidate as u16;
-        match last {
-            Some(last) => {
-                values[usize::from(last)] = fresh;
-                set_in_both(kind, image, last, fresh);
-            }
-            None => start = fresh,
+        if let Some(last) = last {
+            values[usize::from(last)] = fresh;
+            set_in_both(kind, image, last, fresh);
+        }
+        if first == 0 {
+            first = fresh;
         }
         values[candidate] = END;
         last = Some(fresh);
@@ -71,26 +97,21 @@ fn extend(volume: &mut Sound, image: &mut [u8], start: u16, more: u32) -> u16 {
     if let (Some(last), true) = (last, more > 0) {
         set_in_both(kind, image, last, END);
     }
-    start
+    first
 }
 
-/// Makes the file's bytes `from..to` zero: what lies between size and pointer.
-fn fill(volume: &Sound, image: &mut [u8], start: u16, from: usize, to: usize) {
-    for part in parts(chain(volume.kind, &volume.values, start), from, to) {
-        image[part].fill(0);
-    }
-}
-
-/// Puts data into the file from byte `from` on.
-fn copy(volume: &Sound, image: &mut [u8], start: u16, from: usize, data: &[u8]) {
-    let mut rest = data;
-    for part in parts(
-        chain(volume.kind, &volume.values, start),
-        from,
-        from + data.len(),
-    ) {
-        let (piece, after) = rest.split_at(part.len());
-        image[part].copy_from_slice(piece);
+/// Puts a gap of so many zeros, and the data behind it, from byte `at` of the
+/// cluster `first` on.
+fn put(volume: &Sound, image: &mut [u8], first: u16, at: usize, gap: usize, data: &[u8]) {
+    let (mut zeros, mut rest) = (gap, data);
+    let chain = chain(volume.kind, &volume.values, first);
+    for part in parts(chain, at, at + gap + data.len()) {
+        let here = zeros.min(part.len());
+        let (zeroed, written) = image[part].split_at_mut(here);
+        let (piece, after) = rest.split_at(written.len());
+        zeroed.fill(0);
+        written.copy_from_slice(piece);
+        zeros -= here;
         rest = after;
     }
 }

@@ -125,18 +125,24 @@ fn name_twice(plan: &mut Plan, random: &mut Random) -> Option<usize> {
     Some(from.max(to))
 }
 
+/// The files that have clusters, by their number in the plan.
+fn holders(plan: &Plan) -> Vec<usize> {
+    let holds = |&index: &usize| !plan.files[index].clusters.is_empty();
+    (0..plan.files.len()).filter(holds).collect()
+}
+
 /// Finding 5: one file's start, size or chain made wrong.
 fn spoil_chain(plan: &mut Plan, random: &mut Random) -> Option<usize> {
     if plan.files.is_empty() {
         return None;
     }
     let index = random.below(plan.files.len());
-    let empty = plan.files[index].clusters.is_empty();
-    match random.below(3) {
+    let has_chain = !plan.files[index].clusters.is_empty();
+    match random.below(4) {
         0 => spoil_size(plan, index, random),
-        _ if empty => set_start(plan, index, random.between(1, 0xFFFF) as u16),
         1 => spoil_start(plan, index, random),
-        _ => spoil_link(plan, index, random),
+        _ if has_chain => spoil_link(plan, index, random),
+        _ => start_without_end(plan, index, random)?,
     }
     Some(plan.files[index].slot)
 }
@@ -146,68 +152,91 @@ fn set_start(plan: &mut Plan, index: usize, start: u16) {
     plan.slots[slot][26..28].copy_from_slice(&start.to_le_bytes());
 }
 
+/// A start from which there is no chain, or one that is too short.
 fn spoil_start(plan: &mut Plan, index: usize, random: &mut Random) {
-    let clusters = &plan.files[index].clusters;
-    let start = clusters[0];
+    let file = &plan.files[index];
     let last = plan.kind.last_cluster() as u16;
+    let start = file.clusters.first().copied().unwrap_or(last);
     let mut starts = vec![
-        0,
-        1,
         last + 1,
         LOWEST_RESERVED,
         HIGHEST_RESERVED,
         BAD,
+        0xFF8,
         0xFFF,
         0xFFFF,
         start | 0x1000,
         start | 0x8000,
     ];
-    starts.extend(clusters.get(1));
+    let has_spare = file.needed(plan.kind) < file.clusters.len();
+    starts.extend(file.clusters.get(1).filter(|_| !has_spare));
     starts.extend(random.choose(&plan.free_clusters()));
     let is_bad_or_reserved =
         |&n: &u16| (LOWEST_RESERVED..=BAD).contains(&plan.values[usize::from(n)]);
     let bad_or_reserved: Vec<u16> = (2..=last).filter(is_bad_or_reserved).collect();
     starts.extend(random.choose(&bad_or_reserved));
-    set_start(plan, index, *random.pick(&starts));
+    // Size 0 may have start 0, but not 1.
+    let lowest = u16::from(file.content.is_empty());
+    let other = *random.pick(&starts);
+    set_start(plan, index, *random.pick(&[lowest, 1, other]));
 }
 
-/// A size of one cluster more or less, or one that is right only if its
-/// clusters are counted in too few bits.
+/// A size that needs more clusters than there are in the chain, or one that is
+/// right only if its clusters are counted in too few bits.
 fn spoil_size(plan: &mut Plan, index: usize, random: &mut Random) {
     let file = &plan.files[index];
     let bytes = plan.kind.cluster_bytes() as u32;
     let held = file.clusters.len() as u32 * bytes;
-    let mut sizes = vec![held + 1, held + bytes, held + 0x1_0000 * bytes, u32::MAX];
-    sizes.extend(held.checked_sub(bytes));
-    let size = random.pick(&sizes);
-    plan.slots[file.slot][28..32].copy_from_slice(&size.to_le_bytes());
+    let sizes = [held + 1, held + bytes, held + 0x1_0000 * bytes, u32::MAX];
+    plan.slots[file.slot][28..32].copy_from_slice(&random.pick(&sizes).to_le_bytes());
 }
 
-/// A chain that ends too early, goes on too long, or runs in a circle.
+/// A chain that ends too early, is broken, or runs in a circle. At its last
+/// cluster, behind as many as the size needs, as often as anywhere.
 fn spoil_link(plan: &mut Plan, index: usize, random: &mut Random) {
-    let clusters = &plan.files[index].clusters;
-    let (first, last) = (clusters[0], clusters[clusters.len() - 1]);
-    let bad_or_reserved = bad_or_reserved_value(random);
-    let somewhere = random.between(2, plan.kind.last_cluster()) as u16;
-    let at = *random.pick(clusters);
-    let value = match at == last {
-        true => *random.pick(&[0, bad_or_reserved, first, last, somewhere]),
-        false => *random.pick(&[0, bad_or_reserved, first, at, 0xFF8, 0xFFF]),
-    };
-    plan.values[usize::from(at)] = value;
+    let file = &plan.files[index];
+    let last = file.clusters.len() - 1;
+    let any = random.below(last + 1);
+    let place = *random.pick(&[last, any]);
+    let met_before = *random.pick(&file.clusters[..=place]);
+    let mut values = vec![0, bad_or_reserved_value(random), met_before, met_before];
+    values.extend(random.choose(&plan.free_clusters()));
+    if place + 1 < file.needed(plan.kind) {
+        values.extend([0xFF8, 0xFFF]);
+    }
+    plan.values[usize::from(file.clusters[place])] = *random.pick(&values);
 }
 
-/// Finding 6: one file's last clusters become another's.
+/// A start for a file without one: some free clusters that name each other, and
+/// the last of them is left free, bad or reserved, or names one before it.
+fn start_without_end(plan: &mut Plan, index: usize, random: &mut Random) -> Option<()> {
+    let mut clusters = plan.free_clusters();
+    random.shuffle(&mut clusters);
+    clusters.truncate(random.between(1, 3));
+    let (&first, &last) = (clusters.first()?, clusters.last()?);
+    for pair in clusters.windows(2) {
+        plan.values[usize::from(pair[0])] = pair[1];
+    }
+    let met_before = *random.pick(&clusters);
+    let values = [0, bad_or_reserved_value(random), met_before];
+    plan.values[usize::from(last)] = *random.pick(&values);
+    set_start(plan, index, first);
+    Some(())
+}
+
+/// Finding 6: one file's last clusters become another's too, behind some of its
+/// own. Both may have them as spare ones, or one of them, or neither.
 fn share_clusters(plan: &mut Plan, random: &mut Random) -> Option<usize> {
-    let holds = |&index: &usize| !plan.files[index].clusters.is_empty();
-    let mut holders: Vec<usize> = (0..plan.files.len()).filter(holds).collect();
-    random.shuffle(&mut holders);
-    let (&giver, &taker) = (holders.first()?, holders.get(1)?);
-    let given = &plan.files[giver].clusters;
-    let taken = &plan.files[taker].clusters;
-    let count = random.between(1, given.len().min(taken.len()));
-    let shared = given[given.len() - count..].to_vec();
-    let (kept, dropped) = taken.split_at(taken.len() - count);
+    let giver = random.choose(&holders(plan))?;
+    let others = (0..plan.files.len()).filter(|&index| index != giver);
+    let taker = random.choose(&others.collect::<Vec<_>>())?;
+    let shared = some_last_clusters(plan, giver, random);
+    let file = &plan.files[taker];
+    let least = file.needed(plan.kind).saturating_sub(shared.len());
+    let all = file.clusters.len();
+    let enough = random.between(least, all);
+    let kept = *random.pick(&[all, enough, least, least]);
+    let (kept, dropped) = file.clusters.split_at(kept);
     if random.one_in(2) {
         for &cluster in dropped {
             plan.values[usize::from(cluster)] = 0;
@@ -218,6 +247,18 @@ fn share_clusters(plan: &mut Plan, random: &mut Random) -> Option<usize> {
         None => set_start(plan, taker, shared[0]),
     }
     shared.into_iter().min().map(usize::from)
+}
+
+/// Some of the file's last clusters; half of the time only spare ones, where it
+/// has them.
+fn some_last_clusters(plan: &Plan, index: usize, random: &mut Random) -> Vec<u16> {
+    let file = &plan.files[index];
+    let all = file.clusters.len();
+    let most = match all - file.needed(plan.kind) {
+        spare if spare > 0 && random.one_in(2) => spare,
+        _ => all,
+    };
+    file.clusters[all - random.between(1, most)..].to_vec()
 }
 
 /// Finding 7: clusters in use by no file.
@@ -242,12 +283,12 @@ fn use_free_clusters(plan: &mut Plan, random: &mut Random) -> Option<usize> {
     free.into_iter().min().map(usize::from)
 }
 
-/// The file's chain ends early, and so does its size; the rest is left over.
+/// The file's chain ends early, or is gone, and the size is cut to what is left
+/// of it; the rest of the chain is left over.
 fn shorten_file(plan: &mut Plan, random: &mut Random) -> Option<usize> {
-    let long = |&index: &usize| plan.files[index].clusters.len() >= 2;
-    let index = random.choose(&(0..plan.files.len()).filter(long).collect::<Vec<_>>())?;
+    let index = random.choose(&holders(plan))?;
     let file = &mut plan.files[index];
-    let kept = random.between(1, file.clusters.len() - 1);
+    let kept = random.below(file.clusters.len());
     let lost = file.clusters.split_off(kept);
     file.content.truncate(kept * plan.kind.cluster_bytes());
     plan.store_file(index, 0xFFF);
@@ -256,8 +297,7 @@ fn shorten_file(plan: &mut Plan, random: &mut Random) -> Option<usize> {
 
 /// The file's slot is erased, its clusters stay in use.
 fn erase_file(plan: &mut Plan, random: &mut Random) -> Option<usize> {
-    let holds = |&index: &usize| !plan.files[index].clusters.is_empty();
-    let index = random.choose(&(0..plan.files.len()).filter(holds).collect::<Vec<_>>())?;
+    let index = random.choose(&holders(plan))?;
     let file = plan.files.remove(index);
     plan.slots[file.slot][0] = 0xE5;
     file.clusters.into_iter().min().map(usize::from)

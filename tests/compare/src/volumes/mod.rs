@@ -6,6 +6,7 @@
 pub mod bad_or_reserved;
 pub mod broken;
 pub mod calls;
+pub mod chains;
 pub mod damage;
 pub mod finds;
 pub mod mixed;

@@ -1,6 +1,6 @@
 //! Open tables with records of all sorts.
 
-use super::plan::Plan;
+use super::plan::{File, Plan};
 use super::random::Random;
 use super::word;
 
@@ -51,11 +51,11 @@ pub fn open_table(plan: &Plan, random: &mut Random) -> Vec<u8> {
 }
 
 fn fill_record(plan: &Plan, record: &mut [u8], random: &mut Random) {
-    let files: Vec<usize> = plan.files.iter().map(|file| file.slot).collect();
     let any = random.below(plan.slots.len() + 2);
-    let slot = match random.one_in(4) {
-        true => any,
-        false => random.choose(&files).unwrap_or(any),
+    let slot = match random.below(4) {
+        0 => any,
+        1 => random.choose(&slots(plan, true)).unwrap_or(any),
+        _ => random.choose(&slots(plan, false)).unwrap_or(any),
     };
     let size = word(&plan.slots[slot % plan.slots.len()], 28);
     let pointer = match random.below(5) {
@@ -69,4 +69,12 @@ fn fill_record(plan: &Plan, record: &mut [u8], random: &mut Random) {
     record[2] = *random.pick(&[0, 0, 1, 7]);
     record[4..8].copy_from_slice(&(slot as u32).to_le_bytes());
     record[8..12].copy_from_slice(&pointer.to_le_bytes());
+}
+
+/// The slots of all files, or only of those with spare clusters.
+fn slots(plan: &Plan, with_spare: bool) -> Vec<usize> {
+    let has_spare = |file: &&File| file.needed(plan.kind) < file.clusters.len();
+    let files = plan.files.iter();
+    let files = files.filter(|file| !with_spare || has_spare(file));
+    files.map(|file| file.slot).collect()
 }

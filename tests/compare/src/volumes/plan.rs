@@ -7,9 +7,17 @@ use crate::volume::kind::{Kind, SECTOR};
 #[derive(Clone, Debug)]
 pub struct File {
     pub slot: usize,
-    /// Its clusters in the order of its bytes.
+    /// Its clusters in the order of its bytes; behind those that the content
+    /// needs there may be spare ones.
     pub clusters: Vec<u16>,
     pub content: Vec<u8>,
+}
+
+impl File {
+    /// How many clusters the content needs.
+    pub fn needed(&self, kind: &Kind) -> usize {
+        self.content.len().div_ceil(kind.cluster_bytes())
+    }
 }
 
 /// All that stands on a volume.

@@ -1,6 +1,7 @@
 //! Random calls on a scene: such as may well end well, and odd ones.
 
 use super::calls::{Call, Scene};
+use super::chains::{chains, table, Chain};
 use super::finds::random_find;
 use super::random::Random;
 use super::texts::{callers_form, good_name, noise_name, stamp, varied};
@@ -129,7 +130,7 @@ impl<'a> Caller<'a> {
 
     /// A call that opens a file.
     fn beginning_call(&mut self) -> Call {
-        let name = self.some_name();
+        let name = self.name_to_open();
         match self.random.one_in(2) {
             true => Call::Open {
                 name,
@@ -181,10 +182,7 @@ impl<'a> Caller<'a> {
         }
         match self.random.below(20) {
             0..=4 => Call::Read { handle },
-            5..=11 => Call::Write {
-                handle,
-                data: self.some_data(),
-            },
+            5..=11 => self.some_write(handle),
             12..=15 => self.some_seek(handle),
             _ => Call::Close {
                 handle,
@@ -213,7 +211,16 @@ impl<'a> Caller<'a> {
         random_name(self.kind, &self.scene.image, self.odds, self.random)
     }
 
-    /// Half of the time the name of a file that is neither open nor read-only.
+    /// Any name as often as one to change.
+    fn name_to_open(&mut self) -> Vec<u8> {
+        match self.random.one_in(2) {
+            true => self.name_to_change(),
+            false => self.some_name(),
+        }
+    }
+
+    /// Half of the time the name of a file that is neither open nor read-only:
+    /// mostly one with a chain and size 0, or else one with spare clusters.
     fn name_to_change(&mut self) -> Vec<u8> {
         let table = &self.scene.table;
         let is_open = |slot: usize| {
@@ -221,11 +228,35 @@ impl<'a> Caller<'a> {
             records.any(|record| record[0] != 0 && word(record, 4) as usize == slot)
         };
         let wanted = |slot, entry: &[u8]| entry[11] & 0x09 == 0 && !is_open(slot);
-        let names = names_in_reach(self.kind, &self.scene.image, wanted);
-        match self.random.choose(&names) {
+        let any = names_in_reach(self.kind, &self.scene.image, wanted);
+        let of_size_0 = self.names_with(Chain::is_of_size_0, wanted);
+        let with_spare = self.names_with(Chain::has_spare, wanted);
+        let rare = self
+            .random
+            .choose(&of_size_0)
+            .or(self.random.choose(&with_spare));
+        let any = self.random.choose(&any);
+        let name = match self.random.one_in(4) {
+            true => any,
+            false => rare.or(any),
+        };
+        match name {
             Some(stored) if self.random.one_in(2) => callers_form(stored),
             _ => self.some_name(),
         }
+    }
+
+    /// The names in reach of the wanted files whose chains are so.
+    fn names_with(
+        &self,
+        is_so: fn(&Chain) -> bool,
+        wanted: impl Fn(usize, &[u8]) -> bool,
+    ) -> Vec<&'a [u8]> {
+        let files = chains(self.kind, &self.scene.image).into_iter();
+        let files = files.filter(|(_, chain)| is_so(chain));
+        let slots: Vec<usize> = files.map(|(slot, _)| slot).collect();
+        let wanted = |slot, entry: &[u8]| slots.contains(&slot) && wanted(slot, entry);
+        names_in_reach(self.kind, &self.scene.image, wanted)
     }
 
     /// A name for rename's second: mostly one that is not there yet.
@@ -283,9 +314,39 @@ impl<'a> Caller<'a> {
         }
     }
 
-    fn some_data(&mut self) -> Vec<u8> {
+    /// A write to a file with spare clusters, or else to the handle's.
+    fn some_write(&mut self, handle: u32) -> Call {
+        let has_spare = |chain: Chain| chain.has_spare() || chain.is_of_size_0();
+        let mut places = self.live_places();
+        places.retain(|&place| {
+            let takes_writes = self.record(place)[1] != 0;
+            takes_writes && self.chain(place).is_some_and(has_spare)
+        });
+        let (handle, length) = match self.random.choose(&places) {
+            Some(place) if !self.random.one_in(3) => (place, self.length_into_spare(place)),
+            _ => (handle, self.some_length()),
+        };
+        let mut data = vec![0; length];
+        self.random.fill_area(&mut data);
+        Call::Write { handle, data }
+    }
+
+    /// A length that ends within the clusters of the handle's file, with them, or
+    /// behind them.
+    fn length_into_spare(&mut self, handle: u32) -> usize {
         let cluster = self.kind.cluster_bytes();
-        let length = match self.random.below(32) {
+        let clusters = self.chain(handle).map_or(0, |chain| chain.clusters.len());
+        let pointer = word(self.record(handle), 8) as usize;
+        let rest = (clusters * cluster).saturating_sub(pointer);
+        let within = self.random.below(rest + 1);
+        *self
+            .random
+            .pick(&[within, rest, rest + 1, rest + 2 * cluster])
+    }
+
+    fn some_length(&mut self) -> usize {
+        let cluster = self.kind.cluster_bytes();
+        match self.random.below(32) {
             0 => 0,
             1 => 400_000,
             2..=4 => cluster,
@@ -293,10 +354,7 @@ impl<'a> Caller<'a> {
             8 => self.random.below(60 * cluster),
             9..=18 => self.random.below(4 * cluster),
             _ => self.random.below(100),
-        };
-        let mut data = vec![0; length];
-        self.random.fill_area(&mut data);
-        data
+        }
     }
 
     fn some_seek(&mut self, handle: u32) -> Call {
@@ -323,6 +381,17 @@ impl<'a> Caller<'a> {
     fn size(&self, handle: u32) -> u32 {
         let slot = word(self.record(handle), 4);
         word(self.entry(slot), 28)
+    }
+
+    /// The chain of the handle's file; none where there is no such entry.
+    fn chain(&self, handle: u32) -> Option<Chain> {
+        match self.entry(word(self.record(handle), 4)) {
+            [] => None,
+            entry => {
+                let values = table(self.kind, &self.scene.image);
+                Some(Chain::of(self.kind, &values, entry))
+            }
+        }
     }
 
     fn is_at_the_end(&self, handle: u32) -> bool {

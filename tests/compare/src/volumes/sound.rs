@@ -125,8 +125,9 @@ fn put_file(
     let mut content = vec![0; size];
     random.fill_area(&mut content);
     let needed = size.div_ceil(plan.kind.cluster_bytes());
+    let spare = spare_clusters(size, pool.len() - needed, random);
     let clusters = pool
-        .split_off(pool.len() - needed)
+        .split_off(pool.len() - needed - spare)
         .into_iter()
         .rev()
         .collect();
@@ -172,4 +173,15 @@ fn file_size(kind: &Kind, room: usize, random: &mut Random) -> usize {
         _ => random.between(0, most),
     };
     size.min(room)
+}
+
+/// How many clusters a file takes beyond those that its size needs: for one file
+/// in three, or two in three of size 0, mostly a few, else none.
+fn spare_clusters(size: usize, room: usize, random: &mut Random) -> usize {
+    if random.one_in(3) != (size > 0) {
+        return 0;
+    }
+    let few = random.between(1, 4);
+    let many = random.between(5, 60);
+    (*random.pick(&[few, few, few, many])).min(room)
 }

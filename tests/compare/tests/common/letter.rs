@@ -79,8 +79,8 @@ impl Volume<'_> {
     fn chain(&self, slot: usize) -> Option<Vec<usize>> {
         let needed = self.needed(slot);
         let start = self.number(slot, 26, 2) as usize;
-        if needed == 0 {
-            return (start == 0).then(Vec::new);
+        if start == 0 {
+            return (needed == 0).then(Vec::new);
         }
         let mut list = vec![start];
         loop {
@@ -89,7 +89,7 @@ impl Volume<'_> {
                 return None;
             }
             match self.entry(last) {
-                0xFF8..=0xFFF => return (list.len() as u64 == needed).then_some(list),
+                0xFF8..=0xFFF => return (list.len() as u64 >= needed).then_some(list),
                 next => list.push(next),
             }
         }
@@ -105,6 +105,7 @@ impl Volume<'_> {
     }
 
     fn counts(&self) -> Counts {
+        let chains = self.files().filter_map(|slot| self.chain(slot));
         let number = |low, high| {
             let within = |&n: &usize| (low..=high).contains(&self.entry(n));
             self.clusters().filter(within).count() as u32
@@ -112,7 +113,7 @@ impl Volume<'_> {
         Counts {
             files: self.files().count() as u32,
             free: number(0, 0),
-            held: self.files().map(|slot| self.needed(slot)).sum::<u64>() as u32,
+            held: chains.map(|chain| chain.len() as u32).sum(),
             bad: number(0xFF7, 0xFF7),
             reserved: number(0xFF0, 0xFF6),
         }

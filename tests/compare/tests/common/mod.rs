@@ -192,6 +192,15 @@ impl Desk {
     }
 }
 
+/// A record with these fields; bytes 3 and 12 to 15 hold junk.
+pub fn record(used: u8, access: u8, written: u8, slot: u32, pointer: u32) -> Vec<u8> {
+    let mut bytes = vec![used, access, written, 0x77];
+    bytes.extend(slot.to_le_bytes());
+    bytes.extend(pointer.to_le_bytes());
+    bytes.extend([0x77; 4]);
+    bytes
+}
+
 /// The first words of `out`.
 pub fn words<const COUNT: usize>(bytes: &[u8]) -> [u32; COUNT] {
     let word = |at: usize| u32::from_le_bytes([0, 1, 2, 3].map(|n| bytes[4 * at + n]));

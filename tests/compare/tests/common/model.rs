@@ -346,7 +346,8 @@ impl Model {
         let (old, end) = (planned.content.len(), place.pointer + count);
         planned.content.resize(old.max(end), 0);
         planned.content[place.pointer..end].copy_from_slice(&data[..count]);
-        let more = planned.content.len().div_ceil(bytes) - planned.clusters.len();
+        let needed = planned.content.len().div_ceil(bytes);
+        let more = needed.saturating_sub(planned.clusters.len());
         let kept = planned
             .clusters
             .last()
