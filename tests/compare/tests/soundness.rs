@@ -2,9 +2,6 @@
 
 mod common;
 
-use std::hint::black_box;
-use std::time::Instant;
-
 use common::{expect_words, halves, Desk};
 use compare::volume::kind::{Kind, KINDS};
 use compare::volume::table::{is_bad, is_end, is_reserved};
@@ -357,34 +354,6 @@ fn many_files_in_one_chain() {
     let mut desk = one_chain_for_all(all);
     put_start(&mut desk, 110, 2);
     assert_eq!(desk.check(), (6, 2));
-}
-
-/// FD: 112 files of three clusters, each its own.
-fn each_its_own_chain() -> Desk {
-    let mut desk = Desk::new(0xFD);
-    for slot in 0..112 {
-        desk.put(&format!("F{slot}"), &[1; 3 * 1024]);
-    }
-    desk
-}
-
-/// The shortest time of a check, in nanoseconds.
-fn time_of_check(desk: &Desk) -> u128 {
-    let time = |_| {
-        let begin = Instant::now();
-        black_box(desk.check());
-        begin.elapsed().as_nanos()
-    };
-    (0..300).map(time).min().unwrap_or(0)
-}
-
-/// Were each of the 112 chains walked to its end, it would take many times as
-/// long.
-#[test]
-fn one_chain_for_all_files_is_not_walked_by_each() {
-    let apart = time_of_check(&each_its_own_chain());
-    let together = time_of_check(&one_chain_for_all(0));
-    assert!(together <= 12 * apart, "{together} ns, apart {apart} ns");
 }
 
 #[test]
