@@ -8,20 +8,20 @@ ghost use lib.Dec.{eqb};
 ghost use lib.ListN.{length};
 ghost use Rattle.image.specs.Bytes.{Bytes};
 ghost use Rattle.fields.specs.Fields.{withStart, withSize};
-ghost use Rattle.links.specs.Linked.{endOf};
+ghost use Rattle.diskette.specs.Places.{lastCluster};
 ghost use Rattle.links.specs.Aids.Extent.{extentOf};
+ghost use Rattle.links.specs.Aids.Linked.{Behind};
+ghost use Rattle.sound.specs.Files.{valueOf};
 ghost use Rattle.calls.specs.Aids.Ready.{OnVolume};
 ghost use Rattle.holding.specs.Holding.{fileChain};
-ghost use Rattle.holding.specs.Aids.Files.{FileAt};
 ghost use Rattle.putting.specs.Aids.Longer.{CanGrow, AddedBehind, Grows, Lengthens};
 
-// Adds n clusters behind end, the file's last one, the lowest free one each time, and answers the first of them.
-fn add_behind(img: &mut [u8], k: Kind, a: usize, end: usize, n: usize) -> usize
+// Adds n clusters behind end, the last of a chain or 0, the lowest free one each time, and answers the first of them.
+fn add_behind(img: &mut [u8], k: Kind, end: usize, n: usize) -> usize
     requires { ⌜ OnVolume (now img) k ⌝ }
-    requires { ⌜ FileAt k (now img) a ⌝ }
     requires { ⌜ Bytes (now img) ⌝ }
-    requires { ⌜ end ≡ endOf (fileChain k (now img) a) ⌝ }
-    ensures { λ r. ⌜ AddedBehind k (now (img .entry)) a n r (now (img .exit)) ⌝ }
+    requires { ⌜ Behind (lastCluster k) (valueOf k (now img)) end ⌝ }
+    ensures { λ r. ⌜ AddedBehind k (now (img .entry)) end n r (now (img .exit)) ⌝ }
 {
     links::add_clusters(img, k.copy_two(), k.last_cluster(), end, n)
 }
@@ -58,7 +58,7 @@ fn grow_chain(img: &mut [u8], k: Kind, a: usize, own: Extent, size: u32) -> usiz
 {
     let start = fields::start_at(img, a) as usize;
     let more = lacking(k.needed_for(size), own.clusters);
-    let first = add_behind(img, k, a, own.end, more);
+    let first = add_behind(img, k, own.end, more);
     start_then(own.clusters, start, first)
 }
 

@@ -25,10 +25,10 @@ pub record CanGrow (k : Kind) (img : List ℕ) (a size : ℕ) : Type 0 where
   pub bytes : Bytes img
   pub room : size ≤ (length (fileChain k img a) + freeOf k img) * clusterBytes k
 
--- n clusters were added behind those of the file: the answer is the first of them
-pub record AddedBehind (k : Kind) (img : List ℕ) (a n answer : ℕ) (after : List ℕ) : Type 0 where
+-- n clusters were added behind end: the answer is the first of them
+pub record AddedBehind (k : Kind) (img : List ℕ) (end n answer : ℕ) (after : List ℕ) : Type 0 where
   pub first : answer ≡ getD (newClusters (lastCluster k) img n) 0 0
-  pub image : after ≡ linked (copyTwo k) img (endOf (fileChain k img a)) (newClusters (lastCluster k) img n)
+  pub image : after ≡ linked (copyTwo k) img end (newClusters (lastCluster k) img n)
 
 -- the file has the clusters for that size: the answer is where its chain starts
 pub record Grows (k : Kind) (img : List ℕ) (a size answer : ℕ) (after : List ℕ) : Type 0 where

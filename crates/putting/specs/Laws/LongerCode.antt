@@ -25,7 +25,6 @@ use Rattle.sound.specs.Files.{valueOf}
 use Rattle.calls.specs.Aids.Ready.{OnVolume}
 use Rattle.calls.specs.Laws.Ready.{on-usable}
 use Rattle.holding.specs.Holding.{fileChain}
-use Rattle.holding.specs.Aids.Files.{FileAt}
 use Rattle.holding.specs.Laws.Clusters.{copies-reach}
 use Rattle.putting.specs.Longer.{newFor, lengthened}
 use Rattle.putting.specs.Aids.Longer.{CanGrow, AddedBehind, Grows, Lengthens}
@@ -39,20 +38,17 @@ module _ (own start first : ℕ) where
   pub starts-old : own ≢ 0 → start ≡ cond (eqb own 0) first start
   starts-old e = rw (ne-eqb own 0 e)
 
-module _ (img : List ℕ) (k : Kind) (v : OnVolume img k) (a : ℕ) (f : FileAt k img a) where
-  behind : Behind (lastCluster k) (valueOf k img) (endOf (fileChain k img a))
-  behind = end-behind (lastCluster k) (on-usable img k v .below-reserved) (valueOf k img) (startOf img a) (fileChain k img a) (f .chain)
+module _ (img : List ℕ) (k : Kind) (v : OnVolume img k) (end : ℕ) (behind : Behind (lastCluster k) (valueOf k img) end) where
+  pub end-small : (last : ℕ) → last ≡ lastCluster k → end ≤ last
+  end-small last el = elim behind [ inl z ↦ omega arith | inr p ↦ omega (arith, p .0 .1) ]
 
-  pub end-small : (last end : ℕ) → last ≡ lastCluster k → end ≡ endOf (fileChain k img a) → end ≤ last
-  end-small last end el e = elim behind [ inl z ↦ omega arith | inr p ↦ omega (arith, p .0 .1) ]
-
-  pub added-is : Bytes img → (second last end n answer : ℕ) (m : List ℕ) → second ≡ copyTwo k → last ≡ lastCluster k → end ≡ endOf (fileChain k img a)
-      → Added second last img end n answer m → AddedBehind k img a n answer m
-  added-is b second last end n answer m es el ee x =
+  pub added-is : Bytes img → (second last n answer : ℕ) (m : List ℕ) → second ≡ copyTwo k → last ≡ lastCluster k
+      → Added second last img end n answer m → AddedBehind k img end n answer m
+  added-is b second last n answer m es el x =
       let h : HasTable (copyTwo k) (lastCluster k) img = record { small = on-usable img k v .below-reserved; bytes = b; reaches = copies-reach img k v (copyTwo k) (lastCluster k) refl refl } in
       record {
         first = x .first ∙ rw el;
-        image = x .image ∙ rw (es, el, ee) (added-linked (copyTwo k) (lastCluster k) img (endOf (fileChain k img a)) n h behind);
+        image = x .image ∙ rw (es, el) (added-linked (copyTwo k) (lastCluster k) img end n h behind);
       }
 
 -- ---- the file grows
@@ -63,17 +59,21 @@ module _ (k : Kind) (img : List ℕ) (a size : ℕ) (g : CanGrow k img a size) w
   start-by (x ∷ xs) new start first p e = rw (ne-eqb (length (x ∷ xs)) 0 (omega arith)) (p .0)
 
   module _ (own : Extent) (eo : own ≡ extentOf (fileChain k img a)) where
-    pub end-is : own .end ≡ endOf (fileChain k img a)
+    end-is : own .end ≡ endOf (fileChain k img a)
     end-is = ap (λ (e : Extent). e .end) eo
 
+    pub end-goes-on : Behind (lastCluster k) (valueOf k img) (own .end)
+    end-goes-on = rw end-is
+        (end-behind (lastCluster k) (on-usable img k (g .on) .below-reserved) (valueOf k img) (startOf img a) (fileChain k img a) (g .file .chain))
+
     pub grown-is : (n more start first then : ℕ) (m : List ℕ) → n ≡ clustersFor (clusterBytes k) size → more ≡ n - own .clusters → start ≡ startOf img a
-        → AddedBehind k img a more first m → then ≡ cond (eqb (own .clusters) 0) first start → Grows k img a size then m
+        → AddedBehind k img (own .end) more first m → then ≡ cond (eqb (own .clusters) 0) first start → Grows k img a size then m
     grown-is n more start first then m en em es x e =
         let many : own .clusters ≡ length (fileChain k img a) = ap (λ (e : Extent). e .clusters) eo in
         let q : first ≡ getD (newFor k img a size) 0 0 = rw (em, many, en) at (x .first) in
         record {
           start = e ∙ rw (many, es) (start-by (fileChain k img a) (newFor k img a size) (startOf img a) first (g .file .chain) q);
-          image = x .image ∙ rw (em, many, en);
+          image = x .image ∙ rw (end-is, em, many, en);
         }
 
   module _ (start : ℕ) (m : List ℕ) (x : Grows k img a size start m) where

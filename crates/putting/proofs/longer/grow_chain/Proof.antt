@@ -1,6 +1,6 @@
 -- The new clusters come behind the file's own.
 use Rattle.calls.specs.Laws.Ready.{on-usable}
-use Rattle.putting.specs.Laws.LongerCode.{end-is, grown-is}
+use Rattle.putting.specs.Laws.LongerCode.{end-goes-on, grown-is}
 use borrow.Author.Needs.{needs}
 use Rattle.putting.proofs.longer.grow_chain.Statement.{statement}
 use Rattle.putting.proofs.longer.grow_chain.Tie as tie
@@ -18,7 +18,7 @@ lacking-requires : tie.Need-lacking-requires
 lacking-requires c κs = search needs
 
 add-behind-requires : tie.Need-add-behind-requires
-add-behind-requires c κs = (search needs, (search needs, (search needs, search end-is)))
+add-behind-requires c κs = (search needs, (search needs, search end-goes-on))
 
 start-then-requires : tie.Need-start-then-requires
 start-then-requires c κs = search needs
