@@ -14,7 +14,8 @@ use Rattle.sound.specs.Counts.{countsOf}
 use Rattle.sound.specs.declared.Verdict.{Verdict}
 use Rattle.sound.specs.declared.Verdict.the-variants.{Sound, Finding}
 
--- of a volume of the kind k: each finding at its lowest place, unless one before it holds anywhere
+-- of a volume of the kind k: each finding at its lowest place, unless one before it holds anywhere; else sound with the counts, by
+-- lists that are the files' chains
 abbrev pub AnswersOf : Kind → List ℕ → Verdict → Type 0
 AnswersOf k l =
     OrElse ltb (TablesDiffer k l) (Finding 2)
