@@ -8,5 +8,6 @@ int main(void)
     try_find();
     try_files();
     try_contents();
+    try_spare();
     return tally();
 }

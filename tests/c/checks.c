@@ -79,6 +79,19 @@ void put16(uint8_t *at, unsigned number)
     at[1] = (uint8_t)(number >> 8);
 }
 
+void put_link(uint8_t *table, uint32_t cluster, unsigned value)
+{
+    uint8_t *at = table + cluster * 3 / 2;
+    unsigned word = at[0] | (unsigned)at[1] << 8;
+    put16(at, cluster % 2 == 0 ? (word & 0xF000) | value : (word & 0x000F) | value << 4);
+}
+
+void put_table(uint8_t *image, size_t at, const uint8_t *bytes, size_t length)
+{
+    memcpy(image + COPY_1 + at, bytes, length);
+    memcpy(image + COPY_2 + at, bytes, length);
+}
+
 void put_entry(uint8_t *slot, const char *name, uint8_t attribute, unsigned time, unsigned start, unsigned size)
 {
     memset(slot, 0, 32);

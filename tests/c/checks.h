@@ -52,6 +52,12 @@ enum { COPY_1 = 512, COPY_2 = 1024, ROOT = 3 * 512 };
 
 void put16(uint8_t *at, unsigned number);
 
+/* Puts a cluster's value into a copy of the table. The word's other four bits are a neighbour's. */
+void put_link(uint8_t *table, uint32_t cluster, unsigned value);
+
+/* Puts bytes into both copies of the table, from this byte of each on. */
+void put_table(uint8_t *image, size_t at, const uint8_t *bytes, size_t length);
+
 /* A directory entry of 1983-09-01 and these fields; its reserved bytes are 0. */
 void put_entry(uint8_t *slot, const char *name, uint8_t attribute, unsigned time, unsigned start, unsigned size);
 
@@ -65,5 +71,6 @@ void try_worn(void);
 void try_find(void);
 void try_files(void);
 void try_contents(void);
+void try_spare(void);
 
 #endif

@@ -123,14 +123,6 @@ static void try_write_nothing(void)
     put_away(&d);
 }
 
-/* Stores an entry of a table, by the specification's rule. */
-static void put_link(uint8_t *table, unsigned cluster, unsigned value)
-{
-    uint8_t *at = table + cluster * 3 / 2;
-    unsigned word = at[0] + 256u * at[1];
-    put16(at, cluster % 2 == 0 ? (word & 0xF000) | value : (word & 0x000F) | value << 4);
-}
-
 /* "A blank FD has 354 free clusters; a write of 362,497 bytes answers 362,496, the next 0." */
 static void try_write_all(void)
 {
@@ -232,8 +224,8 @@ static void try_rescue(void)
     rescues(&d, "DAY001.LOG", 2000, 1025, "all the file, though the copies of the table differ");
     leaves(&d, rescue_file(&d, "DAY/002", out.bytes, 8), BM_BAD_NAME, 0, "a name that breaks the rules: 42");
     leaves(&d, rescue_file(&d, "DAY002.LOG", out.bytes, 8), BM_FILE_NOT_FOUND, 0, "no such file: 2");
-    spoil(&d, ROOT + 32 * DAY + 29, 2);
-    leaves(&d, rescue_file(&d, "DAY001.LOG", out.bytes, 8), BM_ACCESS_DENIED, 0, "a cluster too many for the size: 5");
+    spoil(&d, ROOT + 32 * DAY + 29, 6);
+    leaves(&d, rescue_file(&d, "DAY001.LOG", out.bytes, 8), BM_ACCESS_DENIED, 0, "a cluster too few for the size: 5");
     spoil(&d, COPY_1, 0xFD);
     leaves(&d, rescue_file(&d, "DAY001.LOG", out.bytes, 8), BM_NOT_OF_A_KIND, 0, "an image of no kind: 40");
     expect(all_are(out.bytes, 8, OLD_BYTE) && guards_stand(&out), "a refusal leaves out");

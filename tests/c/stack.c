@@ -9,9 +9,9 @@
 #include <string.h>
 #include <ucontext.h>
 
-/* ---- Volumes: none, one that is not sound, one half full and one full, all FD ---- */
+/* ---- Volumes: none, one that is not sound, one half full, one full and one with spare clusters, all FD ---- */
 
-enum { NONE, BROKEN, HALF_FULL, FULL, VOLUMES, FD_ROOT = 5 * 512 };
+enum { NONE, BROKEN, HALF_FULL, FULL, SPARE, VOLUMES, FD_ROOT = 5 * 512 };
 
 static uint8_t volumes[VOLUMES][BM_IMAGE_SIZE_FD], data[BM_IMAGE_SIZE_FD / 2];
 
@@ -48,11 +48,15 @@ static void make_volumes(void)
     write_by_turns(HALF_FULL, 177);
     make_files(FULL);
     write_by_turns(FULL, 354);
+    /* F0 has 177 clusters and 2C400 bytes, which need as many; 2FFFF need 192, and 20001 need 129. */
     memcpy(volumes[BROKEN], volumes[FULL], BM_IMAGE_SIZE_FD);
-    put16(volumes[BROKEN] + FD_ROOT + 28, 1);
+    put16(volumes[BROKEN] + FD_ROOT + 28, 0xFFFF);
+    memcpy(volumes[SPARE], volumes[FULL], BM_IMAGE_SIZE_FD);
+    put16(volumes[SPARE] + FD_ROOT + 28, 1);
     expect(answers(bm_free_space(FD(HALF_FULL), NULL, 0), 0, 177), "half of a volume's clusters are in use");
     expect(answers(bm_free_space(FD(FULL), NULL, 0), 0, 0), "all of another's");
     expect(answers(bm_check(FD(BROKEN), NULL, 0), 5, 0), "a third one is not sound");
+    expect(answers(bm_check(FD(SPARE), NULL, 0), 0, 0), "a fourth one, with spare clusters, is sound");
 }
 
 /* ---- The calls ---- */

@@ -10,12 +10,6 @@
 
 enum { AT_200 = 300 }; /* the byte of each copy where the values of clusters 200 and 201 begin */
 
-static void put_table(uint8_t *image, size_t at, const uint8_t *bytes, size_t length)
-{
-    memcpy(image + COPY_1 + at, bytes, length);
-    memcpy(image + COPY_2 + at, bytes, length);
-}
-
 static const struct pair {
     const char *what;
     uint8_t bytes[3]; /* the values of clusters 200 and 201 */
@@ -136,15 +130,11 @@ static unsigned value_at(const struct kind *kind, const uint8_t *image, size_t c
     return cluster % 2 == 0 ? word & 0xFFF : word >> 4;
 }
 
-/* Puts it into both. The word's other four bits are a neighbour's. */
+/* Puts it into both. */
 static void put_value(const struct kind *kind, uint8_t *image, uint32_t cluster, unsigned value)
 {
-    size_t copy;
-    for (copy = 0; copy < 2; copy++) {
-        uint8_t *at = image + 512 * (1 + copy * kind->fat_sectors) + cluster * 3 / 2;
-        unsigned word = at[0] | (unsigned)at[1] << 8;
-        put16(at, cluster % 2 == 0 ? (word & 0xF000) | value : (word & 0x000F) | value << 4);
-    }
+    put_link(image + 512, cluster, value);
+    put_link(image + 512 * (1 + kind->fat_sectors), cluster, value);
 }
 
 /* FF6 in the first cluster, FF0 and FF7 in the last two. What stands behind the last is no cluster's. */
