@@ -5,7 +5,20 @@ import os
 import subprocess
 
 from counts import expect
-from exchange import content, contents, differing, exchange, taken
+from exchange import (
+    agreed,
+    append_by_us,
+    content,
+    contents,
+    delete_by_us,
+    differing,
+    exchange,
+    fill_by_us,
+    mark_by_us,
+    read_by_us,
+    taken,
+    weigh,
+)
 from volume import DISKETTES, ENVIRONMENT, Volume
 
 # Far more than a run takes; most are below a second.
@@ -87,9 +100,28 @@ def filled(folder, kilobytes, files, *then):
     return volume
 
 
+def is_whole(volume, data):
+    """Whether a file with these bytes fills its last cluster. DOSBox gives such a file one cluster more."""
+    return len(data) > 0 and len(data) % volume.cluster_bytes == 0
+
+
+def note_spare(volume, files):
+    """Keeps beside which of DOSBox's files have a spare cluster."""
+    volume.spare = {name: 1 for name, data in files.items() if is_whole(volume, data)}
+
+
+def read_by_dosbox(volume, files):
+    before = volume.bytes()
+    changed(volume, *(f"copy a:\\{name} c:\\{name}" for name in files))
+    differ = differing(files, host_folder(volume.folder))
+    expect(differ, [], f"{volume.title}: the bytes of all files by DOSBox")
+    expect(volume.bytes() == before, True, f"{volume.title}: DOSBox's reading alters nothing")
+
+
 def try_exchange(folder, kilobytes):
     files = contents()
-    first = {**files, "FIRST.OUT": content("FIRST.OUT", 3001), "OLD.NAM": b"renamed"}
+    # FIRST.OUT has whole clusters of each kind: that DOSBox deletes it frees its spare one too.
+    first = {**files, "FIRST.OUT": content("FIRST.OUT", 3072), "OLD.NAM": b"renamed"}
     # Copied when others are deleted, it lies in pieces.
     later = {"LATER.BIN": content("LATER.BIN", 9001)}
     give(folder, later)
@@ -98,20 +130,52 @@ def try_exchange(folder, kilobytes):
     volume = filled(folder, kilobytes, first, *then)
     expect(differing(later, host_folder(folder)), [], f"{volume.title}: DOSBox leaves its later source")
     del files["ONE.511"]
-    files = exchange(volume, {**files, **later, "NEW2.NAM": b"renamed"})
-    # DOSBox reads what our calls left.
+    files.update({**later, "NEW2.NAM": b"renamed"})
+    note_spare(volume, files)
+    read_by_dosbox(volume, exchange(volume, files))
+
+
+def append_to_spare_cluster(volume, files):
+    """No cluster is free: the weighings that fit the day's spare cluster are stored, and not one more."""
+    # A line has 15 bytes; before the first comes the end of the line that the file ends in.
+    most = (volume.cluster_bytes - 1) // 15
     before = volume.bytes()
-    changed(volume, *(f"copy a:\\{name} c:\\{name}" for name in files))
-    expect(differing(files, host_folder(folder)), [], f"{volume.title}: the bytes of all files by DOSBox")
-    expect(volume.bytes() == before, True, f"{volume.title}: DOSBox's reading alters nothing")
+    status, said, _ = weigh(volume, most + 1)
+    full = (status, "The disk is full" in said, volume.bytes() == before)
+    expect(full, (1, True, True), f"{volume.title}: a weighing more than the spare cluster has room for is refused")
+    append_by_us(volume, files, most)
+    _, root, _ = volume.layout()
+    expect(volume.bytes()[:root] == before[:root], True, f"{volume.title}: no byte before the root is altered")
+
+
+def with_whole_clusters(folder, kilobytes):
+    """A volume with files of whole clusters by DOSBox, and the files."""
+    sizes = {"19830901.LOG": 2, "WHOLE.BIN": 3, "KEPT.BIN": 1}
+    cluster_bytes = DISKETTES[kilobytes][2]
+    files = {name: content(name, clusters * cluster_bytes) for name, clusters in sizes.items()}
+    files["TARE.KEY"] = content("TARE.KEY", 40)
+    volume = filled(folder, kilobytes, files)
+    volume.title += ", whole clusters"
+    note_spare(volume, files)
+    lengths = {name: len(volume.chain_of(name)) for name in sizes}
+    one_more = {name: clusters + 1 for name, clusters in sizes.items()}
+    expect(lengths, one_more, f"{volume.title}: DOSBox takes one cluster more")
+    return volume, files
 
 
 def try_whole_clusters(folder, kilobytes):
-    # A file that fills its last cluster gets one cluster more from DOSBox: finding 5 at its slot.
-    size = 2 * DISKETTES[kilobytes][2]
-    volume = filled(folder, kilobytes, {"TARE.KEY": b"tare", "WHOLE.BIN": content("WHOLE.BIN", size)})
-    volume.expect_finding(5, volume.slot_of("WHOLE.BIN")[0], "a file of whole clusters")
-    volume.expect_fsck_complains("a file of whole clusters")
+    volume, files = with_whole_clusters(folder, kilobytes)
+    agreed(volume, files, "the maker's files", fsck=True)
+    read_by_us(volume, files, f"{volume.title}, the maker's files")
+    fill_by_us(volume, files, "WHOLE.BIN")
+    agreed(volume, files, "filled by our command", fsck=True)
+    mark_by_us(volume)
+    append_to_spare_cluster(volume, files)
+    agreed(volume, files, "a spare cluster filled", fsck=True)
+    read_by_dosbox(volume, files)
+    delete_by_us(volume, files, "KEPT.BIN")
+    agreed(volume, files, "the last file with a spare cluster deleted", fsck=True)
+    read_by_dosbox(volume, files)
 
 
 def try_overwritten(folder, kilobytes):

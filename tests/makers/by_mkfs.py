@@ -5,7 +5,7 @@ import struct
 
 from as_mdir import free_of
 from counts import expect
-from exchange import content, contents, exchange, fill_by_us, held, read_by_us
+from exchange import agreed, content, contents, exchange, fill_by_us, held, read_by_us
 from volume import DISKETTES, Volume, ended, ran
 
 # What gives the layout of each kind. Without -g it takes 16 sectors a track, and drops what does not fill a track.
@@ -19,6 +19,17 @@ KINDS = {
 # Blocks of 1,024 bytes that it may be told are bad, and values of reserved clusters, behind the files.
 BAD = (20, 30)
 RESERVED = {150 + n: 0xFF0 + n for n in range(7)}
+
+# Clusters behind the files, in no order. Of the files to which they are given the exchange keeps two, one of which is
+# empty, and writes longer, puts anew, deletes and renames one each.
+SPARE = {
+    "TARE.KEY": [200, 230],
+    "EMPTY": [241, 202],
+    "19830901.LOG": [210, 209, 208, 207, 206],
+    "DAY001.LOG": [220],
+    "GONE.BIN": [301, 300, 310],
+    "ONE.513": [250],
+}
 
 
 def formatted(folder, kilobytes, words):
@@ -61,21 +72,6 @@ def try_bad_blocks(folder, kilobytes):
     expect(bad_blocks(volume) == before, True, f"{volume.title}: bad blocks keep their bytes")
 
 
-def put_reserved(volume):
-    """Puts the values of RESERVED into both copies of the table, by hand; half a byte of each word is a neighbour's."""
-    image = bytearray(volume.bytes())
-    table = struct.unpack_from("<H", image, 22)[0]
-    for copy in range(2):
-        for cluster, value in RESERVED.items():
-            at = 512 * (1 + copy * table) + cluster * 3 // 2
-            word = struct.unpack_from("<H", image, at)[0]
-            word = word & 0x000F | value << 4 if cluster % 2 else word & 0xF000 | value
-            struct.pack_into("<H", image, at, word)
-    with open(volume.path, "wb") as file:
-        file.write(image)
-    volume.reserved = len(RESERVED)
-
-
 def reserved_clusters(volume):
     """Their bytes."""
     begins = [512 * volume.first_data + (cluster - 2) * volume.cluster_bytes for cluster in RESERVED]
@@ -95,9 +91,9 @@ def try_reserved(folder, kilobytes):
     # No maker here has such values: mtools does not read the volume then, and fsck.fat would free the clusters.
     volume = with_bad_blocks(folder, kilobytes)
     volume.title = f"mkfs.fat with bad blocks, and reserved clusters put there by hand, {kilobytes}K"
-    put_reserved(volume)
-    [(status, shown, _)] = ended(["mdir", "-i", volume.path, "::"])
-    expect((status, shown), (1, b""), f"{volume.title}: mdir does not read it")
+    volume.put_values(RESERVED)
+    volume.reserved = len(RESERVED)
+    volume.expect_unread_by_mdir()
     volume.expect_fsck_complains("the maker's files")
     files, before = contents(), (bad_blocks(volume), reserved_clusters(volume))
     counted(volume, files, "the maker's files")
@@ -105,6 +101,54 @@ def try_reserved(folder, kilobytes):
     counted(volume, files, "filled by our command")
     after = (bad_blocks(volume), reserved_clusters(volume))
     expect(after == before, True, f"{volume.title}: bad and reserved clusters keep their bytes")
+
+
+def reserve_ahead(volume):
+    """Gives files the clusters of SPARE by hand, as a unit does that takes them before it needs them."""
+    for name, spare in SPARE.items():
+        chain = volume.chain_of(name)
+        if chain:
+            volume.put_values({chain[-1]: spare[0]})
+        else:
+            volume.put_start(name, spare[0])
+        volume.put_values(dict(zip(spare, [*spare[1:], 0xFFF])))
+        expect(volume.chain_of(name), chain + spare, f"{volume.title}: the clusters of {name}")
+    volume.spare = {name: len(spare) for name, spare in SPARE.items()}
+
+
+def mapped_by_us(volume, files):
+    """Our map has each file's letter at just its clusters, the spare ones too."""
+    [(status, shown, _)] = ended(volume.command("map"))
+    above, _, below = shown.decode().partition("\n\n")
+    signs = "".join(line[6:] for line in above.splitlines())
+    letters = {line[3:15].strip(): line[0] for line in below.splitlines() if line.endswith(" bytes")}
+    mapped = {name: [at + 2 for at, sign in enumerate(signs) if sign == letters[name]] for name in files}
+    chains = {name: sorted(volume.chain_of(name)) for name in files}
+    expect((status, mapped), (0, chains), f"{volume.title}: our map has each cluster as its file's")
+
+
+def freed_by_others(volume, files):
+    """mtools frees the spare clusters of files that it deletes, and fsck.fat those of the others."""
+    for name in ("EMPTY", "NEW.NAM"):
+        volume.tool("mdel", f"::{name}")
+        del files[name], volume.spare[name]
+    agreed(volume, files, "two files with spare clusters deleted by mtools", fsck=True)
+    [(status, _, _)] = ended(["fsck.fat", "-a", volume.path])
+    expect(status, 1, f"{volume.title}: fsck.fat mends it")
+    volume.spare = {}
+    agreed(volume, files, "mended by fsck.fat", fsck=True)
+
+
+def try_reserving_ahead(folder, kilobytes):
+    # No maker here does so but DOSBox, by one cluster.
+    volume = formatted(folder, kilobytes, KINDS[kilobytes])
+    volume.title = f"mkfs.fat, and spare clusters put there by hand, {kilobytes}K"
+    volume.copy_all(contents())
+    reserve_ahead(volume)
+    mapped_by_us(volume, contents())
+    files = exchange(volume, contents())
+    mapped_by_us(volume, files)
+    freed_by_others(volume, files)
 
 
 def try_usual(folder):
@@ -156,6 +200,7 @@ def try_all(folder):
     for kilobytes in DISKETTES:
         try_kind(folder, kilobytes)
         try_bad_blocks(folder, kilobytes)
+        try_reserving_ahead(folder, kilobytes)
     try_reserved(folder, 360)
     try_usual(folder)
     try_other_layouts(folder)

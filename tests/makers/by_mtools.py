@@ -1,7 +1,7 @@
 """Volumes formatted and filled by mtools."""
 
 from counts import expect
-from exchange import contents, exchange
+from exchange import contents, delete_by_us, exchange, put_by_us, read_by_us
 from volume import DISKETTES, Volume, ended, fields
 
 
@@ -75,6 +75,22 @@ def try_full(folder, kilobytes):
     volume.expect_sound("no cluster free")
 
 
+def try_last_cluster(folder, kilobytes):
+    # mtools takes the last cluster's number for too big, but in the entry of the cluster before it.
+    volume = formatted(folder, kilobytes)
+    volume.title += ", a link to the last cluster"
+    files = {"FIRST": plain(2 * volume.cluster_bytes), "MOST": plain((volume.clusters - 3) * volume.cluster_bytes)}
+    volume.copy_all(files)
+    volume.expect_sound("the last cluster free")
+    delete_by_us(volume, files, "FIRST")
+    files["NEW"] = plain(3 * volume.cluster_bytes)
+    put_by_us(volume, {"NEW": files["NEW"]})
+    expect(volume.chain_of("NEW"), [2, 3, volume.clusters + 1], f"{volume.title}: the clusters of a new file")
+    volume.expect_counts(2, 0, volume.clusters, volume.title)
+    read_by_us(volume, files, volume.title)
+    volume.expect_unread_by_mdir()
+
+
 def try_long_names(folder, kilobytes):
     # A long name stands in entries of attribute 0F before the file's own, 13 characters each: bit 08 makes each a
     # label. One is allowed.
@@ -126,6 +142,7 @@ def try_all(folder):
         try_files(folder, kilobytes)
         try_list(folder, kilobytes)
         try_full(folder, kilobytes)
+        try_last_cluster(folder, kilobytes)
         try_long_names(folder, kilobytes)
         try_folder(folder, kilobytes)
         try_exchange(folder, kilobytes)

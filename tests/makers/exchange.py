@@ -11,16 +11,17 @@ from volume import COMMAND, ended
 
 SCALE = ["tests/x86.sh", "target/c/scale"]
 
-# The files that each maker puts on its volumes, in this order; sizes about the ends of clusters, but on no end of one
-# (DOSBox's volumes are not sound then).
+# The files that each maker puts on its volumes, in this order; sizes about the ends of clusters and on them.
 SIZES = {
     "TARE.KEY": 40,
     "19830901.LOG": 1000,
     "DAY001.LOG": 1025,
     "EMPTY": 0,
     "ONE.511": 511,
-    "GONE.BIN": 5000,
+    "GONE.BIN": 5120,
+    "ONE.512": 512,
     "ONE.513": 513,
+    "WHOLE.4K": 4096,
     "LONG.BIN": 40001,
 }
 
@@ -45,8 +46,8 @@ def contents():
 
 
 def held(volume, files):
-    """The clusters that files with these bytes need."""
-    return sum(-(-len(data) // volume.cluster_bytes) for data in files.values())
+    """The clusters that files with these bytes have: those that they need, and spare ones."""
+    return sum(volume.needed(len(data)) for data in files.values()) + sum(volume.spare.values())
 
 
 def taken(path):
@@ -96,27 +97,60 @@ def read_by_mtools(volume, files, what):
 
 
 def agreed(volume, files, what, fsck):
-    """Sound, and the files have these bytes by mtools; fsck.fat finds nothing."""
+    """Sound, and the files have these bytes by mtools; fsck.fat finds nothing but spare clusters."""
     volume.expect_sound(what)
     what = f"{volume.title}, {what}"
     read_by_mtools(volume, files, what)
     if fsck:
-        volume.expect_fsck_passes(len(files), held(volume, files), what)
+        volume.expect_fsck_agrees(what)
 
 
 def put_by_us(volume, files):
-    """Has our command put these files there."""
+    """Has our command put these files there. An old file of the name loses its spare clusters."""
     said = [volume.put(name, data) for name, data in files.items()]
     expect(said, [(0, "")] * len(files), f"{volume.title}: our put")
+    for name in files:
+        volume.spare.pop(name, None)
 
 
-def weigh(volume, files):
-    """The scale's program writes behind the day's file, whose last line has no end; it wants a read-only tare."""
-    expect(volume.change("mode", "TARE.KEY", "01"), True, f"{volume.title}: our mode")
-    grams = [str(61000 + n) for n in range(200)]
+def weigh(volume, count):
+    """So many weighings, by the scale's program: its exit status, what it said, and the bytes of the weighings' lines.
+    It writes behind the day's file, whose last line has no end."""
+    grams = [str(61000 + n) for n in range(count)]
     [(status, _, said)] = ended([*SCALE, volume.path, "1983-09-01", "18:05:58", *grams])
+    return status, said, ("\n" + "".join(f"18:05:58 {weight}\n" for weight in grams)).encode()
+
+
+def append_by_us(volume, files, count):
+    """The scale's program writes so many weighings behind the day's file, in its spare clusters first."""
+    name = "19830901.LOG"
+    status, said, lines = weigh(volume, count)
     expect((status, said), (0, ""), f"{volume.title}: weighings written at a file's end")
-    files["19830901.LOG"] += ("\n" + "".join(f"18:05:58 {weight}\n" for weight in grams)).encode()
+    own = volume.needed(len(files[name])) + volume.spare.pop(name, 0)
+    files[name] += lines
+    left = own - volume.needed(len(files[name]))
+    if left > 0:
+        volume.spare[name] = left
+
+
+def delete_by_us(volume, files, name):
+    """Has our command delete a file; its spare clusters go too."""
+    expect(volume.change("delete", name), True, f"{volume.title}: our delete")
+    del files[name]
+    volume.spare.pop(name, None)
+
+
+def rename_by_us(volume, files, name, new_name):
+    """Has our command rename a file, which keeps its spare clusters."""
+    expect(volume.change("rename", name, new_name), True, f"{volume.title}: our rename")
+    for kept in (files, volume.spare):
+        if name in kept:
+            kept[new_name] = kept.pop(name)
+
+
+def mark_by_us(volume):
+    """Has our command mark the tare read-only: the scale's program wants it so."""
+    expect(volume.change("mode", "TARE.KEY", "01"), True, f"{volume.title}: our mode")
 
 
 def change_by_us(volume, files):
@@ -124,30 +158,31 @@ def change_by_us(volume, files):
     sizes = {"PIECES.BIN": 9001, "WHOLE.BIN": 2 * volume.cluster_bytes, "NOTHING": 0, "DAY001.LOG": 3000}
     put = {name: content(f"ours {name}", size) for name, size in sizes.items()}
     # The free clusters of the deleted file come first, then those after the last file: PIECES.BIN lies in pieces.
-    expect(volume.change("delete", "GONE.BIN"), True, f"{volume.title}: our delete")
+    delete_by_us(volume, files, "GONE.BIN")
     put_by_us(volume, put)
-    expect(volume.change("rename", "ONE.513", "NEW.NAM"), True, f"{volume.title}: our rename")
-    weigh(volume, files)
-    del files["GONE.BIN"]
     files.update(put)
-    files["NEW.NAM"] = files.pop("ONE.513")
+    rename_by_us(volume, files, "ONE.513", "NEW.NAM")
+    mark_by_us(volume)
+    append_by_us(volume, files, 200)
     mark = volume.tool("mattrib", "-X", "::TARE.KEY").split()[0]
     expect(mark, "R", f"{volume.title}: the tare's mark by mattrib")
 
 
-def fill_by_us(volume, files):
+def fill_by_us(volume, files, name="REST.BIN"):
     """Puts a file that leaves no cluster free; one byte more finds no room, before and after."""
-    free = volume.clusters - held(volume, files) - volume.bad - volume.reserved
-    room = free * volume.cluster_bytes
-    data = content("ours REST.BIN", room + 1)
+    # An old file of the name makes room by all its clusters, the spare ones too.
+    files.pop(name, None)
+    volume.spare.pop(name, None)
+    room = (volume.clusters - held(volume, files) - volume.bad - volume.reserved) * volume.cluster_bytes
+    data = content(f"ours {name}", room + 1)
     before = volume.bytes()
-    status, said = volume.put("REST.BIN", data)
+    status, said = volume.put(name, data)
     full = (status, f"room for {room} of {room + 1} bytes" in said, volume.bytes() == before)
     expect(full, (1, True, True), f"{volume.title}: our put of a byte too much changes nothing")
-    put_by_us(volume, {"REST.BIN": data[:room]})
+    put_by_us(volume, {name: data[:room]})
     status, said = volume.put("MORE.BIN", b"M")
     expect((status, "room for 0 of 1 bytes" in said), (1, True), f"{volume.title}: our put finds the volume full")
-    files["REST.BIN"] = data[:room]
+    files[name] = data[:room]
 
 
 def exchange(volume, files, fsck=True):

@@ -64,6 +64,8 @@ class Volume:
         self.folder = folder
         self.title = f"{maker}, {kilobytes}K"
         self.bad = self.reserved = 0
+        # The clusters that files have beyond what their sizes need, by the files' names.
+        self.spare = {}
         if kilobytes in DISKETTES:
             self.kind, self.clusters, self.cluster_bytes, self.first_data = DISKETTES[kilobytes]
         self.path = os.path.join(folder, "volume")
@@ -76,11 +78,16 @@ class Volume:
         with open(self.path, "rb") as file:
             return file.read()
 
+    def layout(self):
+        """Where the copies of the table begin, where the root begins, and its entries."""
+        sector, _, reserved, copies, entries, _, _, table = struct.unpack_from("<HBHBHHBH", self.bytes(), 11)
+        begins = [(reserved + copy * table) * sector for copy in range(copies + 1)]
+        return begins[:-1], begins[-1], entries
+
     def root(self):
         """The root's entries."""
+        _, begin, entries = self.layout()
         image = self.bytes()
-        sector, _, reserved, copies, entries, _, _, table = struct.unpack_from("<HBHBHHBH", image, 11)
-        begin = (reserved + copies * table) * sector
         return [image[begin + 32 * slot :][:32] for slot in range(entries)]
 
     def slots_with(self, bit):
@@ -94,6 +101,42 @@ class Volume:
         wanted = f"{first:8}{extension:3}".encode()
         slot = [entry[:11] for entry in self.root()].index(wanted)
         return slot, struct.unpack_from("<H", self.root()[slot], 26)[0]
+
+    def chain_of(self, name):
+        """The clusters of a file, by the first copy of the table."""
+        (table, *_), _, _ = self.layout()
+        image = self.bytes()
+        chain, value = [], self.slot_of(name)[1]
+        while 2 <= value <= self.clusters + 1:
+            chain.append(value)
+            word = struct.unpack_from("<H", image, table + value * 3 // 2)[0]
+            value = word >> 4 if value % 2 else word & 0xFFF
+        return chain
+
+    def put_values(self, values):
+        """Puts values into both copies of the table, by hand; half a byte of each word is a neighbour's."""
+        image = bytearray(self.bytes())
+        for table in self.layout()[0]:
+            for cluster, value in values.items():
+                at = table + cluster * 3 // 2
+                word = struct.unpack_from("<H", image, at)[0]
+                word = word & 0x000F | value << 4 if cluster % 2 else word & 0xF000 | value
+                struct.pack_into("<H", image, at, word)
+        self.store(image)
+
+    def put_start(self, name, cluster):
+        """Puts the cluster at which a file starts into its entry, by hand."""
+        image = bytearray(self.bytes())
+        struct.pack_into("<H", image, self.layout()[1] + 32 * self.slot_of(name)[0] + 26, cluster)
+        self.store(image)
+
+    def store(self, image):
+        with open(self.path, "wb") as file:
+            file.write(image)
+
+    def needed(self, size):
+        """The clusters that a file of this size needs."""
+        return -(-size // self.cluster_bytes)
 
     # ---- mtools and fsck.fat.
 
@@ -119,6 +162,12 @@ class Volume:
         """mdir's text, with hidden and system files."""
         return self.tool("mdir", "-a", "::")
 
+    def expect_unread_by_mdir(self):
+        """mdir takes the volume for no DOS disk."""
+        [(status, shown, said)] = ended(["mdir", "-i", self.path, "::"])
+        unread = (status, shown, "non MS-DOS disk" in said)
+        expect(unread, (1, b"", True), f"{self.title}: mdir does not read it")
+
     def marks_by_mattrib(self):
         """The letters of each file's attribute, in slot order."""
         lines = self.tool("mattrib", "-X", "::*").splitlines() if files_of(self.mdir()) else []
@@ -132,15 +181,26 @@ class Volume:
         done = subprocess.run(["fsck.fat", "-n", self.path], env=ENVIRONMENT, capture_output=True, text=True)
         return done.returncode, done.stdout.splitlines()[1:]
 
-    def expect_fsck_passes(self, files, held, what):
-        """fsck.fat finds nothing, and counts the files and clusters as the specification does."""
-        # Its only line is the sum; any finding is a line more. It counts the label as a file, and bad clusters with
-        # those held.
-        files += len(self.slots_with(0x08))
-        lines = [f"{self.path}: {files} files, {held + self.bad}/{self.clusters} clusters"]
+    def expect_fsck_agrees(self, what):
+        """fsck.fat finds the files with spare clusters and nothing else; it counts all files, and no such clusters."""
+        files = files_of(self.mdir())
+        longer = [line for name, size in files if name in self.spare for line in self.cut_by_fsck(name, size)]
+        lines = [*longer, "", "Leaving filesystem unchanged."] if longer else []
+        # Its last line is the sum. It counts the label as a file, and bad clusters with those held.
+        counted = len(files) + len(self.slots_with(0x08))
+        clusters = sum(self.needed(size) for _, size in files) + self.bad
+        lines.append(f"{self.path}: {counted} files, {clusters}/{self.clusters} clusters")
         said = self.fsck(what)
         if said is not None:
-            expect(said, (0, lines), f"{what}: fsck.fat finds nothing")
+            found = f"just the spare clusters of {', '.join(self.spare)}" if self.spare else "nothing"
+            expect(said, (1 if longer else 0, lines), f"{what}: fsck.fat finds {found}")
+
+    def cut_by_fsck(self, name, size):
+        """What fsck.fat says of a file with spare clusters."""
+        most = self.needed(size) * self.cluster_bytes
+        yield f"/{name}"
+        yield f"  File size is {size} bytes, cluster chain length is > {most} bytes."
+        yield f"  Truncating file to {size} bytes."
 
     def expect_fsck_complains(self, what):
         """fsck.fat finds something too."""
@@ -197,7 +257,7 @@ class Volume:
         shown = self.mdir()
         files = files_of(shown)
         free = free_of(shown) // self.cluster_bytes
-        held = sum(-(-size // self.cluster_bytes) for _, size in files)
+        held = sum(self.needed(size) for _, size in files) + sum(self.spare.values())
         total = free + held + self.bad + self.reserved
         expect(total, self.clusters, f"{what}: each cluster is free, held, bad or reserved")
         lines = self.expect_counts(len(files), free, held, what)
