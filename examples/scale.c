@@ -144,8 +144,8 @@ static long find_tare(const struct bytes *image)
             "(refusal 2)",
             tare_name);
     else if (number != 0)
-        say("%s: The tare's chain of clusters is too short, broken or without end, so nothing is weighed. Put in another "
-            "disk with this season's tare. (refusal %u)",
+        say("%s: The tare's chain of clusters is too short, broken or without end, so nothing is weighed. Put in "
+            "another disk with this season's tare. (refusal %u)",
             tare_name, (unsigned)number);
     else if (!is_tare_read_only(image)) {
         say("%s: The tare is not read-only, so it may have been changed. Have it checked, and set its mode to 01.",

@@ -216,8 +216,8 @@ uint64_t bm_open(const uint8_t *image, size_t image_length, uint8_t *table, size
 
 /* Makes an empty file and opens it with BM_READ_AND_WRITE, even one that is marked read-only.
  *
- * A file of that name is emptied: its bytes are lost and all its clusters free. Else the lowest erased or never used slot
- * is taken. The entry gets the attribute and the stamp. It takes the lowest unused place.
+ * A file of that name is emptied: its bytes are lost and all its clusters free. Else the lowest erased or never used
+ * slot is taken. The entry gets the attribute and the stamp. It takes the lowest unused place.
  *
  * Value: the handle.
  * Refusals: 40, 41; 42; 43; 5 if attribute has another bit than BM_READ_ONLY, BM_HIDDEN, BM_SYSTEM and BM_ARCHIVE, if

@@ -8,8 +8,8 @@
 /* Number 5. Whoever asks here has no file open but the one in hand, so it is never for an open file. */
 static const char *const denied[TASKS] = {
     [READING] = "The file was not opened for reading. That is a mistake in this program: please report it.",
-    [RESCUING] = "The file's chain of clusters is too short, broken or without end, so its bytes can't be told. Take the disk "
-                 "to the service bench.",
+    [RESCUING] = "The file's chain of clusters is too short, broken or without end, so its bytes can't be told. Take "
+                 "the disk to the service bench.",
     [MATCHING] = "No file is opened while others are found. That is a mistake in this program: please report it.",
     [MAKING] = "The directory has no room for another name. Delete a file first, or take another disk.",
     [REPLACING] = "A file of that name is read-only. If it may be replaced, take that mark away first (mode -r).",
