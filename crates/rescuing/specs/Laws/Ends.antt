@@ -26,7 +26,7 @@ module _ (v : ℕ) where
   end-within h = rw (le-leb 0xFF8 v h)
 
 -- c was met last, and clusters from its value on: where the last of all has an end value, that value leads to them
-pub met-leads : (last : ℕ) (f : ℕ → ℕ) (n c : ℕ) → End (f (lastOf c (clustersFrom last f n (f c)))) → Leads last f (f c) (clustersFrom last f n (f c))
+met-leads : (last : ℕ) (f : ℕ → ℕ) (n c : ℕ) → End (f (lastOf c (clustersFrom last f n (f c)))) → Leads last f (f c) (clustersFrom last f n (f c))
 unfolding clustersFrom lastOf
 met-leads last f zero c e = e
 met-leads last f (suc n) c e = by (linkb last (f c)) refl (met-leads last f n (f c)) e
