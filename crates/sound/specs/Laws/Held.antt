@@ -1,5 +1,5 @@
--- Held is the same by any lists that are the files' chains, and it is what the walks find.
-use Prim.Native.Nat.{ℕ, _<_}
+-- What the walks find is held.
+use Prim.Native.Nat.{ℕ}
 use mathlib.Core.Bool.{Bool, true, false, cond}
 use mathlib.Core.List.{List, []}
 use mathlib.Core.Path.{_≡_, refl, sym, ap, _∙_, subst}
@@ -16,33 +16,22 @@ use Rattle.diskette.specs.Places.{clusterBytes, lastCluster, rootEntries, slotA
 use Rattle.diskette.specs.declared.Kind.{Kind}
 use Rattle.fields.specs.Fields.{startOf, sizeOf}
 use Rattle.directory.specs.Slots.{standingOf, isPlain}
-use Rattle.directory.specs.Laws.Slots.{plain-is}
 use Rattle.chaincheck.specs.Aids.Held.{chainAt, heldSlot}
 use Rattle.chaincheck.specs.Aids.Entries.{holderAt}
 use Rattle.chaincheck.specs.Laws.SlotTurns.{holder-none, chain-of}
 use Rattle.sound.specs.Counts.{isFile, fileCount, freeOf, heldBy, heldOf, badOf, reservedOf}
-use Rattle.sound.specs.Files.{valueOf, IsFile, ChainOf, AreChains}
+use Rattle.sound.specs.Files.{valueOf, ChainOf, AreChains}
 use Rattle.sound.specs.Findings.{BadChain}
 use Rattle.sound.specs.Aids.FromFinding.{Counted}
 use Rattle.sound.specs.Aids.Judged.{soundWith, heldFound, voice}
 use Rattle.sound.specs.Laws.Chains.{file-owns-chain}
 use Rattle.sound.specs.Laws.Geometry.{geometry}
-use Rattle.sound.specs.Laws.Sound.{chain-only}
+use Rattle.sound.specs.Laws.Sound.{held-same}
 use Rattle.sound.specs.declared.Verdict.{Verdict}
 
 module _ (k : Kind) (u : Usable k) (l : List ℕ) where
   G : Geometry
   G = geometry k u
-
-  pub held-same : (xs ys : ℕ → List ℕ) → AreChains k l xs → AreChains k l ys → heldOf k l xs ≡ heldOf k l ys
-  unfolding heldBy isFile
-  held-same xs ys p q = sum-cong (rootEntries k) _ _ (λ s h. by s h (isPlain (standingOf l (slotAt k s))) refl)
-    where
-      by : (s : ℕ) → s < rootEntries k → (b : Bool) → isPlain (standingOf l (slotAt k s)) ≡ b → cond b (length (xs s)) 0 ≡ cond b (length (ys s)) 0
-      by s h true e =
-          let i : IsFile k l s = record { below = h; plain = plain-is l (slotAt k s) .0 e } in
-          ap length (chain-only k u l s (xs s) (ys s) (p s i) (q s i))
-      by s h false e = refl
 
   -- ---- the walks
 
@@ -83,4 +72,4 @@ module _ (k : Kind) (u : Usable k) (l : List ℕ) where
   found-counted n v e = (found, found-chains n, e ∙ ap with (sym held-found))
 
   pub counted-only : (v w : Verdict) → Counted k l v → Counted k l w → v ≡ w
-  counted-only v w x y = x .2 ∙ ap with (held-same (x .0) (y .0) (x .1) (y .1)) ∙ sym (y .2)
+  counted-only v w x y = x .2 ∙ ap with (held-same k u l (x .0) (y .0) (x .1) (y .1)) ∙ sym (y .2)

@@ -20,9 +20,9 @@ use Rattle.sound.specs.Aids.Holders.{rootList, rootHolders, rootChains}
 use Rattle.sound.specs.Aids.Judged.{heldFound}
 use Rattle.sound.specs.Sound.{Sound}
 use Rattle.sound.specs.Laws.Geometry.{geometry}
-use Rattle.sound.specs.Laws.Held.{held-same, found-chains, held-found}
+use Rattle.sound.specs.Laws.Held.{found-chains, held-found}
 use Rattle.sound.specs.Laws.Holders.{root-holder}
-use Rattle.sound.specs.Laws.Sound.{sound-theory, sound-no-finding}
+use Rattle.sound.specs.Laws.Sound.{held-same, sound-theory, sound-no-finding}
 use Rattle.sound.specs.Laws.Theory.{root-names}
 
 module _ (k : Kind) (u : Usable k) (l : List ℕ) where
