@@ -19,8 +19,8 @@ pub mod EveryCall
 pub mod Runs
 pub mod Shown
 pub mod Room
-pub mod Promises
 pub mod Spare
+pub mod Promises
 pub mod TarePlaces
 pub mod TareCalls
 pub mod Tare

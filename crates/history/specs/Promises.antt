@@ -20,7 +20,6 @@ use Rattle.sound.specs.Counts.{freeOf, heldOf, badOf, reservedOf}
 use Rattle.sound.specs.Files.{ChainOf, AreChains}
 use Rattle.sound.specs.Sound.{Sound}
 use Rattle.reading.specs.Read.{readCount}
-use Rattle.writing.specs.Write.{roomOf}
 use Rattle.changes.specs.Files.{File, Files, Holds, Shows, ShowsAt}
 use Rattle.history.specs.History.{History}
 use Rattle.history.specs.Meant.{Names}
@@ -94,18 +93,19 @@ abbrev pub TotalAfterEach : Library → Type 0
 TotalAfterEach lib = AfterAnyRun lib (λ k w. (lists : ℕ → List ℕ) → AreChains k (w .image) lists →
     let l = w .image in freeOf k l + heldOf k l lists + badOf k l + reservedOf k l ≡ clusters k)
 
--- "a write falls short only where the file's own clusters and all free ones end before its last byte"; and then it fills them
+-- "a write falls short only where the file's own clusters and all free ones end before its last byte"; and then it fills them. The
+-- file's clusters are the list cs.
 abbrev pub ShortOnlyWhereFull : Library → Type 0
-ShortOnlyWhereFull lib = AfterAnyRun lib (λ k w. (h : ℕ) (bs : List ℕ) (s : ℕ) →
+ShortOnlyWhereFull lib = AfterAnyRun lib (λ k w. (h : ℕ) (bs : List ℕ) (s : ℕ) (cs : List ℕ) →
     let o = lib (write h bs) w in
-    let room = roomOf k (w .image) (slotAt k s) in
+    let room = (length cs + freeOf k (w .image)) * clusterBytes k in
     let pointer = pointerOf (w .table) h in
-    o .number ≡ 0 → Names (write h bs) k w s
+    o .number ≡ 0 → Names (write h bs) k w s → ChainOf k (w .image) s cs
     → (o .value ≤ length bs)
     × (o .value < length bs → (room < pointer + length bs) × (0 < o .value → pointer + o .value ≡ room)))
 
--- "Write uses the file's spare clusters first": where the file's clusters, the list cs, reach to the last byte given, no byte
--- before the root is altered, so no table entry, and the start stays
+-- "Write uses the file's spare clusters first": where these, the list cs, reach to the last byte given, no byte before the root is
+-- altered, so no table entry, and the start stays
 abbrev pub SpareFirst : Library → Type 0
 SpareFirst lib = AfterAnyRun lib (λ k w. (h : ℕ) (bs : List ℕ) (s : ℕ) (cs : List ℕ) →
     let m = stepBy lib w (write h bs) .image in

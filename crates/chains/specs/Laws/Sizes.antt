@@ -42,7 +42,7 @@ pub fits-from : (cb n k : ℕ) → clustersFor cb n ≤ k → fits cb n k ≡ tr
 unfolding fits
 fits-from cb n k h = le-leb (clustersFor cb n) k h
 
--- it stays true when both grow
+-- with what is lacking it is true
 pub fits-grows : (cb n k : ℕ) → fits cb n (max k (clustersFor cb n)) ≡ true
 fits-grows cb n k = fits-from cb n (max k (clustersFor cb n)) (omega arith)
 

@@ -14,6 +14,7 @@ use Rattle.sound.specs.Files.{AreChains}
 use Rattle.sound.specs.Laws.Total.{total}
 use Rattle.calls.specs.Outcome.{Outcome}
 use Rattle.calls.specs.Laws.Ready.{on-kind, on-usable}
+use Rattle.holding.specs.Holding.{fileChain}
 use Rattle.writing.specs.Write.{writeCount, writeRows, writeEffect, writeOutcome, roomOf}
 use Rattle.writing.specs.Laws.Write.{count-within}
 use Rattle.history.specs.Aids.Ours.{run}
@@ -25,6 +26,8 @@ use Rattle.history.specs.Laws.Count.{write-short}
 use Rattle.history.specs.Laws.EveryCall.{came}
 use Rattle.history.specs.Laws.Rows.{decided-cases}
 use Rattle.history.specs.Laws.Runs.{begins-run, history-run, shows-run}
+use Rattle.history.specs.Laws.Shown.{list-is}
+use Rattle.history.specs.Laws.Spare.{reached-file}
 
 pub sound-after-each : SoundAfterEach ours
 sound-after-each k w b cs g = begins-run k cs w b g
@@ -67,9 +70,12 @@ counted k w b h bs well =
     ]
 
 pub short-only-where-full : ShortOnlyWhereFull ours
-short-only-where-full k v b cs g h bs s well named =
+unfolding roomOf
+short-only-where-full k v b cs g h bs s ds well named chain =
     let w = run v cs in
+    let begins = begins-run k cs v b g in
+    let own : ds ≡ fileChain k (w .image) (slotAt k s) = list-is k (w .image) (on begins) s (reached-file k w h s named) ds chain in
     let value
-    = counted k w (begins-run k cs v b g) h bs well ∙ ap (λ (i : ℕ). writeCount k (w .image) (slotAt k i) (pointerOf (w .table) h) (length bs)) (named .slot) in
-    rw value
+    = counted k w begins h bs well ∙ ap (λ (i : ℕ). writeCount k (w .image) (slotAt k i) (pointerOf (w .table) h) (length bs)) (named .slot) in
+    rw (own, value)
     (count-within (roomOf k (w .image) (slotAt k s)) (pointerOf (w .table) h) bs _ refl, write-short k (w .image) s (pointerOf (w .table) h) (length bs))

@@ -71,6 +71,10 @@ module _ (k : Kind) (l : List ℕ) (v : OnVolume l k) where
       file-owns-chain k (on-usable l k v) l (rootHolders k l) (root-holder k l) s (fileChain k l (slotAt k s)) i .0
       (subst (λ (h : Holder). Owns (lastCluster k) (valueOf k l) h (fileChain k l (slotAt k s))) (sym holder) (file-owned l k v s i))
 
+  -- so any list that is its chain is that one
+  pub list-is : (s : ℕ) → IsFile k l s → (cs : List ℕ) → ChainOf k l s cs → cs ≡ fileChain k l (slotAt k s)
+  list-is s i cs c = chain-only k (on-usable l k v) l s cs (fileChain k l (slotAt k s)) c (file-chain-of s i)
+
   -- as many bytes as its size says
   pub bytes-long : (s : ℕ) → IsFile k l s → length (fileBytes k l (slotAt k s)) ≡ sizeOf l (slotAt k s)
   unfolding fileBytes
@@ -83,7 +87,7 @@ module _ (k : Kind) (l : List ℕ) (v : OnVolume l k) where
   holds-bytes s f x =
       let i = x .is-file in
       ap (λ (cs : List ℕ). content (512 * firstData k) (clusterBytes k) l cs (sizeOf l (slotAt k s)))
-      (chain-only k (on-usable l k v) l s (fileChain k l (slotAt k s)) (x .bytes .0) (file-chain-of s i) (x .bytes .1))
+      (sym (list-is s i (x .bytes .0) (x .bytes .1)))
       ∙ x .bytes .2
 
 pub first-files : FirstFiles

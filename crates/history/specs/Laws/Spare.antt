@@ -13,10 +13,9 @@ use Rattle.diskette.specs.declared.Kind.{Kind}
 use Rattle.fields.specs.Fields.{startOf}
 use Rattle.opened.specs.Records.{slotOf, pointerOf}
 use Rattle.sound.specs.Files.{IsFile}
-use Rattle.sound.specs.Laws.Sound.{chain-only}
 use Rattle.calls.specs.Outcome.{Outcome}
 use Rattle.calls.specs.Aids.Ready.{OnVolume}
-use Rattle.calls.specs.Laws.Ready.{on-kind, on-usable}
+use Rattle.calls.specs.Laws.Ready.{on-kind}
 use Rattle.holding.specs.Holding.{fileChain}
 use Rattle.holding.specs.Laws.Chain.{file-holds}
 use Rattle.putting.specs.Written.{sizeAfter, writtenIn}
@@ -24,13 +23,18 @@ use Rattle.writing.specs.Write.{writeCount, writeRows, writeEffect, writeOutcom
 use Rattle.writing.specs.Laws.Write.{count-within}
 use Rattle.changes.specs.Laws.Wrote.{tables-kept, start-kept}
 use Rattle.history.specs.Aids.Ours.{step, run}
+use Rattle.history.specs.Meant.{Reaches}
 use Rattle.history.specs.Promises.{Begins, SpareFirst}
 use Rattle.history.specs.World.{World, ours, write}
 use Rattle.history.specs.Laws.Begins.{on}
 use Rattle.history.specs.Laws.Count.{taken-fits, taken-length}
 use Rattle.history.specs.Laws.Rows.{decided-cases}
 use Rattle.history.specs.Laws.Runs.{begins-run}
-use Rattle.history.specs.Laws.Shown.{file-chain-of}
+use Rattle.history.specs.Laws.Shown.{list-is}
+
+-- a handle reaches a file
+pub reached-file : (k : Kind) (w : World) (h s : ℕ) → Reaches k w h s → IsFile k (w .image) s
+reached-file k w h s x = subst (IsFile k (w .image)) (x .slot) (record { below = x .live .slot; plain = x .live .plain })
 
 abbrev Kept : Kind → List ℕ → List ℕ → ℕ → Type 0
 Kept k l m s = ((j : ℕ) → j < rootAt k → getD m j 0 ≡ getD l j 0) × (startOf m (slotAt k s) ≡ startOf l (slotAt k s))
@@ -80,8 +84,7 @@ pub spare-first : SpareFirst ours
 spare-first k v b cs g h bs s ds well named chain within =
     let w = run v cs in
     let begins = begins-run k cs v b g in
-    let i : IsFile k (w .image) s = subst (IsFile k (w .image)) (named .slot) (record { below = named .live .slot; plain = named .live .plain }) in
-    let own : ds ≡ fileChain k (w .image) (slotAt k s)
-    = chain-only k (on-usable (w .image) k (on begins)) (w .image) s ds (fileChain k (w .image) (slotAt k s)) chain (file-chain-of k (w .image) (on begins) s i) in
+    let i = reached-file k w h s named in
+    let own : ds ≡ fileChain k (w .image) (slotAt k s) = list-is k (w .image) (on begins) s i ds chain in
     subst (λ (x : ℕ). Kept k (w .image) (step w (write h bs) .image) x) (named .slot)
     (write-within k w begins h bs well (rw (named .slot) i) (rw (named .slot, ← own) within))
