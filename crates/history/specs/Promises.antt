@@ -104,8 +104,8 @@ ShortOnlyWhereFull lib = AfterAnyRun lib (λ k w. (h : ℕ) (bs : List ℕ) (s :
     → (o .value ≤ length bs)
     × (o .value < length bs → (room < pointer + length bs) × (0 < o .value → pointer + o .value ≡ room)))
 
--- "Write uses the file's spare clusters first": where these, the list cs, reach to the last byte given, no byte before the root is
--- altered, so no table entry, and the start stays
+-- "Write uses the file's spare clusters first": where all clusters of the file, the list cs, reach to the last byte given, no byte
+-- before the root is altered, so no table entry, and the start stays
 abbrev pub SpareFirst : Library → Type 0
 SpareFirst lib = AfterAnyRun lib (λ k w. (h : ℕ) (bs : List ℕ) (s : ℕ) (cs : List ℕ) →
     let m = stepBy lib w (write h bs) .image in
