@@ -1,4 +1,6 @@
 // What the calls on a volume and an open table have in common.
+#![tactic(auto)]
+
 pub mod attribute;
 pub mod files;
 pub mod numbers;
@@ -11,7 +13,7 @@ use diskette::{Kind, WhichKind};
 use sound::Verdict;
 
 // What a call answers: a refusal number with value 0, or 0 with the call's value.
-#[derive(Drop)]
+#[derive(Clone, Copy)]
 pub struct Answer {
     pub number: u32,
     pub value: u32,
@@ -32,7 +34,7 @@ impl Answer {
 }
 
 // What every call does first: refused by 40 or 41, else the kind and how many clusters are free.
-#[derive(Drop)]
+#[derive(Clone, Copy)]
 pub enum Ready {
     Refused(u32),
     Volume(Kind, usize),

@@ -1,1 +1,2 @@
 // Chains of clusters, as pure mathematics: there is no code here. The definitions stand in specs/, their laws in specs/Laws/.
+#![tactic(auto)]

@@ -1,2 +1,4 @@
 // Files closed: close.
+#![tactic(auto)]
+
 pub mod close;

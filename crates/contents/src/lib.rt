@@ -1,4 +1,6 @@
 // The bytes of a file along its chain: put, zeroed, fetched, and where they lie. Each loop goes cluster by cluster.
+#![tactic(auto)]
+
 ghost use Rattle.std.specs.Prelude.{◌≡◌, ◌+◌, ◌*◌, ◌/◌, ◌%◌, ◌≤◌, ◌<◌, length};
 ghost use Rattle.image.specs.Store.{stored, part};
 ghost use Rattle.chains.specs.Aids.Steps.{followed};

@@ -1,2 +1,4 @@
 // Files made: create.
+#![tactic(auto)]
+
 pub mod create;

@@ -1,2 +1,4 @@
 // Files ended: delete.
+#![tactic(auto)]
+
 pub mod delete;

@@ -1,4 +1,6 @@
 // What an entry of a directory stands for, by the address a of its first byte, and slots found.
+#![tactic(auto)]
+
 ghost use Rattle.std.specs.Prelude.{◌≡◌, ◌+◌, ◌*◌, ◌≤◌, ◌<◌, length};
 ghost use Rattle.diskette.specs.Places.{slot_from};
 ghost use Rattle.fields.specs.Fields.{name_of};
@@ -7,7 +9,7 @@ ghost use Rattle.directory.specs.Search.{same_from, is_named, lowest_vacant, slo
 
 use search::Found;
 
-#[derive(Drop)]
+#[derive(Clone, Copy)]
 pub enum Standing {
     NeverUsed,
     Erased,

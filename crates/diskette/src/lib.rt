@@ -1,4 +1,6 @@
 // The four kinds of diskette: their numbers, where the parts of a volume stand, and of which kind an image is.
+#![tactic(auto)]
+
 ghost use Rattle.std.specs.Prelude.{◌≡◌, ℕ, ◌≤◌, ◌<◌, length};
 ghost use Rattle.diskette.specs.Kinds.{named};
 ghost use Rattle.diskette.specs.Aids.Usable.{Usable};
@@ -7,7 +9,7 @@ ghost use Rattle.chains.specs.Sizes.{clusters_for};
 ghost use Rattle.diskette.specs.Images.{kind_of_image, kind_of_area};
 
 // Five numbers say all of a kind: the rest is computed from them.
-#[derive(Drop)]
+#[derive(Clone, Copy)]
 pub struct Kind {
     pub byte: u8,
     pub sectors: usize,
@@ -16,7 +18,7 @@ pub struct Kind {
     pub per: usize,
 }
 
-#[derive(Drop)]
+#[derive(Clone, Copy)]
 pub enum WhichKind {
     Known(Kind),
     Unknown,

@@ -1,9 +1,11 @@
 // What stands in a slot: entry at a slot.
+#![tactic(auto)]
+
 pub mod entry;
 
 // What entry at a slot answers: a refusal number or 0, whether an entry was found, and its fields as stored. Where none was
 // found, the fields are zero.
-#[derive(Drop)]
+#[derive(Clone, Copy)]
 pub struct EntryAnswer {
     pub number: u32,
     pub found: bool,

@@ -1,4 +1,6 @@
 // The 32 bytes of a directory entry, by the address a of the first: its fields read and stored.
+#![tactic(auto)]
+
 ghost use Rattle.std.specs.Prelude.{◌≡◌, ◌+◌, ◌≤◌, length};
 ghost use Rattle.fields.specs.Fields.{name_of, attr_of, time_of, date_of, start_of, size_of, with_name, with_first, with_attr, with_time, with_date, with_start, with_size, tail_bytes, with_entry};
 ghost use Rattle.fields.specs.Aids.Fields.{head_bytes};

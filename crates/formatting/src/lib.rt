@@ -1,2 +1,4 @@
 // A new volume: format.
+#![tactic(auto)]
+
 pub mod format;

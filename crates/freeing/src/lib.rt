@@ -1,2 +1,4 @@
 // The clusters of a file given back.
+#![tactic(auto)]
+
 pub mod freed;

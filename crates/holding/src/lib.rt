@@ -1,4 +1,6 @@
 // What a file of a volume holds, its clusters and its bytes: as definitions and laws, but for how far its chain goes.
+#![tactic(auto)]
+
 ghost use Rattle.std.specs.Prelude.{◌+◌, ◌≤◌, ◌≡◌, length};
 ghost use Rattle.diskette.specs.Images.{kind_of_image};
 ghost use Rattle.diskette.specs.declared.WhichKind.TheVariants.{Known};

@@ -1,4 +1,6 @@
 // Bytes as the volume holds them: runs stored and read, numbers with the low byte first.
+#![tactic(auto)]
+
 ghost use Rattle.std.specs.Prelude.{◌≡◌, ℕ, ◌+◌, ◌*◌, ◌≤◌, ◌<◌, length, replicate};
 ghost use Rattle.image.specs.Store.{stored};
 ghost use Rattle.image.specs.Numbers.{number, digits};

@@ -1,5 +1,7 @@
 // The calls over a lent row of open records, beside those over a table of bytes: the record is taken out of the row, the call done
 // on it, and the record that it leaves put back.
+#![tactic(auto)]
+
 ghost use Rattle.std.specs.Prelude.{[]};
 ghost use Rattle.closing.specs.Close.{close_outcome};
 ghost use Rattle.opening.specs.Open.{open_outcome};

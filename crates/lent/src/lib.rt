@@ -1,4 +1,6 @@
 // The open table as a row of records that the caller lends, beside its form as bytes (crate opened).
+#![tactic(auto)]
+
 ghost use Rattle.std.specs.Prelude.{◌≡◌};
 ghost use Rattle.seeking.specs.Seek.{answer_of};
 ghost use Rattle.records.specs.Seek.{base_from, seek_from, SeeksIn};

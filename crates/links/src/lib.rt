@@ -1,5 +1,7 @@
 // Chains in the table of an image: freed, followed, made longer. Each function tests the numbers that it goes by, so that
 // none needs a sound volume.
+#![tactic(auto)]
+
 ghost use Rattle.std.specs.Prelude.{◌≡◌, ◌+◌, ◌-◌, ◌≤◌, ◌<◌, length};
 ghost use Rattle.chains.specs.Chain.{clusters_from};
 ghost use Rattle.table.specs.Entries.{word_at, table_of};
@@ -12,7 +14,7 @@ ghost use Rattle.links.specs.Aids.Linked.{next_free, Added};
 use table::{entry, set_entry};
 
 // How far a chain goes: how many clusters it has, and which is the last, 0 where it has none.
-#[derive(Drop)]
+#[derive(Clone, Copy)]
 pub struct Extent {
     pub clusters: usize,
     pub end: usize,

@@ -1,4 +1,6 @@
 // The listing of a system area, put into a buffer that the caller lends; for C too (tools/listing.h).
+#![tactic(auto)]
+
 ghost use Rattle.std.specs.Prelude.{◌+◌, ◌*◌, ◌≤◌, length};
 ghost use Rattle.diskette.specs.Images.{AreaOf};
 ghost use Rattle.diskette.specs.Places.{slot_from};

@@ -1,2 +1,4 @@
 // A file's attribute told and changed: file mode.
+#![tactic(auto)]
+
 pub mod mode;

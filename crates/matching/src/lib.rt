@@ -1,2 +1,4 @@
 // Files found by a pattern: find.
+#![tactic(auto)]
+
 pub mod find;

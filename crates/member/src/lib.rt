@@ -1,4 +1,6 @@
 // What the command for members asks beside the scale's calls (tools/member.h): plain numbers and an image in, one number out.
+#![tactic(auto)]
+
 pub mod clusters;
 
 ghost use Rattle.std.specs.Prelude.{◌≡◌};

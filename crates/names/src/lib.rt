@@ -1,4 +1,6 @@
 // Names given by callers: eleven bytes, or refused.
+#![tactic(auto)]
+
 ghost use Rattle.std.specs.Prelude.{◌≡◌, length};
 ghost use Rattle.names.specs.Alphabet.{within, small_letter, among, plain, allowed, capital};
 ghost use Rattle.names.specs.Spelling.{dot, every, Parts, eleven};
@@ -7,7 +9,7 @@ ghost use Rattle.names.specs.Aids.Reading.{spelled_as};
 ghost use Rattle.names.specs.Aids.Bytes.{padded_byte, name_byte};
 
 // Whether a name fits the rules, and its eleven bytes (all spaces where it does not).
-#[derive(Drop)]
+#[derive(Clone, Copy)]
 pub struct Spelled {
     pub fits: bool,
     pub name: [u8; 11],

@@ -1,8 +1,10 @@
 // A signed 32-bit offset added to an unsigned 32-bit number: the arithmetic of seek.
+#![tactic(auto)]
+
 ghost use Rattle.std.specs.Prelude.{◌≡◌};
 ghost use Rattle.offset.specs.Offset.{moved_by};
 
-#[derive(Drop)]
+#[derive(Clone, Copy)]
 pub enum Moved {
     To(u32),
     Beyond,

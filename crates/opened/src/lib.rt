@@ -1,5 +1,7 @@
 // The open table as bytes: records of 16 bytes, of which the first 16 count. The functions down to clear know where a field
 // stands; those after them speak of fields and places.
+#![tactic(auto)]
+
 ghost use Rattle.std.specs.Prelude.{◌≡◌, false, ◌+◌, ◌*◌, ◌≤◌, ◌<◌, length};
 ghost use Rattle.image.specs.Store.{stored};
 ghost use Rattle.diskette.specs.Places.{slot_from};

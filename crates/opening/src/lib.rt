@@ -1,2 +1,4 @@
 // Files opened: open.
+#![tactic(auto)]
+
 pub mod open;

@@ -1,4 +1,6 @@
 // Patterns given by callers: eleven bytes, or refused; and the names that match them.
+#![tactic(auto)]
+
 ghost use Rattle.std.specs.Prelude.{◌≡◌, ◌+◌, ◌≤◌, length};
 ghost use Rattle.names.specs.Spelling.{every, without_last, Parts};
 ghost use Rattle.names.specs.Reading.{fitting};

@@ -1,2 +1,4 @@
 // Bytes taken out of files: read.
+#![tactic(auto)]
+
 pub mod read;

@@ -1,5 +1,7 @@
 // An open record as a value, beside its form as bytes (crate opened). Crate lent has the functions over it.
-#[derive(Drop)]
+#![tactic(auto)]
+
+#[derive(Clone, Copy)]
 pub struct OpenRecord {
     pub used: bool,
     pub slot: u32,

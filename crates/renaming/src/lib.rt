@@ -1,2 +1,4 @@
 // A file's name changed: rename.
+#![tactic(auto)]
+
 pub mod rename;

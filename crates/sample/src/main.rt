@@ -1,4 +1,6 @@
 // Makes the volume of document 01's listing case by the calls, and writes its system area to standard output.
+#![tactic(auto)]
+
 use closing::close::close;
 use creating::create::create;
 use formatting::format::format;

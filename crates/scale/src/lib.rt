@@ -1,4 +1,6 @@
 // The calls as the scale's C program sees them (include/balladmoor.h): plain numbers and byte slices in, one number out.
+#![tactic(auto)]
+
 pub mod files;
 pub mod put;
 

@@ -1,5 +1,7 @@
 // What a search over numbers answers: the lowest that was looked for, or nothing.
-#[derive(Drop)]
+#![tactic(auto)]
+
+#[derive(Clone, Copy)]
 pub enum Found {
     At(usize),
     Nothing,

@@ -1,2 +1,4 @@
 // The pointer of an open file moved: seek.
+#![tactic(auto)]
+
 pub mod seek;

@@ -13,7 +13,7 @@ use records::OpenRecord;
 use stamps::Stamp;
 
 // What a call answers, and the record after it.
-#[derive(Drop)]
+#[derive(Clone, Copy)]
 pub struct Done {
     pub answer: Answer,
     pub held: OpenRecord,

@@ -9,7 +9,7 @@ use records::OpenRecord;
 use search::Found;
 
 // What open answers, the record it makes and where that goes: past the places that count where it was refused.
-#[derive(Drop)]
+#[derive(Clone, Copy)]
 pub struct Opened {
     pub answer: Answer,
     pub place: usize,

@@ -1,4 +1,6 @@
 // Finding 4: the slots of a directory. A directory stands at byte root and has count slots.
+#![tactic(auto)]
+
 ghost use Rattle.std.specs.Prelude.{◌&&◌, ◌||◌, ◌≡◌, ◌+◌, ◌*◌, ◌≤◌, length};
 ghost use Rattle.diskette.specs.Places.{slot_from};
 ghost use Rattle.fields.specs.Fields.{name_of};

@@ -1,4 +1,6 @@
 // Check: whether a volume is sound, and if not, what is wrong with it and where.
+#![tactic(auto)]
+
 ghost use Rattle.std.specs.Prelude.{◌≡◌, ◌+◌, ◌*◌, ◌≤◌, ◌<◌, length};
 ghost use Rattle.diskette.specs.Aids.Usable.{Usable};
 ghost use Rattle.diskette.specs.Places.{first_data};
@@ -12,7 +14,7 @@ use search::Found;
 use tablecheck::Census;
 
 // The counts of a sound volume: files, and clusters that are free, held by files, bad and reserved.
-#[derive(Drop)]
+#[derive(Clone, Copy)]
 pub struct Counts {
     pub files: usize,
     pub free: usize,
@@ -22,7 +24,7 @@ pub struct Counts {
 }
 
 // What check answers: sound with the counts; or a finding and its place.
-#[derive(Drop)]
+#[derive(Clone, Copy)]
 pub enum Verdict {
     Sound(Counts),
     Finding(usize, usize),

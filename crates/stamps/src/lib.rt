@@ -1,9 +1,11 @@
 // Stamps: six numbers of a caller, the two words that a directory entry holds, and back.
+#![tactic(auto)]
+
 ghost use Rattle.std.specs.Prelude.{◌≡◌, ℕ, ◌<◌};
 ghost use Rattle.stamps.specs.Stamps.{time_fits, date_fits, TimeInRange, DateInRange, time_word, date_word, packed, time_read, date_read};
 
 // A caller's stamp: any numbers. Steps are of two seconds, years count from 1980.
-#[derive(Drop)]
+#[derive(Clone, Copy)]
 pub struct Stamp {
     pub hour: u32,
     pub minute: u32,
@@ -13,19 +15,19 @@ pub struct Stamp {
     pub day: u32,
 }
 
-#[derive(Drop)]
+#[derive(Clone, Copy)]
 pub enum Packed {
     Words(u16, u16),
     OutOfRange,
 }
 
-#[derive(Drop)]
+#[derive(Clone, Copy)]
 pub enum TimeRead {
     Time(u16, u16, u16),
     NoTime,
 }
 
-#[derive(Drop)]
+#[derive(Clone, Copy)]
 pub enum DateRead {
     Date(u16, u16, u16),
     NoDate,

@@ -1,5 +1,7 @@
 // The table's entries: read, and written in both copies. Two entries stand in three bytes, and each is read and written by its
 // own two: the third byte of the last three may lie behind the copy.
+#![tactic(auto)]
+
 ghost use Rattle.std.specs.Prelude.{true, false, ◌≡◌, ◌+◌, ◌-◌, ◌≤◌, ◌<◌, length};
 ghost use Rattle.table.specs.Entries.{word_at, entry_at, entry_of, set_at, set_both, table_of};
 ghost use Rattle.table.specs.Aids.Copies.{Reaches};

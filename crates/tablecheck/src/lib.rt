@@ -1,4 +1,6 @@
 // Findings 2 and 3: the copies of the table, and the values of its entries.
+#![tactic(auto)]
+
 ghost use Rattle.std.specs.Prelude.{not, ◌≡◌, ◌+◌, ◌≤◌, ◌<◌, length};
 ghost use Rattle.search.specs.Search.{lowest, is_found};
 ghost use Rattle.table.specs.Entries.{word_at};
@@ -9,7 +11,7 @@ use search::Found;
 use values::Meaning;
 
 // The lowest cluster with a value that means nothing; or how many clusters are free, bad and reserved.
-#[derive(Drop)]
+#[derive(Clone, Copy)]
 pub enum Census {
     NoValue(usize),
     Values(usize, usize, usize),

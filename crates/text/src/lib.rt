@@ -1,4 +1,6 @@
 // What the listing prints, put into a buffer that the caller lends: texts, numbers, names and stamps.
+#![tactic(auto)]
+
 pub mod digits;
 pub mod name;
 pub mod stamp;

@@ -1,4 +1,6 @@
 // An entry of the table as a number: its part of three bytes, and what it means.
+#![tactic(auto)]
+
 ghost use Rattle.std.specs.Prelude.{true, false, ◌≡◌, ◌+◌, ◌*◌, ◌/◌, ◌%◌, ◌<◌};
 ghost use Rattle.values.specs.Bits.{taken, kept};
 ghost use Rattle.values.specs.Values.{meaning_of};
@@ -37,7 +39,7 @@ pub fn middle_for_second(middle: u8, v: u16) -> u8
 }
 
 // What a value means.
-#[derive(Drop)]
+#[derive(Clone, Copy)]
 pub enum Meaning {
     Free,
     Next(usize),

@@ -10,7 +10,7 @@ use diskette::Kind;
 use search::Found;
 
 // A refusal's number, or 0 and the bytes of the image from at on.
-#[derive(Drop)]
+#[derive(Clone, Copy)]
 pub struct Seen {
     pub number: u32,
     pub at: usize,

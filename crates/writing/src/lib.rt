@@ -1,2 +1,4 @@
 // Bytes put into files: write.
+#![tactic(auto)]
+
 pub mod write;

@@ -28,7 +28,7 @@ module _ (G : Geometry) (f : ℕ → ℕ) (h : ℕ → Holder) (χ : ℕ → Lis
     where
       go : Valid G.last (f c) → bit (freeb (f c)) + (occ c (joined χ is) + (bit (badb (f c)) + bit (reservedb (f c)))) ≡ 1
       go (free e) =
-          omega (arith, free_one (f c) e, in_none c (free_no_use G.last (f c) e), ap bit ((bad_out_of_use G).not_free_lem (f c) e), ap bit ((reserved_out_of_use G).not_free_lem (f c) e))
+          omega (arith, free_one (f c) e, in_none c (free_no_use G.last (f c) e), ap bit ((bad_out_of_use G).not_free (f c) e), ap bit ((reserved_out_of_use G).not_free (f c) e))
       go (used u) =
           omega (arith, used_no_free G.last (f c) u, in_one c i u, ap bit ((bad_out_of_use G).not_used (f c) u), ap bit ((reserved_out_of_use G).not_used (f c) u))
       go (bad b) =

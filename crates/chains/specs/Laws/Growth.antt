@@ -1,6 +1,6 @@
 -- A chain that was laid or made longer is a chain; the table beside it stays. What was given back is free.
 use Rattle.std.specs.Prelude.{ℕ, ◌≡◌, refl, List, [], ◌∷◌, ◌++◌, get_or}
-use Rattle.std.proofs.Common.{arith, ◌∙◌, inl, inr, append-nil}
+use Rattle.std.proofs.Common.{arith, sym, subst, ◌∙◌, inl, inr, append-nil}
 use Rattle.chains.specs.Aids.Put.{put}
 use Rattle.chains.specs.Lists.{◌∈◌}
 use Rattle.chains.specs.Aids.Lists.{last_of, Once}
@@ -26,7 +26,7 @@ laid_after G f c (d ∷ ds) r o = (
   put_same (laid f d ds) c d c refl,
   r d (inl refl),
   after_frame G (laid f d ds) (put (laid f d ds) c d) d ds
-      (λ a m. put_other (laid f d ds) c d a (λ e. once_head c (d ∷ ds) o (rw e at m)))
+      (λ a m. put_other (laid f d ds) c d a (λ e. once_head c (d ∷ ds) o (subst (λ x. x ∈ (d ∷ ds)) e m)))
       (laid_after G f d ds (λ a m. r a (inr m)) (once_tail c (d ∷ ds) o)),
 )
 
@@ -37,7 +37,7 @@ unfolding last_of
 laid_more G f c [] new p r o = laid_after G f c new r o
 laid_more G f c (d ∷ ds) new p r o =
     let n : ¬ (c ∈ (last_of d ds ∷ new)) = λ m. once_head c ((d ∷ ds) ++ new) o (elim m [
-      | inl e ↦ mem_left c (d ∷ ds) new (rw e (last_mem d ds))
+      | inl e ↦ mem_left c (d ∷ ds) new (subst (λ x. x ∈ (d ∷ ds)) (sym e) (last_mem d ds))
       | inr k ↦ mem_right c (d ∷ ds) new k
     ]) in
     (laid_other f (last_of d ds) new c n ∙ p.0, p.1, laid_more G f d ds new p.2 r (once_tail c ((d ∷ ds) ++ new) o))
@@ -49,7 +49,7 @@ unfolding extended
 extended_out f cs [] a p q = refl
 extended_out f [] (n ∷ ns) a p q = laid_other f n ns a q
 extended_out f (c ∷ cs) (n ∷ ns) a p q = laid_other f (last_of c cs) (n ∷ ns) a (λ m. elim m [
-  | inl e ↦ p (rw e (last_mem c cs))
+  | inl e ↦ p (subst (λ x. x ∈ (c ∷ cs)) (sym e) (last_mem c cs))
   | inr k ↦ q k
 ])
 

@@ -1,0 +1,14 @@
+use Rattle.std.proofs.Common.{rules}
+use Rattle.std.proofs.Common.{◌-◌}
+use lib.ListN.{length-set}
+use Rattle.names.specs.Laws.Code.{done_none, done_turn, done_all}
+use Rattle.names.proofs.eleven_bytes.Goals as goal
+
+pub loop-i-init : goal.loop-i-init
+loop-i-init c = search (rules, done_none)
+
+pub loop-i-preserved : goal.loop-i-preserved
+loop-i-preserved c = search (rules, done_turn, length-set)
+
+pub returns : goal.returns
+returns c = search done_all

@@ -1,0 +1,6 @@
+-- One store after the other.
+use Rattle.table.specs.Laws.Copies.{both_stored}
+use Rattle.table.proofs.set_entry.Goals as goal
+
+pub returns : goal.returns
+returns c = search both_stored

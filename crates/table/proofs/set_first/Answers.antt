@@ -1,0 +1,12 @@
+-- The two bytes stored are those of the word with v put in.
+use Rattle.table.specs.Laws.Triples.{put_first}
+use Rattle.std.proofs.Common.{arith}
+use lib.ListN.{length-set}
+use Rattle.std.proofs.Common.{rules}
+use Rattle.table.proofs.set_first.Goals as goal
+
+pub bounds-img-at-3 : goal.bounds-img-at-3
+bounds-img-at-3 c = simp length-set (omega arith)
+
+pub returns : goal.returns
+returns c = put_first _ _ _ _ _ (λ i. ?) (search rules) (search rules) (search rules)

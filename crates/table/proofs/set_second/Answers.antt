@@ -1,0 +1,12 @@
+-- The two bytes stored are those of the word with v put in.
+use Rattle.table.specs.Laws.Triples.{put_second}
+use Rattle.std.proofs.Common.{arith}
+use lib.ListN.{length-set}
+use Rattle.std.proofs.Common.{rules}
+use Rattle.table.proofs.set_second.Goals as goal
+
+pub bounds-img-at-3 : goal.bounds-img-at-3
+bounds-img-at-3 c = simp length-set (omega arith)
+
+pub returns : goal.returns
+returns c = put_second _ _ _ _ _ (λ i. omega (arith, c.before.slice-known2.given i)) (search rules) (search rules) (search rules)
