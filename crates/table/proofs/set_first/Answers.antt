@@ -9,4 +9,4 @@ pub bounds-img-at-3 : goal.bounds-img-at-3
 bounds-img-at-3 c = simp length-set (omega arith)
 
 pub returns : goal.returns
-returns c = put_first _ _ _ _ _ (λ i. ?) (search rules) (search rules) (search rules)
+returns c = put_first _ _ _ _ _ (λ i. omega (arith, c.slice_known-2-1.given i)) (search rules) (search rules) (search rules)

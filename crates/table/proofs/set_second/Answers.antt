@@ -9,4 +9,4 @@ pub bounds-img-at-3 : goal.bounds-img-at-3
 bounds-img-at-3 c = simp length-set (omega arith)
 
 pub returns : goal.returns
-returns c = put_second _ _ _ _ _ (λ i. omega (arith, c.before.slice-known2.given i)) (search rules) (search rules) (search rules)
+returns c = put_second _ _ _ _ _ (search rules) (search rules) (search rules) (search rules)

@@ -1,0 +1,37 @@
+use Rattle.std.proofs.Common.{rules}
+use Rattle.std.proofs.Common.{◌-◌}
+use Rattle.contents.specs.Laws.Turns.{pour_first, pour_length, pour_reaches, pour_done, pour_stays, next_fits, cluster_from, cluster_fits, run_end_fits, run_less, fill_again}
+use Rattle.contents.proofs.pour_zeros.Goals as goal
+
+pub loop-done-init : goal.loop-done-init
+loop-done-init c = search pour_first
+
+pub overflow_add-pos : goal.overflow_add-pos
+overflow_add-pos c = search (rules, next_fits)
+
+pub overflow_add-pos-in-loop-done : goal.overflow_add-pos-in-loop-done
+overflow_add-pos-in-loop-done c = search (rules, next_fits)
+
+pub byte_in-at-requires : goal.byte_in-at-requires
+byte_in-at-requires c = search (rules, cluster_from, cluster_fits)
+
+pub value_of-cluster-requires : goal.value_of-cluster-requires
+value_of-cluster-requires c = search (rules, pour_reaches)
+
+pub fill-requires : goal.fill-requires
+fill-requires c = search pour_stays
+
+pub overflow_add-done : goal.overflow_add-done
+overflow_add-done c = search (rules, run_end_fits)
+
+pub loop-done-smaller : goal.loop-done-smaller
+loop-done-smaller c = search run_less
+
+pub loop-done-preserved : goal.loop-done-preserved
+loop-done-preserved c = search fill_again
+
+pub shape_of-img : goal.shape_of-img
+shape_of-img c = search pour_length
+
+pub returns : goal.returns
+returns c = search pour_done
