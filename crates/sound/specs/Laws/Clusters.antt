@@ -2,7 +2,7 @@
 use Rattle.std.specs.Prelude.{ℕ, zero, suc, ◌+◌, ◌≤◌, ◌<◌, ◌≡◌, refl, ◌⊎◌, List, [], ◌∷◌, length, get_or}
 use Rattle.std.proofs.Common.{arith, eq-zero-or-pos, sym, ap, ◌∙◌, inl, inr}
 use Rattle.chains.specs.Sizes.{clusters_for}
-use Rattle.chains.specs.Values.{Link}
+use Rattle.chains.specs.Values.{Link, End}
 use Rattle.chains.specs.Aids.Chain.{After, Chain}
 use Rattle.sound.specs.Files.{Clusters, FileClusters, none_of_it, enough}
 use Rattle.chains.specs.Aids.Holders.{Owns, file_holder}
@@ -24,9 +24,9 @@ after_clusters last f c (d ∷ ds) l p =
     let r = after_clusters last f d ds p.1 p.2 in
     record {
       from_start = refl;
-      in_range = λ i. elim i [ zero ↦ λ k. l | suc j ↦ λ k. r.in_range j (omega arith) ];
+      in_range = λ i. elim i as (λ n. n < length (c ∷ (d ∷ ds)) → Link last (get_or (c ∷ (d ∷ ds)) n 0)) [ zero ↦ λ k. l | suc j ↦ λ k. r.in_range j (omega arith) ];
       naming = leads_next last f c (c ∷ (d ∷ ds)) (refl, l, p);
-      ending = λ i. elim i [ zero ↦ λ k. absurd (omega arith) | suc j ↦ λ k. r.ending j (omega arith) ];
+      ending = λ i. elim i as (λ n. n + 1 ≡ length (c ∷ (d ∷ ds)) → End (f (get_or (c ∷ (d ∷ ds)) n 0))) [ zero ↦ λ k. absurd (omega arith) | suc j ↦ λ k. r.ending j (omega arith) ];
     }
 
 clusters_after : (last : ℕ) (f : ℕ → ℕ) (c : ℕ) (cs : List ℕ) → Clusters last f c (c ∷ cs) → After last f c cs

@@ -1,0 +1,30 @@
+-- A chain has no more clusters than there are.
+use Rattle.calls.specs.Laws.Ready.{on_usable}
+use Rattle.holding.specs.Laws.Clusters.{copies_reach, last_small}
+use Rattle.freeing.specs.Laws.Freed.{freed_is}
+use Rattle.std.proofs.Common.{rules}
+use Rattle.freeing.proofs.freed.free_file.Goals as goal
+
+pub copy_two-requires : goal.copy_two-requires
+copy_two-requires c = search on_usable
+
+pub last_cluster-requires : goal.last_cluster-requires
+last_cluster-requires c = search on_usable
+
+pub clusters-requires : goal.clusters-requires
+clusters-requires c = search on_usable
+
+pub free_chain-requires-clause-last_bound : goal.free_chain-requires-clause-last_bound
+free_chain-requires-clause-last_bound c = search last_small
+
+pub free_chain-requires-clause-reaches : goal.free_chain-requires-clause-reaches
+free_chain-requires-clause-reaches c = search copies_reach
+
+pub returns : goal.returns
+returns c = freed_is _ _ (search rules) _ (search rules) (search rules) _ _ _ _
+    c.start-at.ensures
+    c.clusters.ensures
+    c.copy-two.ensures
+    c.last-cluster.ensures
+    _
+    c.free-chain.ensures

@@ -1,0 +1,23 @@
+-- The last cluster is one of the volume, or 0 where there is none.
+use Rattle.calls.specs.Laws.Ready.{on_usable}
+use Rattle.holding.specs.Laws.Clusters.{last_small, copies_reach}
+use Rattle.putting.specs.Laws.LongerCode.{end_small, added_is}
+use Rattle.putting.proofs.longer.add_behind.Goals as goal
+
+pub copy_two-requires : goal.copy_two-requires
+copy_two-requires c = search on_usable
+
+pub last_cluster-requires : goal.last_cluster-requires
+last_cluster-requires c = search on_usable
+
+pub add_clusters-requires-clause-last_bound : goal.add_clusters-requires-clause-last_bound
+add_clusters-requires-clause-last_bound c = search last_small
+
+pub add_clusters-requires-clause-reaches : goal.add_clusters-requires-clause-reaches
+add_clusters-requires-clause-reaches c = search copies_reach
+
+pub add_clusters-requires-clause-prev_le_last : goal.add_clusters-requires-clause-prev_le_last
+add_clusters-requires-clause-prev_le_last c = search end_small
+
+pub returns : goal.returns
+returns c = search added_is

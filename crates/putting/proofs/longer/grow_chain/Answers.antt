@@ -1,0 +1,14 @@
+-- The new clusters come behind the file's own.
+use Rattle.calls.specs.Laws.Ready.{on_usable}
+use Rattle.putting.specs.Laws.LongerCode.{end_goes_on, grown_is}
+use Rattle.std.proofs.Common.{rules}
+use Rattle.putting.proofs.longer.grow_chain.Goals as goal
+
+pub needed_for-requires : goal.needed_for-requires
+needed_for-requires c = search on_usable
+
+pub add_behind-first-requires-clause-behind : goal.add_behind-first-requires-clause-behind
+add_behind-first-requires-clause-behind c = search end_goes_on
+
+pub returns : goal.returns
+returns c = search grown_is
