@@ -22,9 +22,9 @@ free_chain-requires-clause-reaches c = search copies_reach
 
 pub returns : goal.returns
 returns c = freed_is _ _ (search rules) _ (search rules) (search rules) _ _ _ _
-    c.start-at.ensures
+    c.start_at-start.ensures
     c.clusters.ensures
-    c.copy-two.ensures
-    c.last-cluster.ensures
+    c.copy_two.ensures
+    c.last_cluster.ensures
     _
-    c.free-chain.ensures
+    c.free_chain.ensures

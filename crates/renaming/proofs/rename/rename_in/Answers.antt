@@ -1,0 +1,16 @@
+-- Each way out is one row that holds after those that don't.
+use Rattle.calls.specs.Laws.Rows.{tests}
+use Rattle.renaming.specs.Laws.Rename.{last_refused, rename_well}
+use Rattle.renaming.proofs.rename.rename_in.Goals as goal
+
+pub returns-then-is_open : goal.returns-then-is_open
+returns-then-is_open c = search (last_refused, tests)
+
+pub returns-then-is_read_only : goal.returns-then-is_read_only
+returns-then-is_read_only c = search (last_refused, tests)
+
+pub returns-then-is_taken : goal.returns-then-is_taken
+returns-then-is_taken c = search (last_refused, tests)
+
+pub returns : goal.returns
+returns c = search rename_well

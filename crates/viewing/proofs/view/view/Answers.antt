@@ -1,0 +1,6 @@
+-- What was seen lies in the image.
+use Rattle.viewing.specs.Laws.View.{seen_views}
+use Rattle.viewing.proofs.view.view.Goals as goal
+
+pub returns : goal.returns
+returns c = search seen_views

@@ -1,0 +1,6 @@
+-- The number of what was seen.
+use Rattle.viewing.specs.Laws.View.{seen_numbers}
+use Rattle.viewing.proofs.view.view_number.Goals as goal
+
+pub returns : goal.returns
+returns c = search seen_numbers

@@ -1,0 +1,13 @@
+-- A volume that is not ready is refused by the first two rows; else the rest is left to the call on the volume.
+use Rattle.calls.specs.Laws.Ready.{ready_on, ready_free, not_ready}
+use Rattle.writing.specs.Laws.Write.{write_refused}
+use Rattle.writing.proofs.write.write.Goals as goal
+
+pub write_on-requires-clause-on_volume : goal.write_on-requires-clause-on_volume
+write_on-requires-clause-on_volume c = search ready_on
+
+pub write_on-requires-clause-free_value : goal.write_on-requires-clause-free_value
+write_on-requires-clause-free_value c = search ready_free
+
+pub returns-in-Refused : goal.returns-in-Refused
+returns-in-Refused c = search (write_refused, not_ready)

@@ -1,0 +1,37 @@
+-- What is accepted ends within the room.
+use Rattle.calls.specs.Laws.Ready.{on_usable}
+use Rattle.writing.specs.Laws.Write.{own_few, room_is, count_within, count_reaches, pointer_fits, answer_fits, write_none, write_some}
+use Rattle.std.proofs.Common.{arith}
+use Rattle.std.proofs.Common.{rules}
+use Rattle.writing.proofs.write.write_at.Goals as goal
+
+pub room_for-requires-clause-usable : goal.room_for-requires-clause-usable
+room_for-requires-clause-usable c = search on_usable
+
+pub room_for-requires-clause-free_bound : goal.room_for-requires-clause-free_bound
+room_for-requires-clause-free_bound c = search own_few
+
+pub returns-then-n-eq0 : goal.returns-then-n-eq0
+returns-then-n-eq0 c = search (write_none, room_is)
+
+pub put_first-requires : goal.put_first-requires
+put_first-requires c = (record { on = search rules; file = search rules; bytes = λ i. omega (arith, c.slice-known.given i); fits = search (count_reaches, room_is) }, (search rules, search count_within))
+
+pub move_on-requires-clause-n_bound : goal.move_on-requires-clause-n_bound
+move_on-requires-clause-n_bound c = search (pointer_fits, room_is)
+
+pub overflow_cast-n : goal.overflow_cast-n
+overflow_cast-n c = search (rules, answer_fits, room_is)
+
+pub returns : goal.returns
+returns c = write_some _ _ _ _ _ _ _ _ _
+    c.pointer-at.ensures
+    (room_is _ _ _ _ c.extent-at.ensures _ c.requires.1.1.0 _ c.room_for.ensures)
+    c.count_of.ensures
+    c.if1.false
+    _
+    _
+    c.put_first.ensures
+    c.move-on.ensures
+    _
+    c.well-2.ensures
