@@ -14,8 +14,11 @@ room_for-requires-clause-free_bound c = search own_few
 pub returns-then-n-eq0 : goal.returns-then-n-eq0
 returns-then-n-eq0 c = search (write_none, room_is)
 
-pub put_first-requires : goal.put_first-requires
-put_first-requires c = (record { on = search rules; file = search rules; bytes = λ i. omega (arith, c.slice-known.given i); fits = search (count_reaches, room_is) }, (search rules, search count_within))
+pub put_first-requires-clause-can_put : goal.put_first-requires-clause-can_put
+put_first-requires-clause-can_put c = record { on = search rules; file = search rules; bytes = search rules; fits = search (count_reaches, room_is) }
+
+pub put_first-requires-clause-n_in_bounds : goal.put_first-requires-clause-n_in_bounds
+put_first-requires-clause-n_in_bounds c = search count_within
 
 pub move_on-requires-clause-n_bound : goal.move_on-requires-clause-n_bound
 move_on-requires-clause-n_bound c = search (pointer_fits, room_is)
@@ -25,13 +28,13 @@ overflow_cast-n c = search (rules, answer_fits, room_is)
 
 pub returns : goal.returns
 returns c = write_some _ _ _ _ _ _ _ _ _
-    c.pointer-at.ensures
-    (room_is _ _ _ _ c.extent-at.ensures _ c.requires.1.1.0 _ c.room_for.ensures)
-    c.count_of.ensures
-    c.if1.false
+    c.pointer_at-pointer.ensures
+    (room_is _ _ _ _ c.extent_at-own.ensures _ c.requires.free_value _ c.room_for.ensures)
+    c.count_of-n.ensures
+    c.if-n-eq0.false
     _
     _
     c.put_first.ensures
-    c.move-on.ensures
+    c.move_on.ensures
     _
     c.well-2.ensures
