@@ -1,5 +1,5 @@
 -- Every number that check and free space answer fits 32 bits.
-use Rattle.std.specs.Prelude.{ℕ, zero, suc, ◌≤◌, ◌<◌, Bool, true, false, List, ◌∷◌, ◌≡◌, refl, ltb, eqb, length, get_or}
+use Rattle.std.specs.Prelude.{ℕ, zero, suc, ◌≤◌, ◌<◌, Bool, true, false, List, [], ◌∷◌, ◌≡◌, refl, ltb, eqb, length, get_or}
 use Rattle.std.proofs.Common.{arith, inl, inr, sym, subst}
 use Rattle.chains.specs.Lists.{◌∈◌}
 use Rattle.chains.specs.Sums.{tally, bit}
@@ -61,6 +61,7 @@ tally_low t (suc n) c = omega (arith, bit_low (t c), tally_low t n (suc c))
 
 -- what is so at each index is so of each member
 each : (P : ℕ → Type 0) (cs : List ℕ) → ((i : ℕ) → i < length cs → P (get_or cs i 0)) → (a : ℕ) → a ∈ cs → P a
+each P [] h a m = elim m [ ]
 each P (x ∷ xs) h a (inl e) = subst P (sym e) (h 0 (omega arith))
 each P (x ∷ xs) h a (inr m) = each P xs (λ i p. h (suc i) (omega arith)) a m
 

@@ -1,0 +1,6 @@
+-- What close answered to the same stamp, handed on; the image and the table that it left.
+use Rattle.scale.specs.Laws.Calls.{close_hands}
+use Rattle.scale.proofs.files.bm_close.Goals as goal
+
+pub returns : goal.returns
+returns c = search close_hands

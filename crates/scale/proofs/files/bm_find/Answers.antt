@@ -1,0 +1,6 @@
+-- What find answered, handed on.
+use Rattle.scale.specs.Laws.Calls.{hands}
+use Rattle.scale.proofs.files.bm_find.Goals as goal
+
+pub returns : goal.returns
+returns c = search hands

@@ -1,0 +1,6 @@
+-- What read answered, handed on; the table and the buffer that it left.
+use Rattle.scale.specs.Laws.Calls.{hands}
+use Rattle.scale.proofs.files.bm_read.Goals as goal
+
+pub returns : goal.returns
+returns c = search hands

@@ -1,0 +1,6 @@
+-- What rename answered, handed on; the image that it left.
+use Rattle.scale.specs.Laws.Calls.{hands}
+use Rattle.scale.proofs.files.bm_rename.Goals as goal
+
+pub returns : goal.returns
+returns c = search hands

@@ -1,0 +1,6 @@
+-- View's number, packed.
+use Rattle.scale.specs.Laws.Calls.{view_number_leaves}
+use Rattle.scale.proofs.files.bm_view_number.Goals as goal
+
+pub returns : goal.returns
+returns c = search view_number_leaves

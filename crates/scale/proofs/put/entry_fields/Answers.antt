@@ -1,0 +1,9 @@
+-- Name, attribute and the rest stand side by side.
+use Rattle.scale.specs.Laws.Out.{fields_short, fields_stored}
+use Rattle.scale.proofs.put.entry_fields.Goals as goal
+
+pub returns-then-out-lt22 : goal.returns-then-out-lt22
+returns-then-out-lt22 c = search fields_short
+
+pub returns : goal.returns
+returns c = search fields_stored
