@@ -2,22 +2,38 @@
 // on it, and the record that it leaves put back.
 #![tactic(auto)]
 
-ghost use Rattle.std.specs.Prelude.{[]};
+ghost use Rattle.std.specs.Prelude.{◌≡◌, true, []};
 ghost use Rattle.closing.specs.Close.{close_outcome};
 ghost use Rattle.opening.specs.Open.{open_outcome};
 ghost use Rattle.seeking.specs.Seek.{seek_outcome};
 ghost use Rattle.reading.specs.Read.{read_outcome};
 ghost use Rattle.writing.specs.Write.{write_outcome};
 ghost use Rattle.single.specs.Rows.{bytes_of, LeavesRow};
+ghost use Rattle.lending.specs.Laws.Bytes.{AllFit};
 
 use calls::Answer;
 use records::OpenRecord;
 use single::{held, place};
 use stamps::Stamp;
 
+// That the numbers of each record fit their types, which a proof learns of a record where it is read. It costs nothing: only
+// prove! calls it.
+fn all_fit(row: &[OpenRecord]) -> bool
+    ensures fit { AllFit row.now }
+    ensures told { result ≡ true }
+{
+    for held in row {
+        if held.slot > u32::MAX || held.pointer > u32::MAX {
+            return false;
+        }
+    }
+    true
+}
+
 pub fn seek(img: &[u8], row: &mut [OpenRecord], handle: u32, method: u32, offset: i32) -> Answer
     ensures { LeavesRow (seek_outcome img.now (bytes_of row.old) handle method offset) result img.now row.new [] }
 {
+    prove!(all_fit(row));
     let place = handle as usize;
     let record = lent::record_at(row, place);
     let done = held::seek(img, record, method, offset);
@@ -28,6 +44,7 @@ pub fn seek(img: &[u8], row: &mut [OpenRecord], handle: u32, method: u32, offset
 pub fn read(img: &[u8], row: &mut [OpenRecord], handle: u32, buf: &mut [u8]) -> Answer
     ensures { LeavesRow (read_outcome img.now (bytes_of row.old) handle buf.old) result img.now row.new buf.new }
 {
+    prove!(all_fit(row));
     let place = handle as usize;
     let record = lent::record_at(row, place);
     let done = held::read(img, record, buf);
@@ -38,6 +55,7 @@ pub fn read(img: &[u8], row: &mut [OpenRecord], handle: u32, buf: &mut [u8]) -> 
 pub fn write(img: &mut [u8], row: &mut [OpenRecord], handle: u32, bytes: &[u8]) -> Answer
     ensures { LeavesRow (write_outcome img.old (bytes_of row.old) handle bytes.now) result img.new row.new [] }
 {
+    prove!(all_fit(row));
     let place = handle as usize;
     let record = lent::record_at(row, place);
     let done = held::write(img, record, bytes);
@@ -48,6 +66,7 @@ pub fn write(img: &mut [u8], row: &mut [OpenRecord], handle: u32, bytes: &[u8]) 
 pub fn close(img: &mut [u8], row: &mut [OpenRecord], handle: u32, stamp: Stamp) -> Answer
     ensures { LeavesRow (close_outcome img.old (bytes_of row.old) handle stamp) result img.new row.new [] }
 {
+    prove!(all_fit(row));
     let place = handle as usize;
     let record = lent::record_at(row, place);
     let done = held::close(img, record, stamp);
@@ -59,6 +78,7 @@ pub fn close(img: &mut [u8], row: &mut [OpenRecord], handle: u32, stamp: Stamp) 
 pub fn open(img: &[u8], row: &mut [OpenRecord], s: &[u8], access: u32) -> Answer
     ensures { LeavesRow (open_outcome img.now (bytes_of row.old) s.now access) result img.now row.new [] }
 {
+    prove!(all_fit(row));
     let free = lent::lowest_unused(row);
     let done = place::open_at(img, free, s, access);
     lent::put_record(row, done.place, done.held);

@@ -2,7 +2,7 @@
 use Rattle.std.specs.Prelude.{ℕ, suc, ◌+◌, ◌*◌, ◌/◌, ◌≤◌, ◌<◌, Bool, true, false, cond, List, [], ◌∷◌, ◌++◌, ◌≡◌, refl, eqb, ltb, length, get_or}
 use native.Mathlib.Omega.{arith}
 use Rattle.std.proofs.Math.Bool.{not}
-use Rattle.std.proofs.Common.{append_assoc, ◌∙◌, ltb-true, length-append, get_or-append-add}
+use Rattle.std.proofs.Common.{subst, append_assoc, ◌∙◌, ltb-true, length-append, get_or-append-add}
 use Rattle.std.proofs.Math.Path.{ap}
 use Rattle.std.proofs.Math.ListN.{get_or-append}
 use Rattle.image.specs.Bytes.{Bytes}
@@ -88,7 +88,8 @@ reads_from before p long (r ∷ row) fits =
     let k = length-append before (place_bytes r) in
     let e : length (before ++ place_bytes r) ≡ 16 * (p + 1) = omega arith in
     let b = reads_from (before ++ place_bytes r) (p + 1) e row (λ i h. fits (suc i) (omega arith)) in
-    rw (a, ← append_assoc before (place_bytes r) (bytes_of row), b)
+    let b' = subst (λ l. row_from l (p + 1) (length row) ≡ row) (append_assoc before (place_bytes r) (bytes_of row)) b in
+    rw (a, b')
 
 length_bytes : (row : List OpenRecord) → length (bytes_of row) ≡ 16 * length row
 unfolding bytes_of

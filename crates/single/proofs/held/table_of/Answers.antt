@@ -1,0 +1,6 @@
+-- The two marks are stored last.
+use Rattle.single.specs.Laws.Held.{table_made}
+use Rattle.single.proofs.held.table_of.Goals as goal
+
+pub returns : goal.returns
+returns c = search table_made
