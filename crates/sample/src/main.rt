@@ -1,6 +1,9 @@
 // Makes the volume of document 01's listing case by the calls, and writes its system area to standard output.
 #![tactic(auto)]
 
+use std::io;
+use std::io::Write;
+
 use closing::close::close;
 use creating::create::create;
 use formatting::format::format;
@@ -26,7 +29,7 @@ fn make(img: &mut [u8], t: &mut [u8], name: &[u8], attr: u32, bytes: &[u8], time
     close(img, t, handle, time);
 }
 
-fn main() {
+fn main(rt: HostRuntime) -> io::Result<()> {
     let mut img = [0u8; 163840];
     let mut t = [0u8; 16];
     format(&mut img, 0xFE);
@@ -46,5 +49,5 @@ fn main() {
         &[0u8; 1025],
         at(18, 5, 29),
     );
-    io::write_all(1, &img[0..3584]);
+    io::writer(&rt).write_all(&img[0..3584])
 }

@@ -6,13 +6,16 @@ mod run;
 mod scene;
 mod volumes;
 
-fn main() {
-    run::table_entries();
-    run::sectors();
-    run::stamps();
-    scene::answers();
-    run::sizes();
-    volumes::full_disk();
-    volumes::full_root();
-    volumes::no_places();
+use std::io;
+
+fn main(rt: HostRuntime) -> io::Result<()> {
+    let out = &mut io::writer(&rt);
+    run::table_entries(out)?;
+    run::sectors(out)?;
+    run::stamps(out)?;
+    scene::answers(out)?;
+    run::sizes(out)?;
+    volumes::full_disk(out)?;
+    volumes::full_root(out)?;
+    volumes::no_places(out)
 }

@@ -1,24 +1,26 @@
 // Text on standard output: labels, decimal numbers, hex digits in capitals.
+use std::io;
+use std::io::Write;
 
 // A label as it is.
-pub fn label(text: &[u8]) {
-    io::write_all(1, text);
+pub fn label(out: &mut impl Write, text: &[u8]) -> io::Result<()> {
+    out.write_all(text)
 }
 
-pub fn line_end() {
-    io::write_all(1, b"\n");
+pub fn line_end(out: &mut impl Write) -> io::Result<()> {
+    out.write_all(b"\n")
 }
 
 // A decimal number.
-pub fn number(n: u64) {
-    io::print_decimal(1, n);
+pub fn number(out: &mut impl Write, n: u64) -> io::Result<()> {
+    write!(out, "{n}")
 }
 
 // A label, a decimal number and the line's end.
-pub fn decimal(text: &[u8], n: u64) {
-    label(text);
-    number(n);
-    line_end();
+pub fn decimal(out: &mut impl Write, text: &[u8], n: u64) -> io::Result<()> {
+    label(out, text)?;
+    number(out, n)?;
+    line_end(out)
 }
 
 // The lowest hex digit of n.
@@ -28,22 +30,22 @@ fn digit(n: u16) -> u8 {
 }
 
 // The lowest two hex digits of n.
-fn two_digits(n: u16) {
-    io::write_all(1, &[digit(n / 16), digit(n)]);
+fn two_digits(out: &mut impl Write, n: u16) -> io::Result<()> {
+    out.write_all(&[digit(n / 16), digit(n)])
 }
 
 // A byte.
-pub fn byte(b: u8) {
-    two_digits(b as u16);
+pub fn byte(out: &mut impl Write, b: u8) -> io::Result<()> {
+    two_digits(out, b as u16)
 }
 
 // The lowest three hex digits of n.
-pub fn three_digits(n: u16) {
-    io::write_all(1, &[digit(n / 256), digit(n / 16), digit(n)]);
+pub fn three_digits(out: &mut impl Write, n: u16) -> io::Result<()> {
+    out.write_all(&[digit(n / 256), digit(n / 16), digit(n)])
 }
 
 // All four.
-pub fn four_digits(n: u16) {
-    two_digits(n / 256);
-    two_digits(n);
+pub fn four_digits(out: &mut impl Write, n: u16) -> io::Result<()> {
+    two_digits(out, n / 256)?;
+    two_digits(out, n)
 }

@@ -3,27 +3,30 @@ ghost use Rattle.std.specs.Prelude.{◌≤◌, ◌≡◌};
 ghost use Rattle.diskette.specs.Aids.Usable.{Usable};
 ghost use Rattle.diskette.specs.Places.{last_cluster, sector_of};
 
+use std::io;
+use std::io::Write;
+
 use crate::print;
 use calls::numbers;
 use diskette::{Kind, WhichKind};
 use stamps::{Packed, Stamp};
 
 // P1 and P2: entries of a table that starts at byte 0.
-pub fn table_entries() {
+pub fn table_entries(out: &mut impl Write) -> io::Result<()> {
     let mut bytes = [0xFDu8, 0xFF, 0xFF, 0x03, 0x40, 0x00];
-    print::label(b"P1 entry 2 is ");
-    print::three_digits(table::entry_at(&bytes, 0, 2));
-    print::label(b", entry 3 is ");
-    print::three_digits(table::entry_at(&bytes, 0, 3));
-    print::line_end();
+    print::label(out, b"P1 entry 2 is ")?;
+    print::three_digits(out, table::entry_at(&bytes, 0, 2))?;
+    print::label(out, b", entry 3 is ")?;
+    print::three_digits(out, table::entry_at(&bytes, 0, 3))?;
+    print::line_end(out)?;
     table::set_at(&mut bytes, 0, 3, 0xFFF);
-    print::label(b"P2 ");
-    print::byte(bytes[3]);
-    print::label(b" ");
-    print::byte(bytes[4]);
-    print::label(b" ");
-    print::byte(bytes[5]);
-    print::line_end();
+    print::label(out, b"P2 ")?;
+    print::byte(out, bytes[3])?;
+    print::label(out, b" ")?;
+    print::byte(out, bytes[4])?;
+    print::label(out, b" ")?;
+    print::byte(out, bytes[5])?;
+    print::line_end(out)
 }
 
 // The sector at which cluster n of the kind starts: that of its first byte, where read, write and view find it.
@@ -53,10 +56,10 @@ fn sector(byte: u8, n: usize) -> u64 {
 }
 
 // P3 to P5.
-pub fn sectors() {
-    print::decimal(b"P3 FD, cluster 2 is sector ", sector(Kind::FD, 2));
-    print::decimal(b"P4 cluster 355 is sector ", sector(Kind::FD, 355));
-    print::decimal(b"P5 FE, cluster 314 is sector ", sector(Kind::FE, 314));
+pub fn sectors(out: &mut impl Write) -> io::Result<()> {
+    print::decimal(out, b"P3 FD, cluster 2 is sector ", sector(Kind::FD, 2))?;
+    print::decimal(out, b"P4 cluster 355 is sector ", sector(Kind::FD, 355))?;
+    print::decimal(out, b"P5 FE, cluster 314 is sector ", sector(Kind::FE, 314))
 }
 
 // A stamp of 1983-09-01 at 18:05 and a two-second step.
@@ -72,17 +75,17 @@ pub fn evening(step: u32) -> Stamp {
 }
 
 // P6 and P7.
-pub fn stamps() {
+pub fn stamps(out: &mut impl Write) -> io::Result<()> {
     match evening(29).pack() {
         Packed::Words(time, date) => {
-            print::label(b"P6 1983-09-01 is ");
-            print::four_digits(date);
-            print::line_end();
-            print::label(b"P7 18:05:58 is ");
-            print::four_digits(time);
-            print::line_end();
+            print::label(out, b"P6 1983-09-01 is ")?;
+            print::four_digits(out, date)?;
+            print::line_end(out)?;
+            print::label(out, b"P7 18:05:58 is ")?;
+            print::four_digits(out, time)?;
+            print::line_end(out)
         }
-        Packed::OutOfRange => print::decimal(b"P6 is refused by ", numbers::OUT_OF_RANGE as u64),
+        Packed::OutOfRange => print::decimal(out, b"P6 is refused by ", numbers::OUT_OF_RANGE as u64),
     }
 }
 
@@ -95,8 +98,8 @@ fn clusters(size: u32) -> u64 {
 }
 
 // P11 to P13.
-pub fn sizes() {
-    print::decimal(b"P11 size 512 on FE needs ", clusters(512));
-    print::decimal(b"P12 513 needs ", clusters(513));
-    print::decimal(b"P13 0 needs ", clusters(0));
+pub fn sizes(out: &mut impl Write) -> io::Result<()> {
+    print::decimal(out, b"P11 size 512 on FE needs ", clusters(512))?;
+    print::decimal(out, b"P12 513 needs ", clusters(513))?;
+    print::decimal(out, b"P13 0 needs ", clusters(0))
 }

@@ -1,0 +1,6 @@
+-- What a byte names is usable.
+use Rattle.diskette.specs.Laws.Kinds.{named_usable}
+use Rattle.worked.proofs.run.clusters.Goals as goal
+
+pub needed_for-requires : goal.needed_for-requires
+needed_for-requires c = search named_usable
