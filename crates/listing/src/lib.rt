@@ -85,8 +85,7 @@ fn list(area: &[u8], out: &mut [u8]) -> usize
 }
 
 // The same for C: how many bytes it has. Into a buffer of fewer than 16,384 bytes nothing is put, and the answer is 0.
-#[unsafe(no_mangle)]
-pub extern "C" fn listing_put(area: &[u8], out: &mut [u8]) -> usize
+pub fn listing_put(area: &[u8], out: &mut [u8]) -> usize
     ensures { Lists area.now out.old result out.new }
 {
     if out.len() < 16384 {

@@ -44,8 +44,7 @@ fn value_told(img: &[u8], k: Kind, c: usize) -> u64
 }
 
 // What the value of a cluster means. Refused by 40 where the image is not of a kind.
-#[unsafe(no_mangle)]
-pub extern "C" fn member_cluster(img: &[u8], cluster: u32) -> u64
+pub fn member_cluster(img: &[u8], cluster: u32) -> u64
     ensures { result ≡ cluster_told (kind_of_image img.now) img.now cluster }
 {
     match diskette::kind_of_image(img) {
@@ -133,8 +132,7 @@ fn holder_told(img: &[u8], k: Kind, c: usize, from: usize) -> u64
 }
 
 // The same of an image. Refused by 40 where it is not of a kind.
-#[unsafe(no_mangle)]
-pub extern "C" fn member_holder(img: &[u8], cluster: u32, slot: u32) -> u64
+pub fn member_holder(img: &[u8], cluster: u32, slot: u32) -> u64
     ensures { result ≡ holder_told (kind_of_image img.now) img.now cluster slot }
 {
     match diskette::kind_of_image(img) {

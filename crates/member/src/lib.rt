@@ -33,8 +33,7 @@ fn standing_told(standing: Standing, attr: u8) -> u64
 }
 
 // What stands at a slot of the root. Refused by 40 where the image is not of a kind.
-#[unsafe(no_mangle)]
-pub extern "C" fn member_slot(img: &[u8], slot: u32) -> u64
+pub fn member_slot(img: &[u8], slot: u32) -> u64
     ensures { result ≡ slot_told (kind_of_image img.now) img.now slot }
 {
     match diskette::kind_of_image(img) {
@@ -51,8 +50,7 @@ pub extern "C" fn member_slot(img: &[u8], slot: u32) -> u64
 }
 
 // Year, month and day of a stored date word. Refused by 43 where they are out of their ranges.
-#[unsafe(no_mangle)]
-pub extern "C" fn member_date(word: u32) -> u64
+pub fn member_date(word: u32) -> u64
     ensures { result ≡ date_told (date_read word) }
 {
     if 65535 < word {
@@ -67,8 +65,7 @@ pub extern "C" fn member_date(word: u32) -> u64
 }
 
 // Hour, minute and second of a stored time word. Refused by 43 where they are out of their ranges.
-#[unsafe(no_mangle)]
-pub extern "C" fn member_time(word: u32) -> u64
+pub fn member_time(word: u32) -> u64
     ensures { result ≡ time_told (time_read word) }
 {
     if 65535 < word {

@@ -15,24 +15,21 @@ ghost use Rattle.packing.specs.Stamps.{stamp_of};
 ghost use Rattle.scale.specs.Calls.{Leaves, view_number_call};
 
 // Finds the first file at or after a slot that matches a pattern: the value is its slot.
-#[unsafe(no_mangle)]
-pub extern "C" fn bm_find(img: &[u8], pattern: &[u8], slot: u32, mask: u32) -> u64
+pub fn bm_find(img: &[u8], pattern: &[u8], slot: u32, mask: u32) -> u64
     ensures { Leaves (find_outcome img.now pattern.now slot mask) result img.now [] [] }
 {
     packing::answer::hand(matching::find::find(img, pattern, slot, mask))
 }
 
 // Opens a file: the value is its handle.
-#[unsafe(no_mangle)]
-pub extern "C" fn bm_open(img: &[u8], t: &mut [u8], name: &[u8], access: u32) -> u64
+pub fn bm_open(img: &[u8], t: &mut [u8], name: &[u8], access: u32) -> u64
     ensures { Leaves (open_outcome img.now t.old name.now access) result img.now t.new [] }
 {
     packing::answer::hand(opening::open::open(img, t, name, access))
 }
 
 // Creates or empties a file and opens it: the value is its handle.
-#[unsafe(no_mangle)]
-pub extern "C" fn bm_create(
+pub fn bm_create(
     img: &mut [u8],
     t: &mut [u8],
     name: &[u8],
@@ -51,32 +48,28 @@ pub extern "C" fn bm_create(
 }
 
 // Reads from the pointer on: the value is the count.
-#[unsafe(no_mangle)]
-pub extern "C" fn bm_read(img: &[u8], t: &mut [u8], handle: u32, buf: &mut [u8]) -> u64
+pub fn bm_read(img: &[u8], t: &mut [u8], handle: u32, buf: &mut [u8]) -> u64
     ensures { Leaves (read_outcome img.now t.old handle buf.old) result img.now t.new buf.new }
 {
     packing::answer::hand(reading::read::read(img, t, handle, buf))
 }
 
 // Writes from the pointer on: the value is the count.
-#[unsafe(no_mangle)]
-pub extern "C" fn bm_write(img: &mut [u8], t: &mut [u8], handle: u32, bytes: &[u8]) -> u64
+pub fn bm_write(img: &mut [u8], t: &mut [u8], handle: u32, bytes: &[u8]) -> u64
     ensures { Leaves (write_outcome img.old t.old handle bytes.now) result img.new t.new [] }
 {
     packing::answer::hand(writing::write::write(img, t, handle, bytes))
 }
 
 // Moves a pointer: the value is where it then stands.
-#[unsafe(no_mangle)]
-pub extern "C" fn bm_seek(img: &[u8], t: &mut [u8], handle: u32, method: u32, offset: i32) -> u64
+pub fn bm_seek(img: &[u8], t: &mut [u8], handle: u32, method: u32, offset: i32) -> u64
     ensures { Leaves (seek_outcome img.now t.old handle method offset) result img.now t.new [] }
 {
     packing::answer::hand(seeking::seek::seek(img, t, handle, method, offset))
 }
 
 // Closes a file.
-#[unsafe(no_mangle)]
-pub extern "C" fn bm_close(
+pub fn bm_close(
     img: &mut [u8],
     t: &mut [u8],
     handle: u32,
@@ -94,32 +87,28 @@ pub extern "C" fn bm_close(
 }
 
 // Deletes a file.
-#[unsafe(no_mangle)]
-pub extern "C" fn bm_delete(img: &mut [u8], t: &[u8], name: &[u8]) -> u64
+pub fn bm_delete(img: &mut [u8], t: &[u8], name: &[u8]) -> u64
     ensures { Leaves (delete_outcome img.old t.now name.now) result img.new t.now [] }
 {
     packing::answer::hand(deleting::delete::delete(img, t, name))
 }
 
 // Renames a file.
-#[unsafe(no_mangle)]
-pub extern "C" fn bm_rename(img: &mut [u8], t: &[u8], name: &[u8], new: &[u8]) -> u64
+pub fn bm_rename(img: &mut [u8], t: &[u8], name: &[u8], new: &[u8]) -> u64
     ensures { Leaves (rename_outcome img.old t.now name.now new.now) result img.new t.now [] }
 {
     packing::answer::hand(renaming::rename::rename(img, t, name, new))
 }
 
 // Answers a file's attribute (function 0) or sets it (function 1).
-#[unsafe(no_mangle)]
-pub extern "C" fn bm_mode(img: &mut [u8], t: &[u8], name: &[u8], function: u32, attr: u32) -> u64
+pub fn bm_mode(img: &mut [u8], t: &[u8], name: &[u8], function: u32, attr: u32) -> u64
     ensures { Leaves (mode_outcome img.old t.now name.now function attr) result img.new t.now [] }
 {
     packing::answer::hand(marking::mode::mode(img, t, name, function, attr))
 }
 
 // The number by which view refuses, or 0.
-#[unsafe(no_mangle)]
-pub extern "C" fn bm_view_number(img: &[u8], name: &[u8], offset: u32) -> u64
+pub fn bm_view_number(img: &[u8], name: &[u8], offset: u32) -> u64
     ensures { Leaves (view_number_call img.now name.now offset) result img.now [] [] }
 {
     let number = viewing::view::view_number(img, name, offset);
@@ -127,8 +116,7 @@ pub extern "C" fn bm_view_number(img: &[u8], name: &[u8], offset: u32) -> u64
 }
 
 // Reads a file of a volume that need not be sound: the value is the count.
-#[unsafe(no_mangle)]
-pub extern "C" fn bm_rescue(img: &[u8], name: &[u8], out: &mut [u8]) -> u64
+pub fn bm_rescue(img: &[u8], name: &[u8], out: &mut [u8]) -> u64
     ensures { Leaves (rescue_outcome img.now name.now out.old) result img.now [] out.new }
 {
     packing::answer::hand(rescuing::rescue::rescue(img, name, out))

@@ -15,8 +15,7 @@ use freespace::FreeAnswer;
 use sound::Verdict;
 
 // Makes a blank volume of the kind.
-#[unsafe(no_mangle)]
-pub extern "C" fn bm_format(img: &mut [u8], kind: u32) -> u64
+pub fn bm_format(img: &mut [u8], kind: u32) -> u64
     ensures { Leaves (formatted kind img.old) result img.new [] [] }
 {
     let number = formatting::format::format(img, kind);
@@ -42,8 +41,7 @@ fn tell_verdict(v: Verdict, out: &mut [u8]) -> u64
 }
 
 // Judges a whole image.
-#[unsafe(no_mangle)]
-pub extern "C" fn bm_check(img: &[u8], out: &mut [u8]) -> u64
+pub fn bm_check(img: &[u8], out: &mut [u8]) -> u64
     ensures { Leaves (check_call img.now out.old) result img.now [] out.new }
 {
     let v = sound::check(img);
@@ -51,8 +49,7 @@ pub extern "C" fn bm_check(img: &[u8], out: &mut [u8]) -> u64
 }
 
 // Judges a system area alone.
-#[unsafe(no_mangle)]
-pub extern "C" fn bm_check_system(area: &[u8], out: &mut [u8]) -> u64
+pub fn bm_check_system(area: &[u8], out: &mut [u8]) -> u64
     ensures { Leaves (check_system_call area.now out.old) result area.now [] out.new }
 {
     let v = sound::check_system(area);
@@ -72,8 +69,7 @@ fn tell_space(a: FreeAnswer, out: &mut [u8]) -> u64
 }
 
 // Counts the free clusters of a sound volume.
-#[unsafe(no_mangle)]
-pub extern "C" fn bm_free_space(img: &[u8], out: &mut [u8]) -> u64
+pub fn bm_free_space(img: &[u8], out: &mut [u8]) -> u64
     ensures { Leaves (free_space_call img.now out.old) result img.now [] out.new }
 {
     let a = freespace::free_space::free_space(img);
@@ -93,8 +89,7 @@ fn tell_entry(e: EntryAnswer, out: &mut [u8]) -> u64
 }
 
 // Gives the directory entry at a slot of the root.
-#[unsafe(no_mangle)]
-pub extern "C" fn bm_entry(img: &[u8], slot: u32, out: &mut [u8]) -> u64
+pub fn bm_entry(img: &[u8], slot: u32, out: &mut [u8]) -> u64
     ensures { Leaves (entry_call img.now slot out.old) result img.now [] out.new }
 {
     let e = entries::entry::entry(img, slot);
