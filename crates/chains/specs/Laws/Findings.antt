@@ -11,7 +11,7 @@ use Rattle.chains.specs.Aids.Holders.{Holder, Owns, FitTogether, nobody}
 use Rattle.search.specs.Search.{None}
 use Rattle.chains.specs.Aids.Verdict.{Finds}
 use Rattle.chains.specs.Aids.Findings.{BadChain, NoValue, FromChains, FromLost, FromTwo, InChain, InTwo, Lost, Voice, holders_of}
-use Rattle.chains.specs.Aids.Check.{chain_marks, chain_of, check_chains, check_lost, check_two, in_two, lost}
+use Rattle.chains.specs.Aids.Check.{chain_marks, chain_of, check_chains, check_lost, check_two}
 use Rattle.chains.specs.Laws.Tests.{says_dec}
 use Rattle.chains.specs.Laws.Lists.{dec_mem, joined_mem, mem_joined}
 use Rattle.chains.specs.Laws.Values.{says_valid}

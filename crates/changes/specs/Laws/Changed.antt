@@ -1,5 +1,5 @@
 -- One slot changed: the volume is sound still, and every other file is as it was.
-use Rattle.std.specs.Prelude.{ℕ, ◌+◌, ◌*◌, ◌≤◌, ◌<◌, List, ◌≢◌, ◌≡◌, refl, length, get_or}
+use Rattle.std.specs.Prelude.{ℕ, ◌+◌, ◌*◌, ◌≤◌, ◌<◌, List, ◌≢◌, ◌≡◌, length, get_or}
 use Rattle.std.proofs.Common.{arith, inl, inr, sym, ap, ◌∙◌, subst}
 use Rattle.std.proofs.Math.Decide.{ℕ_discrete}
 use Rattle.chains.specs.Content.{cluster_begin, content}
@@ -9,18 +9,17 @@ use Rattle.chains.specs.Values.{Link}
 use Rattle.search.specs.Search.{None}
 use Rattle.chains.specs.Laws.Content.{cluster_high}
 use Rattle.chains.specs.Laws.Holders.{file_fits}
-use Rattle.chains.specs.Laws.Put.{put_other, put_same}
+use Rattle.chains.specs.Laws.Put.{put_other}
 use Rattle.chains.specs.Laws.Tests.{says_true, true_says}
 use Rattle.chains.specs.Laws.Touched.{others_keep}
-use Rattle.contents.specs.Aids.Contents.{Area}
-use Rattle.diskette.specs.Images.{kind_of_image, OfKind}
+use Rattle.diskette.specs.Images.{kind_of_image}
 use Rattle.diskette.specs.Aids.Usable.{Usable}
 use Rattle.diskette.specs.Laws.Images.{image_of_kind}
 use Rattle.diskette.specs.Places.{first_data, cluster_bytes, last_cluster, root_entries, slot_at}
 use Rattle.diskette.specs.declared.Kind.{Kind}
 use Rattle.diskette.specs.declared.WhichKind.TheVariants.{Known}
 use Rattle.directory.specs.Aids.Entries.{SameFields}
-use Rattle.fields.specs.Fields.{name_of, attr_of, start_of, size_of}
+use Rattle.fields.specs.Fields.{name_of, start_of, size_of}
 use Rattle.directory.specs.Slots.{NeverUsedAt, LiveAt, LabelAt, PlainAt}
 use Rattle.directory.specs.Laws.Entries.{same_fields}
 use Rattle.sound.specs.Files.{value_of, IsFile, ChainOf}
@@ -39,7 +38,7 @@ use Rattle.calls.specs.Aids.Ready.{OnVolume}
 use Rattle.calls.specs.Laws.Ready.{on_usable, on_of_kind, on_area}
 use Rattle.holding.specs.Laws.Clusters.{on_clusters}
 use Rattle.changes.specs.Files.{File, Holds}
-use Rattle.changes.specs.Aids.Changed.{GoodSlot, SlotChanged}
+use Rattle.changes.specs.Aids.Changed.{SlotChanged}
 
 module _ (k : Kind) (l : List ℕ) (v : OnVolume l k) where
   u : Usable k

@@ -1,5 +1,5 @@
 -- What each kind of store leaves: in an entry, in the tables, in the data; and one after the other.
-use Rattle.std.specs.Prelude.{ℕ, ◌+◌, ◌*◌, ◌/◌, ◌≤◌, ◌<◌, List, ◌≢◌, ◌⊎◌, ◌≡◌, refl, length, get_or}
+use Rattle.std.specs.Prelude.{ℕ, ◌+◌, ◌*◌, ◌≤◌, ◌<◌, List, ◌≢◌, ◌⊎◌, ◌≡◌, refl, length, get_or}
 use Rattle.std.proofs.Common.{arith, inl, inr, sym, ◌∙◌}
 use Rattle.std.proofs.Math.Decide.{dec_lt}
 use Rattle.image.specs.Store.{stored}
@@ -12,8 +12,6 @@ use Rattle.contents.specs.Laws.Kept.{poured_before}
 use Rattle.diskette.specs.Aids.Usable.{Usable}
 use Rattle.diskette.specs.Places.{first_data, cluster_bytes, copy_two, last_cluster, root_entries, slot_at}
 use Rattle.diskette.specs.declared.Kind.{Kind}
-use Rattle.table.specs.Entries.{word_at}
-use Rattle.table.specs.Aids.Copies.{Agree}
 use Rattle.table.specs.Laws.View.{table_beside, agree_beside}
 use Rattle.links.specs.Aids.Leaves.{SameButEntries}
 use Rattle.sound.specs.Files.{value_of}

@@ -1,7 +1,6 @@
 -- An image of a kind has the clusters of that kind, where the kind says.
 use Rattle.std.specs.Prelude.{ℕ, ◌-◌, ◌*◌, ◌≤◌, ◌≡◌}
 use Rattle.std.proofs.Common.{arith}
-use Rattle.chains.specs.Content as theory
 use Rattle.diskette.specs.Aids.Usable.{Usable}
 use Rattle.diskette.specs.Places.{first_data, clusters, last_cluster, cluster_bytes}
 use Rattle.diskette.specs.declared.Kind.{Kind}

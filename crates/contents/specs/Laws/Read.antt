@@ -1,6 +1,6 @@
 -- What is read of a chain: bytes of the file, as many as were asked for.
 use Rattle.std.specs.Prelude.{ℕ, ◌+◌, ◌*◌, ◌≤◌, ◌≡◌, List, length}
-use Rattle.std.proofs.Common.{arith, sym}
+use Rattle.std.proofs.Common.{sym}
 use Rattle.image.specs.Store.{part}
 use Rattle.chains.specs.Content.{content}
 use Rattle.contents.specs.Aids.Contents.{chain_from, Area, fetched}

@@ -1,5 +1,5 @@
 -- Runs on numbers alone: a run stays in its cluster, and where it ends before the bytes do, the next cluster begins.
-use Rattle.std.specs.Prelude.{ℕ, ◌+◌, ◌-◌, ◌*◌, ◌/◌, ◌%◌, ◌≤◌, ◌<◌, ◌≡◌}
+use Rattle.std.specs.Prelude.{ℕ, ◌+◌, ◌*◌, ◌/◌, ◌%◌, ◌≤◌, ◌<◌, ◌≡◌}
 use native.Mathlib.Omega.{arith}
 use Rattle.std.proofs.Math.Nat.{div-eq_of_lt, mul-add-div_right, div-add-mod', mod-lt}
 use Rattle.std.proofs.Common.{◌∙◌}

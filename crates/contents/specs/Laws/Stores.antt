@@ -1,5 +1,5 @@
 -- A run of bytes inside one cluster is put by one store, and read as one part.
-use Rattle.std.specs.Prelude.{ℕ, ◌+◌, ◌-◌, ◌*◌, ◌/◌, ◌%◌, ◌≤◌, ◌<◌, ◌≡◌, List, ◌++◌, length, get_or, take, drop}
+use Rattle.std.specs.Prelude.{ℕ, ◌+◌, ◌*◌, ◌/◌, ◌%◌, ◌≤◌, ◌<◌, ◌≡◌, List, ◌++◌, length, get_or, take, drop}
 use Rattle.std.proofs.Common.{arith, div-lt_iff_lt-mul, sym, ◌∙◌, ap, inl, inr, length-drop, ext_get_or, take-add, drop-drop}
 use Rattle.std.proofs.Math.Seq.{take_all}
 use Rattle.image.specs.Store.{stored, part}

@@ -1,5 +1,4 @@
 use Rattle.std.proofs.Common.{rules}
-use Rattle.std.proofs.Common.{◌-◌}
 use Rattle.search.specs.Laws.Turns.{lowest_all, lowest_hit, lowest_miss, lowest_done}
 use Rattle.directory.specs.Search.{lowest_vacant}
 use Rattle.directory.proofs.lowest_vacant.Goals as goal

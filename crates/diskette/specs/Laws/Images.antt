@@ -1,10 +1,10 @@
 -- The functions that answer a kind say what the definitions say.
-use Rattle.std.specs.Prelude.{ℕ, ◌*◌, ◌≤◌, ◌<◌, Bool, true, false, cond, List, ◌≢◌, ◌↔◌, ◌≡◌, refl, eqb, leb, get_or}
+use Rattle.std.specs.Prelude.{ℕ, ◌*◌, ◌≤◌, ◌<◌, Bool, true, List, ◌≢◌, ◌↔◌, ◌≡◌, refl, eqb, leb, get_or}
 use Rattle.std.proofs.Common.{arith, sym, ◌∙◌, ap}
 use Rattle.std.proofs.Math.Path.{subst}
 use Rattle.std.proofs.Math.ListN.{length, get_or-eq_default}
 use borrow.Author.Tests.{eqb-true, leb-true, eq-eqb, ne_eqb, le-leb, lt-leb}
-use Rattle.diskette.specs.Places.{first_data, clusters}
+use Rattle.diskette.specs.Places.{first_data}
 use Rattle.diskette.specs.Kinds.{named}
 use Rattle.diskette.specs.Aids.Usable.{Usable}
 use Rattle.diskette.specs.Images.{OfKind, AreaOf, only_if, kind_of_image, kind_of_area}

@@ -1,8 +1,7 @@
 -- The four kinds are usable, and document 01's table follows from their numbers.
 use Rattle.std.specs.Prelude.{ℕ, Bool, true, false, cond, ◌≡◌, refl, List, [], ◌∷◌, map, eqb}
 use Rattle.std.proofs.Common.{arith, sym, ◌∙◌, subst, eqb-true}
-use Rattle.std.proofs.Math.Decide.{ℕ_discrete}
-use Rattle.diskette.specs.Places.{first_data, clusters, last_cluster, root_entries, cluster_bytes}
+use Rattle.diskette.specs.Places.{first_data, clusters, last_cluster, root_entries}
 use Rattle.diskette.specs.Kinds.{kind_fe, kind_ff, kind_fc, kind_fd, named}
 use Rattle.diskette.specs.Aids.Usable.{Usable}
 use Rattle.diskette.specs.declared.Kind.{Kind}

@@ -1,5 +1,5 @@
 -- The bytes of a fresh entry: how many they are, that they are bytes, and that stores side by side make them.
-use Rattle.std.specs.Prelude.{ℕ, zero, suc, ◌+◌, ◌-◌, ◌≤◌, ◌<◌, ◌≡◌, List, [], ◌∷◌, ◌++◌, length, replicate, take, drop}
+use Rattle.std.specs.Prelude.{ℕ, ◌+◌, ◌-◌, ◌≤◌, ◌<◌, ◌≡◌, List, [], ◌∷◌, ◌++◌, length, replicate, take, drop}
 use Rattle.std.proofs.Common.{arith, ◌∙◌, sym, length-append}
 use Rattle.std.proofs.lemmas.List.{length-replicate}
 use Rattle.image.specs.Bytes.{Bytes}

@@ -15,7 +15,6 @@ use Rattle.history.specs.Meant.{Names}
 use Rattle.history.specs.Promises.{Begins}
 use Rattle.history.specs.World.{World, Call, Look, ours, look, open_file, read, seek}
 use Rattle.history.specs.Laws.Begins.{on}
-use Rattle.history.specs.Laws.Found.{good_name}
 use Rattle.history.specs.Laws.Looks.{looks_alter_nothing}
 use Rattle.history.specs.Laws.Meant.{by_name, reaches}
 use Rattle.history.specs.Laws.Passed.{passed_row}

@@ -20,7 +20,6 @@ use Rattle.history.specs.World.{World, Call, ours, open_file, create}
 use Rattle.history.specs.Laws.Begins.{on}
 use Rattle.history.specs.Laws.FileStays.{created_file}
 use Rattle.history.specs.Laws.OneNamed.{names_one}
-use Rattle.history.specs.Laws.PlaceKept.{kept}
 use Rattle.history.specs.Laws.Rows.{image_stays}
 use Rattle.history.specs.Laws.Runs.{begins_run}
 use Rattle.history.specs.Laws.TableStored.{Took, open_took, open_file_lem, create_took}

@@ -1,5 +1,4 @@
 use Rattle.std.proofs.Common.{rules}
-use Rattle.std.proofs.Common.{◌-◌}
 use lib.ListN.{length-set}
 use Rattle.image.specs.Laws.Store.{stored_all, stored_turn, stored_done}
 use Rattle.image.proofs.copy_in.Goals as goal

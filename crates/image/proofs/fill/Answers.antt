@@ -1,5 +1,4 @@
 use Rattle.std.proofs.Common.{rules}
-use Rattle.std.proofs.Common.{◌-◌}
 use lib.ListN.{length-set}
 use Rattle.image.specs.Laws.Store.{filled_all, filled_turn, filled_done}
 use Rattle.image.proofs.fill.Goals as goal

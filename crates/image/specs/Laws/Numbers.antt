@@ -1,11 +1,11 @@
 -- A number stored is the number read; what is stored elsewhere leaves it. One law for every width.
-use Rattle.std.specs.Prelude.{ℕ, zero, suc, ◌+◌, ◌*◌, ◌/◌, ◌%◌, ◌^◌, ◌≤◌, ◌<◌, ◌≡◌, refl, List, [], ◌∷◌, ◌⊎◌, length, get_or, set}
-use Rattle.std.proofs.Common.{arith, pow-suc, sym, ◌∙◌, ap, inl, inr, length-set, get_or-set_same}
+use Rattle.std.specs.Prelude.{ℕ, zero, suc, ◌+◌, ◌*◌, ◌/◌, ◌%◌, ◌^◌, ◌≤◌, ◌<◌, ◌≡◌, refl, List, length, get_or, set}
+use Rattle.std.proofs.Common.{arith, pow-suc, ◌∙◌, ap, inl, inr, length-set, get_or-set_same}
 use Rattle.image.specs.Bytes.{Bytes}
 use Rattle.image.specs.Store.{stored}
 use Rattle.image.specs.Aids.Ranges.{Apart}
 use Rattle.image.specs.Numbers.{number, digits}
-use Rattle.image.specs.Laws.Store.{stored_outside, stored_inside}
+use Rattle.image.specs.Laws.Store.{stored_outside}
 
 pub length_digits : (n w : ℕ) → length (digits n w) ≡ w
 unfolding digits

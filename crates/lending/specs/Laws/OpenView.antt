@@ -1,7 +1,6 @@
 -- Open over bytes, by the place that is free.
 use Rattle.std.specs.Prelude.{ℕ, ◌<◌, Bool, true, false, cond, not, ◌&&◌, List, [], ◌∷◌, ◌≡◌, refl, eqb, ltb}
 use Rattle.std.proofs.Common.{arith, sym, ap, ◌∙◌, eqb-true}
-use Rattle.image.specs.Numbers.{number}
 use Rattle.search.specs.Search.{is_found}
 use Rattle.search.specs.declared.Found.{Found}
 use Rattle.search.specs.declared.Found.TheVariants.{At, Nothing}

@@ -1,5 +1,4 @@
 use Rattle.std.proofs.Common.{rules}
-use Rattle.std.proofs.Common.{◌-◌}
 use Rattle.links.specs.Laws.Turns.{reaches_long, freed_all, freed_low, freed_high, freed_turn, freed_end}
 use Rattle.links.proofs.free_chain.Goals as goal
 

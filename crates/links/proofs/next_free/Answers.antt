@@ -1,5 +1,4 @@
 use Rattle.std.proofs.Common.{rules}
-use Rattle.std.proofs.Common.{◌-◌}
 use Rattle.links.specs.Laws.Turns.{next_hit, next_miss, next_end}
 use Rattle.links.proofs.next_free.Goals as goal
 

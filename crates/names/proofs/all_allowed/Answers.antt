@@ -1,5 +1,4 @@
 use Rattle.std.proofs.Common.{rules}
-use Rattle.std.proofs.Common.{◌-◌}
 use Rattle.names.specs.Laws.Code.{all_turn, all_found, all_done}
 use Rattle.names.proofs.all_allowed.Goals as goal
 

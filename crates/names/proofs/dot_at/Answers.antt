@@ -1,5 +1,4 @@
 use Rattle.std.proofs.Common.{rules}
-use Rattle.std.proofs.Common.{◌-◌}
 use Rattle.names.specs.Laws.Code.{before_turn, before_found, before_done}
 use Rattle.names.proofs.dot_at.Goals as goal
 

@@ -1,5 +1,4 @@
 use Rattle.std.proofs.Common.{rules}
-use Rattle.std.proofs.Common.{◌-◌}
 use lib.ListN.{length-set}
 use Rattle.names.specs.Laws.Code.{done_none, done_turn, done_all}
 use Rattle.names.proofs.eleven_bytes.Goals as goal

@@ -1,5 +1,4 @@
 use Rattle.std.proofs.Common.{rules}
-use Rattle.std.proofs.Common.{◌-◌}
 use Rattle.names.specs.Laws.Code.{among_turn, among_found, among_done}
 use Rattle.names.proofs.is_among.Goals as goal
 

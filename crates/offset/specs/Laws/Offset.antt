@@ -5,7 +5,6 @@ use Rattle.std.specs.Int.Signed.{lt_z, non_neg}
 use Rattle.std.specs.Int.{w32, w64}
 use Rattle.std.proofs.lemmas.Bool.{lt-leb}
 use Rattle.offset.specs.Offset.{as_pointer}
-use Rattle.offset.specs.declared.Moved.{Moved}
 use Rattle.offset.specs.declared.Moved.TheVariants.{To, Beyond}
 
 pub sum_fits : (base : ℕ) (offset : ℤ) → base < 4294967296 → SFits w32 offset → SFits w64 (pos base +ℤ offset)

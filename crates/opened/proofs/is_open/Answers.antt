@@ -1,5 +1,4 @@
 use Rattle.std.proofs.Common.{rules}
-use Rattle.std.proofs.Common.{◌-◌}
 use Rattle.search.specs.Laws.Turns.{lowest_miss}
 use Rattle.opened.specs.Places.{is_open}
 use Rattle.opened.specs.Laws.Code.{search_all, found_hit, found_end}

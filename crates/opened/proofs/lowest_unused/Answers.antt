@@ -1,6 +1,4 @@
 use Rattle.std.proofs.Common.{rules}
-use Rattle.std.proofs.Common.{◌-◌}
-use Rattle.search.specs.Search as find
 use Rattle.search.specs.Laws.Turns.{lowest_done}
 use Rattle.opened.specs.Places.{lowest_unused}
 use Rattle.opened.specs.Laws.Code.{search_all, unused_hit, unused_miss}

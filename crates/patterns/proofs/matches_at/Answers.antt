@@ -1,5 +1,4 @@
 use Rattle.std.proofs.Common.{rules}
-use Rattle.std.proofs.Common.{◌-◌}
 use Rattle.patterns.specs.Laws.Matches.{matches_all, matches_differs, matches_more, matches_end}
 use Rattle.patterns.proofs.matches_at.Goals as goal
 

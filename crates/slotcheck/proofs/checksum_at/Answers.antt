@@ -1,5 +1,4 @@
 use Rattle.std.proofs.Common.{rules}
-use Rattle.std.proofs.Common.{◌-◌}
 use Rattle.slotcheck.specs.Laws.Checksums.{checksum_begin, checksum_more, checksum_end}
 use Rattle.slotcheck.proofs.checksum_at.Goals as goal
 

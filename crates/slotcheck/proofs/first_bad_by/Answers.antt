@@ -1,5 +1,4 @@
 use Rattle.std.proofs.Common.{rules}
-use Rattle.std.proofs.Common.{◌-◌}
 use Rattle.search.specs.Laws.Turns.{lowest_all, lowest_done}
 use Rattle.slotcheck.specs.Aids.Slots.{any_below}
 use Rattle.slotcheck.specs.Laws.Slots.{any_more, bad_found, bad_not_here}

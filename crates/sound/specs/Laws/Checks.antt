@@ -12,7 +12,7 @@ use Rattle.sound.specs.Answer.{AnswersBy, Checked, CheckedArea}
 use Rattle.sound.specs.Aids.Judged.{judged}
 use Rattle.sound.specs.Laws.Answer.{judged_answers}
 use Rattle.sound.specs.declared.Verdict.{Verdict}
-use Rattle.sound.specs.declared.Verdict.TheVariants.{Sound, Finding}
+use Rattle.sound.specs.declared.Verdict.TheVariants.{Finding}
 
 -- a usable kind, whose system area the bytes have, is answered for by what was judged
 judged_fits : (k : Kind) (l : List ℕ) → Usable k → 512 * first_data k ≤ length l → (w : WhichKind) → w ≡ Known k → (v : Verdict) → v ≡ judged k l → AnswersBy w l v

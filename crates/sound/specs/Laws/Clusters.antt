@@ -8,7 +8,6 @@ use Rattle.sound.specs.Files.{Clusters, FileClusters, none_of_it, enough}
 use Rattle.chains.specs.Aids.Holders.{Owns, file_holder}
 use Rattle.chains.specs.Laws.Chain.{leads_next}
 use Rattle.chains.specs.Laws.Sizes.{clusters_some, fits_empty, fits_from, fits_least}
-use Rattle.chains.specs.Laws.Holders.{in_range}
 
 next : (i : ℕ) → i + 1 ≡ suc i
 next i = omega arith

@@ -1,6 +1,6 @@
 -- What the visit of all files of a volume leaves, in the words of the answer as it is computed.
 use Rattle.std.specs.Prelude.{ℕ, List, ◌≡◌, replicate}
-use Rattle.std.proofs.Common.{arith, ◌∙◌}
+use Rattle.std.proofs.Common.{◌∙◌}
 use Rattle.std.proofs.Math.Path.{subst}
 use Rattle.chains.specs.Aids.Check.{chain_marks}
 use Rattle.chains.specs.Aids.Marks.{marks, marks_of}

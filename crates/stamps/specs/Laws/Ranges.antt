@@ -1,8 +1,6 @@
 -- The tests of the ranges say what the ranges are.
-use Rattle.std.specs.Prelude.{ℕ, ◌≤◌, ◌<◌, Bool, true, false, ◌&&◌, ◌≡◌, refl, leb}
-use Rattle.std.proofs.Common.{arith, sym, ◌∙◌}
-use Rattle.std.proofs.Math.Decide.{dec_le}
-use borrow.Author.Tests.{le-leb, lt-leb, leb-true}
+use Rattle.std.specs.Prelude.{ℕ, ◌≤◌, Bool, true, false, ◌&&◌, ◌≡◌, refl, leb}
+use borrow.Author.Tests.{le-leb, leb-true}
 use Rattle.stamps.specs.Stamps.{time_fits, date_fits, TimeInRange, DateInRange}
 
 and_both : (a b : Bool) → (a && b) ≡ true → (a ≡ true) × (b ≡ true)

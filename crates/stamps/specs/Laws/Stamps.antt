@@ -1,15 +1,12 @@
 -- Packing and reading back are inverse in range.
-use Rattle.std.specs.Prelude.{ℕ, ◌+◌, ◌*◌, ◌/◌, ◌%◌, ◌≤◌, ◌<◌, Bool, true, false, not, cond, ◌≡◌, refl}
-use Rattle.std.proofs.Common.{arith, sym, ◌∙◌, ap}
+use Rattle.std.specs.Prelude.{ℕ, ◌/◌, ◌%◌, Bool, true, false, not, cond, ◌≡◌, refl}
+use Rattle.std.proofs.Common.{arith, sym, ◌∙◌}
 use borrow.Author.Tests.{not-true, not-false}
 use Rattle.stamps.specs.Stamps.{time_fits, date_fits, TimeInRange, DateInRange, time_word, date_word, packed, time_read, date_read}
 use Rattle.stamps.specs.Laws.Ranges.{time_fits_lem, time_in_range, date_fits_lem, date_in_range}
 use Rattle.stamps.specs.declared.Stamp.{Stamp}
-use Rattle.stamps.specs.declared.Packed.{Packed}
 use Rattle.stamps.specs.declared.Packed.TheVariants.{Words, OutOfRange}
-use Rattle.stamps.specs.declared.TimeRead.{TimeRead}
 use Rattle.stamps.specs.declared.TimeRead.TheVariants.{Time, NoTime}
-use Rattle.stamps.specs.declared.DateRead.{DateRead}
 use Rattle.stamps.specs.declared.DateRead.TheVariants.{Date, NoDate}
 
 -- ---- in the form of the code's needs, with t and d the answers of the tests

@@ -1,6 +1,6 @@
 -- The table as a function: a write in both copies changes one value of it, a store elsewhere none. Above these laws
 -- nothing speaks of words and bits.
-use Rattle.std.specs.Prelude.{ℕ, ◌+◌, ◌-◌, ◌≤◌, ◌<◌, Bool, ◌&&◌, List, ◌⊎◌, ◌≢◌, ◌≡◌, leb, length, get_or}
+use Rattle.std.specs.Prelude.{ℕ, ◌+◌, ◌≤◌, ◌<◌, Bool, ◌&&◌, List, ◌⊎◌, ◌≢◌, ◌≡◌, leb, length, get_or}
 use Rattle.std.proofs.Common.{arith, inl, inr, sym, ◌∙◌}
 use Rattle.std.proofs.Math.Decide.{dec_le, dec_lt}
 use Rattle.std.proofs.Math.Bool.{true, false, cond}

@@ -1,7 +1,6 @@
 -- One cluster after the other.
 use Rattle.tablecheck.specs.Laws.Tables.{counted_values, counted_none, two_on}
 use Rattle.std.proofs.Common.{arith}
-use Rattle.std.proofs.Common.{rules}
 use Rattle.tablecheck.proofs.counted_two.Goals as goal
 
 pub counted-requires-clause-c_bound : goal.counted-requires-clause-c_bound

@@ -1,5 +1,4 @@
 use Rattle.std.proofs.Common.{rules}
-use Rattle.std.proofs.Common.{◌-◌}
 use Rattle.search.specs.Laws.Flags.{none_from, none_told}
 use Rattle.search.specs.Laws.Turns.{lowest_all}
 use Rattle.tablecheck.specs.Laws.Tables.{same_lost, same_on}

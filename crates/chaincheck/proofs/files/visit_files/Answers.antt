@@ -1,6 +1,4 @@
 use Rattle.std.proofs.Common.{rules}
-use Rattle.std.proofs.Common.{◌-◌}
-use mathlib.Core.Logic.{⊎_elim}
 use Rattle.chaincheck.specs.Laws.FileTurns.{files_begin, files_done, files_bad, files_skip, files_add, held_fits}
 use Rattle.chaincheck.proofs.files.visit_files.Goals as goal
 use Rattle.chaincheck.proofs.files.visit_files.Goals.{in-NoFile, in-Clusters}

@@ -1,5 +1,4 @@
 use Rattle.std.proofs.Common.{rules}
-use Rattle.std.proofs.Common.{◌-◌}
 use Rattle.chains.specs.Laws.ClusterLoops.{lowest_start}
 use Rattle.search.specs.Laws.Turns.{lowest_done}
 use Rattle.search.specs.Laws.Flags.{none_found}

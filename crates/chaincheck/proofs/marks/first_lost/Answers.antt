@@ -1,5 +1,4 @@
 use Rattle.std.proofs.Common.{rules}
-use Rattle.std.proofs.Common.{◌-◌}
 use Rattle.chains.specs.Laws.ClusterLoops.{lowest_start}
 use Rattle.search.specs.Laws.Turns.{lowest_hit, lowest_miss, lowest_done}
 use Rattle.chaincheck.proofs.marks.first_lost.Goals as goal

@@ -2,7 +2,6 @@
 use Rattle.holding.specs.Laws.Found.{named_file}
 use Rattle.calls.specs.Laws.Named.{named, file_named}
 use Rattle.deleting.specs.Laws.Delete.{delete_refused, delete_rest}
-use Rattle.std.proofs.Common.{rules}
 use Rattle.deleting.proofs.delete.delete_on.Goals as goal
 
 pub returns-then-not-given : goal.returns-then-not-given

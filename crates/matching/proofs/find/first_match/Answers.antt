@@ -1,5 +1,4 @@
 use Rattle.std.proofs.Common.{arith}
-use Rattle.std.proofs.Common.{◌-◌}
 use Rattle.calls.specs.Laws.Ready.{on_usable}
 use Rattle.matching.specs.Laws.Find.{match_none, match_here, match_later, slot_inside}
 use Rattle.matching.proofs.find.first_match.Goals as goal

@@ -1,4 +1,3 @@
-use Rattle.std.proofs.Common.{◌-◌}
 use Rattle.search.specs.Laws.Turns.{lowest_hit, lowest_miss, lowest_done}
 use Rattle.std.proofs.Common.{rules}
 use Rattle.member.proofs.clusters.lowest_holder.Goals as goal

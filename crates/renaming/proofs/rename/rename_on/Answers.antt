@@ -2,7 +2,6 @@
 use Rattle.calls.specs.Laws.Files.{named_below}
 use Rattle.calls.specs.Laws.Named.{named, file_named}
 use Rattle.renaming.specs.Laws.Rename.{rename_refused, rename_rest}
-use Rattle.std.proofs.Common.{rules}
 use Rattle.renaming.proofs.rename.rename_on.Goals as goal
 
 pub returns-then-not-given : goal.returns-then-not-given

@@ -2,7 +2,6 @@
 use Rattle.std.proofs.Common.{arith}
 use Rattle.holding.specs.Laws.Kinds.{usable, slot_inside, last_small, table_inside}
 use Rattle.rescuing.specs.Laws.Chain.{none_good, too_short, ends_good}
-use Rattle.std.proofs.Common.{rules}
 use Rattle.rescuing.proofs.rescue.has_good_chain.Goals as goal
 
 pub slot_at-a-requires-clause-usable : goal.slot_at-a-requires-clause-usable

@@ -2,7 +2,6 @@
 use Rattle.calls.specs.Laws.Rows.{bounds}
 use Rattle.calls.specs.Laws.Files.{reached, live_slot_lem, live_below, live_counted}
 use Rattle.seeking.specs.Laws.Seek.{beyond_stops, seek_refused, seek_well}
-use Rattle.std.proofs.Common.{rules}
 use Rattle.seeking.proofs.seek.seek_on.Goals as goal
 
 ruleset rows = (reached, bounds, beyond_stops)

@@ -1,5 +1,4 @@
 use Rattle.std.proofs.Common.{rules}
-use Rattle.std.proofs.Common.{◌-◌}
 use Rattle.text.specs.Laws.Names.{blank_turn, blank_found, blank_done}
 use Rattle.text.proofs.name.only_spaces.Goals as goal
 

@@ -1,5 +1,4 @@
 use Rattle.std.proofs.Common.{rules}
-use Rattle.std.proofs.Common.{◌-◌}
 use lib.ListN.{length-set}
 use Rattle.text.specs.Laws.Names.{part_all, part_turn, part_count, puts_stop, puts_end}
 use Rattle.text.proofs.name.put_part.Goals as goal

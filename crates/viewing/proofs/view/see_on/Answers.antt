@@ -2,7 +2,6 @@
 use Rattle.holding.specs.Laws.Found.{named_file}
 use Rattle.calls.specs.Laws.Named.{named, file_named}
 use Rattle.viewing.specs.Laws.View.{see_refused, see_well}
-use Rattle.std.proofs.Common.{rules}
 use Rattle.viewing.proofs.view.see_on.Goals as goal
 
 pub returns-then-not-given : goal.returns-then-not-given

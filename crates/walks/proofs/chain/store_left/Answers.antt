@@ -1,5 +1,4 @@
 use Rattle.std.proofs.Common.{rules}
-use Rattle.std.proofs.Common.{◌-◌}
 use Rattle.walks.specs.Laws.Tails.{store_from, store_to, store_at, store_inside, store_on, store_turn, store_end}
 use Rattle.walks.proofs.chain.store_left.Goals as goal
 

@@ -4,7 +4,6 @@ use Rattle.calls.specs.Laws.Ready.{on_usable}
 use Rattle.holding.specs.Laws.Chain.{file_below}
 use Rattle.holding.specs.Laws.Found.{live_file, live_file_at}
 use Rattle.writing.specs.Laws.Write.{write_stops, write_refused, write_well}
-use Rattle.std.proofs.Common.{rules}
 use Rattle.writing.proofs.write.write_on.Goals as goal
 
 ruleset rows = (reached, write_stops)
