@@ -4,4 +4,3 @@ pub mod Outcome
 pub mod Numbers
 pub mod Refusals
 pub mod Aids
-pub mod Laws

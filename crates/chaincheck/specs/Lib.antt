@@ -1,3 +1,2 @@
 -- Findings 5 to 7 as the code walks the chains: aids to the proofs of sound, which has the definitions.
 pub mod Aids
-pub mod Laws

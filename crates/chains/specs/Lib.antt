@@ -9,4 +9,3 @@ pub mod Content
 pub mod Write
 pub mod Verdict
 pub mod Aids
-pub mod Laws

@@ -1,4 +1,3 @@
 -- The files of a volume, and what one change of the volume does to them. Read Files.
 pub mod Files
 pub mod Aids
-pub mod Laws

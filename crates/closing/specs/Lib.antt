@@ -1,3 +1,2 @@
 -- Files closed: close.
 pub mod Close
-pub mod Laws

@@ -1,4 +1,3 @@
 -- Files made: create.
 pub mod Create
 pub mod Aids
-pub mod Laws

@@ -1,4 +1,3 @@
 -- Files ended: delete.
 pub mod Delete
 pub mod Aids
-pub mod Laws

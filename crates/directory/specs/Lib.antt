@@ -3,4 +3,3 @@ pub mod Slots
 pub mod Entries
 pub mod Search
 pub mod Aids
-pub mod Laws

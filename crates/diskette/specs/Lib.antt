@@ -3,4 +3,3 @@ pub mod Kinds
 pub mod Places
 pub mod Images
 pub mod Aids
-pub mod Laws

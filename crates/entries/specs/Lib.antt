@@ -1,3 +1,2 @@
 -- What stands in a slot: entry at a slot.
 pub mod Entry
-pub mod Laws

@@ -1,4 +1,3 @@
 -- The 32 bytes of a directory entry, by the address of the first: its fields.
 pub mod Fields
 pub mod Aids
-pub mod Laws

@@ -1,3 +1,2 @@
 -- A new volume: format.
 pub mod Format
-pub mod Laws

@@ -1,3 +1,2 @@
 -- The clusters of a file given back.
 pub mod Freed
-pub mod Laws

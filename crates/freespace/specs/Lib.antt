@@ -1,3 +1,2 @@
 -- The space that is left: free space.
 pub mod FreeSpace
-pub mod Laws

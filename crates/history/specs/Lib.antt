@@ -10,4 +10,3 @@ pub mod Handles
 pub mod Keeps
 pub mod ListingCase
 pub mod Aids
-pub mod Laws

@@ -1,4 +1,3 @@
 -- What a file of a volume holds: its clusters and its bytes.
 pub mod Holding
 pub mod Aids
-pub mod Laws

@@ -3,4 +3,3 @@ pub mod Bytes
 pub mod Store
 pub mod Numbers
 pub mod Aids
-pub mod Laws

@@ -9,7 +9,7 @@ ghost use Rattle.seeking.specs.Seek.{seek_outcome};
 ghost use Rattle.reading.specs.Read.{read_outcome};
 ghost use Rattle.writing.specs.Write.{write_outcome};
 ghost use Rattle.single.specs.Rows.{bytes_of, LeavesRow};
-ghost use Rattle.lending.specs.Laws.Bytes.{AllFit};
+ghost use Rattle.lending.specs.Aids.Fits.{AllFit};
 
 use calls::Answer;
 use records::OpenRecord;

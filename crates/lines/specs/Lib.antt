@@ -2,4 +2,3 @@
 pub mod Lines
 pub mod Worked
 pub mod Aids
-pub mod Laws

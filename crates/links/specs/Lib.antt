@@ -2,4 +2,3 @@
 pub mod Freed
 pub mod Linked
 pub mod Aids
-pub mod Laws

@@ -1,3 +1,2 @@
 -- A file's attribute told and changed: file mode.
 pub mod Mode
-pub mod Laws

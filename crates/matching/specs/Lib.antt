@@ -2,4 +2,3 @@
 pub mod Find
 pub mod Whole
 pub mod Aids
-pub mod Laws

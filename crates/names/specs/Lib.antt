@@ -3,4 +3,3 @@ pub mod Alphabet
 pub mod Spelling
 pub mod Reading
 pub mod Aids
-pub mod Laws

@@ -1,3 +1,2 @@
 -- The arithmetic of seek.
 pub mod Offset
-pub mod Laws

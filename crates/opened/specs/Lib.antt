@@ -3,4 +3,3 @@ pub mod Records
 pub mod Changes
 pub mod Places
 pub mod Aids
-pub mod Laws

@@ -1,3 +1,2 @@
 -- Files opened: open.
 pub mod Open
-pub mod Laws

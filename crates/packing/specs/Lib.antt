@@ -2,4 +2,3 @@
 pub mod Packing
 pub mod Stamps
 pub mod Aids
-pub mod Laws

@@ -1,4 +1,3 @@
 -- Patterns given by callers. Read Patterns; aids and laws are for the proofs.
 pub mod Patterns
 pub mod Aids
-pub mod Laws

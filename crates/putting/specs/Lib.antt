@@ -2,4 +2,3 @@
 pub mod Longer
 pub mod Written
 pub mod Aids
-pub mod Laws

@@ -1,3 +1,2 @@
 -- Bytes taken out of files: read.
 pub mod Read
-pub mod Laws

@@ -1,4 +1,3 @@
 -- Open records as values: the row that a table's bytes say, and what is found in it.
 pub mod Row
 pub mod Seek
-pub mod Laws

@@ -1,4 +1,3 @@
 -- A file's name changed: rename.
 pub mod Rename
 pub mod Aids
-pub mod Laws

@@ -1,3 +1,2 @@
 -- A file read off a volume that need not be sound: rescue.
 pub mod Rescue
-pub mod Laws

@@ -4,4 +4,3 @@ pub mod Torn
 pub mod Promises
 pub mod AsRead
 pub mod Aids
-pub mod Laws

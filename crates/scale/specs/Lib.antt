@@ -2,4 +2,3 @@
 pub mod Out
 pub mod Calls
 pub mod Aids
-pub mod Laws

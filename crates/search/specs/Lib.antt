@@ -1,4 +1,3 @@
 -- Searching a range of numbers, from the front, as a loop goes.
 pub mod Search
 pub mod Aids
-pub mod Laws

@@ -1,3 +1,2 @@
 -- The pointer of an open file moved: seek.
 pub mod Seek
-pub mod Laws

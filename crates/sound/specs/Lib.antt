@@ -6,4 +6,3 @@ pub mod Counts
 pub mod Answer
 pub mod Judged
 pub mod Aids
-pub mod Laws

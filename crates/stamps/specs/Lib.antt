@@ -1,3 +1,2 @@
 -- Stamps: the ranges, the words, and back.
 pub mod Stamps
-pub mod Laws

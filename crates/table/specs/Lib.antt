@@ -1,4 +1,3 @@
 -- The table's entries: where they stand.
 pub mod Entries
 pub mod Aids
-pub mod Laws

@@ -1,3 +1,2 @@
 -- Findings 2 and 3 as the code searches for them: aids to the proofs of sound, which has the definitions.
 pub mod Aids
-pub mod Laws

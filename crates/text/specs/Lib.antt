@@ -4,4 +4,3 @@ pub mod Digits
 pub mod Names
 pub mod Stamps
 pub mod Aids
-pub mod Laws

@@ -1,4 +1,3 @@
 -- Bytes of a file shown where they lie: view.
 pub mod View
 pub mod Aids
-pub mod Laws

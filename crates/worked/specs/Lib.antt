@@ -1,3 +1,2 @@
 -- Document 01's worked numbers.
 pub mod Worked
-pub mod Laws

@@ -1,4 +1,3 @@
 -- Bytes put into files: write. Read the crate putting's Longer and Written, then Write.
 pub mod Write
 pub mod Aids
-pub mod Laws

@@ -1,5 +1,5 @@
 -- Each way out is one answer of the two that were asked for.
-use Rattle.calls.specs.Laws.Ready.{ready_no_kind, ready_unsound, ready_volume}
+use Rattle.calls.proofs.Laws.Ready.{ready_no_kind, ready_unsound, ready_volume}
 use Rattle.calls.proofs.make_ready.Goals as goal
 
 pub returns-in-Sound : goal.returns-in-Sound

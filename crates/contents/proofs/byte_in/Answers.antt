@@ -1,6 +1,6 @@
 -- The cluster lies below the largest number, and so does each of its bytes.
 use Rattle.chains.specs.Content.{cluster_begin}
-use Rattle.contents.specs.Laws.Leaves.{steps_fit, start_fits, place_fits}
+use Rattle.contents.proofs.Laws.Leaves.{steps_fit, start_fits, place_fits}
 use Rattle.std.proofs.Common.{rules}
 use Rattle.contents.proofs.byte_in.Goals as goal
 

@@ -1,5 +1,5 @@
 use Rattle.std.proofs.Common.{rules}
-use Rattle.chains.specs.Laws.StepTurns.{followed_turn, followed_end}
+use Rattle.chains.proofs.Laws.StepTurns.{followed_turn, followed_end}
 use Rattle.contents.proofs.cluster_holding.Goals as goal
 
 pub loop-links-preserved : goal.loop-links-preserved

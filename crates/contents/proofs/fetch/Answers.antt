@@ -1,5 +1,5 @@
 use Rattle.std.proofs.Common.{rules}
-use Rattle.contents.specs.Laws.Turns.{fetch_first, fetch_length, fetch_done, next_fits, cluster_from, cluster_fits, run_end_fits, run_less, run_stays, fetch_fits, fetch_again}
+use Rattle.contents.proofs.Laws.Turns.{fetch_first, fetch_length, fetch_done, next_fits, cluster_from, cluster_fits, run_end_fits, run_less, run_stays, fetch_fits, fetch_again}
 use Rattle.contents.proofs.fetch.Goals as goal
 
 pub loop-done-init : goal.loop-done-init

@@ -1,5 +1,5 @@
 -- The cluster that was found holds that byte.
-use Rattle.contents.specs.Laws.Leaves.{met_from, met_fits, met_place}
+use Rattle.contents.proofs.Laws.Leaves.{met_from, met_fits, met_place}
 use Rattle.std.proofs.Common.{rules}
 use Rattle.contents.proofs.place_of.Goals as goal
 

@@ -1,5 +1,5 @@
 use Rattle.std.proofs.Common.{rules}
-use Rattle.contents.specs.Laws.Turns.{pour_first, pour_length, pour_reaches, pour_done, pour_stays, next_fits, cluster_from, cluster_fits, run_end, run_end_fits, run_less, copy_again}
+use Rattle.contents.proofs.Laws.Turns.{pour_first, pour_length, pour_reaches, pour_done, pour_stays, next_fits, cluster_from, cluster_fits, run_end, run_end_fits, run_less, copy_again}
 use Rattle.contents.proofs.pour.Goals as goal
 
 pub loop-done-init : goal.loop-done-init

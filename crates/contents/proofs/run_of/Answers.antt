@@ -1,5 +1,5 @@
 -- What is left of the cluster, or of the bytes if they are fewer.
-use Rattle.contents.specs.Laws.Leaves.{rest_inside, run_short, run_whole}
+use Rattle.contents.proofs.Laws.Leaves.{rest_inside, run_short, run_whole}
 use Rattle.contents.proofs.run_of.Goals as goal
 
 pub overflow_sub-behind-2 : goal.overflow_sub-behind-2

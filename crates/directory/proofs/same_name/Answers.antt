@@ -2,7 +2,7 @@ use Rattle.std.proofs.Common.{arith}
 use Rattle.std.proofs.Common.{rules}
 use mathlib.Core.Path.{refl}
 use Rattle.std.proofs.Common.{◌<◌}
-use Rattle.directory.specs.Laws.Names.{same_more, same_differs, same_end}
+use Rattle.directory.proofs.Laws.Names.{same_more, same_differs, same_end}
 use Rattle.directory.proofs.same_name.Goals as goal
 
 pub loop-i-init : goal.loop-i-init

@@ -1,5 +1,5 @@
 use Rattle.std.proofs.Common.{rules}
-use Rattle.search.specs.Laws.Turns.{lowest_all, lowest_hit, lowest_miss, lowest_done}
+use Rattle.search.proofs.Laws.Turns.{lowest_all, lowest_hit, lowest_miss, lowest_done}
 use Rattle.directory.specs.Search.{slot_named}
 use Rattle.directory.proofs.slot_named.Goals as goal
 

@@ -1,5 +1,5 @@
 -- Each way out is one case of the rule.
-use Rattle.directory.specs.Laws.Slots.{never_used_lem, erased, label, plain}
+use Rattle.directory.proofs.Laws.Slots.{never_used_lem, erased, label, plain}
 use Rattle.directory.proofs.standing_by.Goals as goal
 
 pub returns-then-first-eq0 : goal.returns-then-first-eq0

@@ -1,8 +1,8 @@
 -- What byte 512 names is usable, so its first data sector is a small number.
 use Rattle.std.proofs.Common.{arith}
 use Rattle.diskette.specs.Aids.Usable.{Usable}
-use Rattle.diskette.specs.Laws.Kinds.{named_usable}
-use Rattle.diskette.specs.Laws.Images.{area_short, area_known, area_other, area_unknown}
+use Rattle.diskette.proofs.Laws.Kinds.{named_usable}
+use Rattle.diskette.proofs.Laws.Images.{area_short, area_known, area_other, area_unknown}
 use Rattle.diskette.proofs.kind_of_area.Goals as goal
 
 pub returns-then-area-le512 : goal.returns-then-area-le512

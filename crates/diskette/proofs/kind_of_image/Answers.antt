@@ -1,8 +1,8 @@
 -- What byte 512 names is usable, so its bytes are a small number.
 use Rattle.std.proofs.Common.{arith}
 use Rattle.diskette.specs.Aids.Usable.{Usable}
-use Rattle.diskette.specs.Laws.Kinds.{named_usable}
-use Rattle.diskette.specs.Laws.Images.{image_short, image_known, image_other, image_unknown}
+use Rattle.diskette.proofs.Laws.Kinds.{named_usable}
+use Rattle.diskette.proofs.Laws.Images.{image_short, image_known, image_other, image_unknown}
 use Rattle.diskette.proofs.kind_of_image.Goals as goal
 
 pub returns-then-img-le512 : goal.returns-then-img-le512

@@ -1,5 +1,5 @@
 -- Name, attribute and zeros side by side are the first 22 bytes.
-use Rattle.fields.specs.Laws.Fields.{head_stored}
+use Rattle.fields.proofs.Laws.Fields.{head_stored}
 use Rattle.std.proofs.Common.{rules}
 use Rattle.fields.proofs.put_head.Goals as goal
 

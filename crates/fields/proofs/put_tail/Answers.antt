@@ -1,5 +1,5 @@
 -- Time, date, start and size side by side are the last ten bytes.
-use Rattle.fields.specs.Laws.Fields.{tail_stored}
+use Rattle.fields.proofs.Laws.Fields.{tail_stored}
 use Rattle.std.proofs.Common.{rules}
 use Rattle.fields.proofs.put_tail.Goals as goal
 

@@ -1,6 +1,6 @@
 -- The kind says how far the table reaches.
-use Rattle.holding.specs.Laws.Kinds.{usable, last_small, table_inside}
-use Rattle.holding.specs.Laws.Extent.{extent_is}
+use Rattle.holding.proofs.Laws.Kinds.{usable, last_small, table_inside}
+use Rattle.holding.proofs.Laws.Extent.{extent_is}
 use Rattle.holding.proofs.extent_at.Goals as goal
 
 pub last_cluster-requires : goal.last_cluster-requires

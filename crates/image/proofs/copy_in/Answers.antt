@@ -1,6 +1,6 @@
 use Rattle.std.proofs.Common.{rules}
 use lib.ListN.{length-set}
-use Rattle.image.specs.Laws.Store.{stored_all, stored_turn, stored_done}
+use Rattle.image.proofs.Laws.Store.{stored_all, stored_turn, stored_done}
 use Rattle.image.proofs.copy_in.Goals as goal
 
 pub loop-i-init : goal.loop-i-init

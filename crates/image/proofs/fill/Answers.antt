@@ -1,6 +1,6 @@
 use Rattle.std.proofs.Common.{rules}
 use lib.ListN.{length-set}
-use Rattle.image.specs.Laws.Store.{filled_all, filled_turn, filled_done}
+use Rattle.image.proofs.Laws.Store.{filled_all, filled_turn, filled_done}
 use Rattle.image.proofs.fill.Goals as goal
 
 pub loop-i-init : goal.loop-i-init

@@ -1,5 +1,5 @@
 -- Two stores are the run of the two bytes.
-use Rattle.image.specs.Laws.Numbers.{put_word}
+use Rattle.image.proofs.Laws.Numbers.{put_word}
 use Rattle.std.proofs.Common.{arith}
 use lib.ListN.{length-set}
 use Rattle.std.proofs.Common.{rules}

@@ -1,5 +1,5 @@
 -- The call on the record alone, put back where it came from.
-use Rattle.lending.specs.Laws.Through.{close_through}
+use Rattle.lending.proofs.Laws.Through.{close_through}
 use Rattle.lending.proofs.close.Goals as goal
 
 pub returns : goal.returns

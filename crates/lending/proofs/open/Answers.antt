@@ -1,6 +1,6 @@
 -- The call on the place that is free, put there where it was taken.
-use Rattle.lending.specs.Laws.OpenView.{free_fits}
-use Rattle.lending.specs.Laws.OpenThrough.{open_through}
+use Rattle.lending.proofs.Laws.OpenView.{free_fits}
+use Rattle.lending.proofs.Laws.OpenThrough.{open_through}
 use Rattle.lending.proofs.open.Goals as goal
 
 pub open_at-done-requires : goal.open_at-done-requires

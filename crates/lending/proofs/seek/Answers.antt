@@ -1,6 +1,6 @@
 -- The call on the record alone, put back where it came from.
 use mir.Facts.{to_z-of_z}
-use Rattle.lending.specs.Laws.Through.{seek_through}
+use Rattle.lending.proofs.Laws.Through.{seek_through}
 use Rattle.lending.proofs.seek.Goals as goal
 
 pub returns : goal.returns

@@ -1,5 +1,5 @@
 -- The call on the record alone, put back where it came from.
-use Rattle.lending.specs.Laws.Through.{write_through}
+use Rattle.lending.proofs.Laws.Through.{write_through}
 use Rattle.lending.proofs.write.Goals as goal
 
 pub returns : goal.returns

@@ -1,5 +1,5 @@
 -- One method a way out.
-use Rattle.records.specs.Laws.Seek.{base_zero, base_pointer, base_size}
+use Rattle.records.proofs.Laws.Seek.{base_zero, base_pointer, base_size}
 use Rattle.lent.proofs.base_of.Goals as goal
 
 pub returns-then-method-eq0 : goal.returns-then-method-eq0

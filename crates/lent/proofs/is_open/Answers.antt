@@ -1,7 +1,7 @@
 -- What a place is decides whether the search ends there.
 use Rattle.std.proofs.Common.{arith, eq-eqb}
 use borrow.Author.Tests.{ne_eqb}
-use Rattle.records.specs.Laws.Turns.{miss, open_hit, open_done}
+use Rattle.records.proofs.Laws.Turns.{miss, open_hit, open_done}
 use Rattle.records.specs.Row.{names_in}
 use Rattle.lent.proofs.is_open.Goals as goal
 use Rattle.lent.proofs.is_open.Goals.{else-row-place-via-then-row-place+else-row-place-2, else-row-place-via-else-row-place}

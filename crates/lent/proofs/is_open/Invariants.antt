@@ -1,7 +1,7 @@
 -- The search from this place on answers what the search through all does.
 use Rattle.std.proofs.Common.{length, ◌-◌, ◌≤◌}
 use Rattle.records.specs.Row.{names_in}
-use Rattle.records.specs.Laws.Turns.{Left}
+use Rattle.records.proofs.Laws.Turns.{Left}
 use Rattle.lent.proofs.is_open.Given as goal
 
 abbrev pub invariant-loop-place : goal.invariant-loop-place

@@ -1,6 +1,6 @@
 -- What a place is decides whether the search ends there.
 use Rattle.std.proofs.Common.{arith}
-use Rattle.records.specs.Laws.Turns.{miss, unused_hit, unused_done}
+use Rattle.records.proofs.Laws.Turns.{miss, unused_hit, unused_done}
 use Rattle.records.specs.Row.{unused_in}
 use Rattle.lent.proofs.lowest_unused.Goals as goal
 

@@ -1,5 +1,5 @@
 -- A method above 2, a sum beyond the ends, or the pointer that the sum is.
-use Rattle.records.specs.Laws.Seek.{sought_method, sought_beyond, sought_well}
+use Rattle.records.proofs.Laws.Seek.{sought_method, sought_beyond, sought_well}
 use Rattle.lent.proofs.sought.Goals as goal
 
 pub returns-then-method-gt2 : goal.returns-then-method-gt2

@@ -1,5 +1,5 @@
 -- Each way out is one case of the definition.
-use Rattle.records.specs.Laws.Bytes.{bytes_past, bytes_freed, bytes_taken, bytes_written}
+use Rattle.records.proofs.Laws.Bytes.{bytes_past, bytes_freed, bytes_taken, bytes_written}
 use Rattle.lent.proofs.to_bytes.Goals as goal
 
 pub returns-then-held-2 : goal.returns-then-held-2

@@ -1,6 +1,6 @@
 -- Lines put one after the other are the whole.
 use Rattle.lines.specs.Lines.{counts_text}
-use Rattle.text.specs.Laws.Puts.{puts_then}
+use Rattle.text.proofs.Laws.Puts.{puts_then}
 use Rattle.std.proofs.Common.{rules}
 use Rattle.lines.proofs.put_counts.Goals as goal
 

@@ -1,5 +1,5 @@
 -- A key, a value and an end are a line.
-use Rattle.lines.specs.Laws.Lines.{puts_line}
+use Rattle.lines.proofs.Laws.Lines.{puts_line}
 use Rattle.std.proofs.Common.{rules}
 use Rattle.lines.proofs.put_date_line.Goals as goal
 

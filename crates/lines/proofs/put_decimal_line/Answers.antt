@@ -1,6 +1,6 @@
 -- A key, a value and an end are a line.
 use Rattle.std.proofs.Common.{rules}
-use Rattle.lines.specs.Laws.Lines.{puts_line}
+use Rattle.lines.proofs.Laws.Lines.{puts_line}
 use Rattle.lines.proofs.put_decimal_line.Goals as goal
 
 pub returns : goal.returns

@@ -1,5 +1,5 @@
 use Rattle.std.proofs.Common.{rules}
-use Rattle.links.specs.Laws.Turns.{reaches_long, linked_turn, first_all, first_set, first_kept, added_none, added_end}
+use Rattle.links.proofs.Laws.Turns.{reaches_long, linked_turn, first_all, first_set, first_kept, added_none, added_end}
 use Rattle.links.proofs.add_clusters.Goals as goal
 use Rattle.links.proofs.add_clusters.Goals.{then-first-eq0, else-first-eq0}
 

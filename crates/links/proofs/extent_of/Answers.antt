@@ -1,5 +1,5 @@
 use Rattle.std.proofs.Common.{rules}
-use Rattle.links.specs.Laws.Extent.{extent_all, extent_low, extent_high, extent_turn, extent_done}
+use Rattle.links.proofs.Laws.Extent.{extent_all, extent_low, extent_high, extent_turn, extent_done}
 use Rattle.links.proofs.extent_of.Goals as goal
 
 pub loop-clusters-init : goal.loop-clusters-init

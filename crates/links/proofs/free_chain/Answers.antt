@@ -1,5 +1,5 @@
 use Rattle.std.proofs.Common.{rules}
-use Rattle.links.specs.Laws.Turns.{reaches_long, freed_all, freed_low, freed_high, freed_turn, freed_end}
+use Rattle.links.proofs.Laws.Turns.{reaches_long, freed_all, freed_low, freed_high, freed_turn, freed_end}
 use Rattle.links.proofs.free_chain.Goals as goal
 
 pub loop-done-init : goal.loop-done-init

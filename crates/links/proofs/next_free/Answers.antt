@@ -1,5 +1,5 @@
 use Rattle.std.proofs.Common.{rules}
-use Rattle.links.specs.Laws.Turns.{next_hit, next_miss, next_end}
+use Rattle.links.proofs.Laws.Turns.{next_hit, next_miss, next_end}
 use Rattle.links.proofs.next_free.Goals as goal
 
 pub returns-then-entry-eq0 : goal.returns-then-entry-eq0

@@ -1,5 +1,5 @@
 -- The table has an entry of each cluster, and 0 elsewhere.
-use Rattle.links.specs.Laws.Turns.{value_low, value_high, value_inside}
+use Rattle.links.proofs.Laws.Turns.{value_low, value_high, value_inside}
 use Rattle.links.proofs.value_of.Goals as goal
 
 pub returns-then-cluster-lt2 : goal.returns-then-cluster-lt2

@@ -1,5 +1,5 @@
 -- By the kind that was found and by what check answered.
-use Rattle.listing.specs.Laws.Listing.{area_found, puts_listing, puts_finding, puts_no_kind}
+use Rattle.listing.proofs.Laws.Listing.{area_found, puts_listing, puts_finding, puts_no_kind}
 use Rattle.listing.proofs.list.Goals as goal
 
 pub put_volume-requires-clause-area_of : goal.put_volume-requires-clause-area_of

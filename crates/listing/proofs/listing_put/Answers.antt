@@ -1,5 +1,5 @@
 -- With room in the buffer the listing is put there; else nothing is.
-use Rattle.listing.specs.Laws.Listing.{lists, lists_nothing}
+use Rattle.listing.proofs.Laws.Listing.{lists, lists_nothing}
 use Rattle.listing.proofs.listing_put.Goals as goal
 
 pub returns-then-out-lt16384 : goal.returns-then-out-lt16384

@@ -1,5 +1,5 @@
 -- The lines are those of the fields that were read.
-use Rattle.listing.specs.Laws.Files.{puts_entry}
+use Rattle.listing.proofs.Laws.Files.{puts_entry}
 use Rattle.listing.proofs.put_entry.Goals as goal
 
 pub returns : goal.returns

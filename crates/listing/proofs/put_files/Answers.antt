@@ -1,5 +1,5 @@
 use Rattle.std.proofs.Common.{rules}
-use Rattle.listing.specs.Laws.Files.{all_bytes, all_end, files_bytes, files_end, puts_files}
+use Rattle.listing.proofs.Laws.Files.{all_bytes, all_end, files_bytes, files_end, puts_files}
 use Rattle.listing.proofs.put_files.Goals as goal
 
 pub loop-slot-init : goal.loop-slot-init

@@ -1,5 +1,5 @@
 -- A plain file's lines, or none.
-use Rattle.listing.specs.Laws.Files.{puts_slot, puts_no_file}
+use Rattle.listing.proofs.Laws.Files.{puts_slot, puts_no_file}
 use Rattle.listing.proofs.put_slot.Goals as goal
 
 pub returns-then-plain_at : goal.returns-then-plain_at

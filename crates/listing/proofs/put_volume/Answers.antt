@@ -1,5 +1,5 @@
 -- The head's lines and the files' are the volume's, and the four kinds' slots leave them room.
-use Rattle.listing.specs.Laws.Listing.{kind_usable, root_within, files_fit, puts_sound}
+use Rattle.listing.proofs.Laws.Listing.{kind_usable, root_within, files_fit, puts_sound}
 use Rattle.listing.proofs.put_volume.Goals as goal
 
 pub root_at-root-requires : goal.root_at-root-requires

@@ -1,5 +1,5 @@
 -- A word that is no date, or none of 16 bits, is refused.
-use Rattle.member.specs.Laws.Answers.{date_told_lem, no_date, date_too_large}
+use Rattle.member.proofs.Laws.Answers.{date_told_lem, no_date, date_too_large}
 use Rattle.member.proofs.member_date.Goals as goal
 
 pub returns-then-word-gt65535 : goal.returns-then-word-gt65535

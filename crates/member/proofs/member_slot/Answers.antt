@@ -1,5 +1,5 @@
 -- Each way out is one case of the definition; the slots of an image of a kind lie within it.
-use Rattle.member.specs.Laws.Answers.{not_of_a_kind, kind_usable, no_such_slot, slot_within, slot_told_lem}
+use Rattle.member.proofs.Laws.Answers.{not_of_a_kind, kind_usable, no_such_slot, slot_within, slot_told_lem}
 use Rattle.std.proofs.Common.{rules}
 use Rattle.member.proofs.member_slot.Goals as goal
 

@@ -1,5 +1,5 @@
 -- A word that is no time, or none of 16 bits, is refused.
-use Rattle.member.specs.Laws.Answers.{time_told_lem, no_time, time_too_large}
+use Rattle.member.proofs.Laws.Answers.{time_told_lem, no_time, time_too_large}
 use Rattle.member.proofs.member_time.Goals as goal
 
 pub returns-then-word-gt65535 : goal.returns-then-word-gt65535

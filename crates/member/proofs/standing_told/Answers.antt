@@ -1,5 +1,5 @@
 -- Each case of the definition.
-use Rattle.member.specs.Laws.Answers.{told_never_used, told_erased, told_directory, told_file, told_long_name, told_label}
+use Rattle.member.proofs.Laws.Answers.{told_never_used, told_erased, told_directory, told_file, told_long_name, told_label}
 use Rattle.member.proofs.standing_told.Goals as goal
 
 pub returns-in-NeverUsed : goal.returns-in-NeverUsed

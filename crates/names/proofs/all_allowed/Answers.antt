@@ -1,5 +1,5 @@
 use Rattle.std.proofs.Common.{rules}
-use Rattle.names.specs.Laws.Code.{all_turn, all_found, all_done}
+use Rattle.names.proofs.Laws.Code.{all_turn, all_found, all_done}
 use Rattle.names.proofs.all_allowed.Goals as goal
 
 pub returns-then-not-is_allowed : goal.returns-then-not-is_allowed

@@ -1,5 +1,5 @@
 use Rattle.std.proofs.Common.{rules}
-use Rattle.names.specs.Laws.Code.{before_turn, before_found, before_done}
+use Rattle.names.proofs.Laws.Code.{before_turn, before_found, before_done}
 use Rattle.names.proofs.dot_at.Goals as goal
 
 pub returns-then-s-i-eq46 : goal.returns-then-s-i-eq46

@@ -1,6 +1,6 @@
 use Rattle.std.proofs.Common.{rules}
 use lib.ListN.{length-set}
-use Rattle.names.specs.Laws.Code.{done_none, done_turn, done_all}
+use Rattle.names.proofs.Laws.Code.{done_none, done_turn, done_all}
 use Rattle.names.proofs.eleven_bytes.Goals as goal
 
 pub loop-i-init : goal.loop-i-init

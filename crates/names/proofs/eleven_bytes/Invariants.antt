@@ -3,7 +3,7 @@ use Rattle.std.proofs.Common.{◌-◌, ◌≤◌}
 use Rattle.std.proofs.Common.{◌≡◌}
 use lib.ListN.{length}
 use Rattle.names.specs.Aids.Bytes.{name_byte}
-use Rattle.names.specs.Laws.Code.{Done}
+use Rattle.names.proofs.Laws.Code.{Done}
 use Rattle.names.proofs.eleven_bytes.Given as goal
 
 abbrev pub invariant-loop-i : goal.invariant-loop-i

@@ -1,5 +1,5 @@
 -- A small letter, or what is plain.
-use Rattle.names.specs.Laws.Code.{allowed_small, allowed_plain}
+use Rattle.names.proofs.Laws.Code.{allowed_small, allowed_plain}
 use Rattle.names.proofs.is_allowed.Goals as goal
 
 pub returns-then-is_small : goal.returns-then-is_small

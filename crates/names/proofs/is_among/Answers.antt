@@ -1,5 +1,5 @@
 use Rattle.std.proofs.Common.{rules}
-use Rattle.names.specs.Laws.Code.{among_turn, among_found, among_done}
+use Rattle.names.proofs.Laws.Code.{among_turn, among_found, among_done}
 use Rattle.names.proofs.is_among.Goals as goal
 
 pub returns-then-c-s : goal.returns-then-c-s

@@ -1,5 +1,5 @@
 -- The tests come in the definition's order.
-use Rattle.names.specs.Laws.Code.{plain_large, plain_digit, plain_sign}
+use Rattle.names.proofs.Laws.Code.{plain_large, plain_digit, plain_sign}
 use Rattle.names.proofs.is_plain.Goals as goal
 
 pub returns-then-is_within : goal.returns-then-is_within

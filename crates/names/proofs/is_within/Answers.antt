@@ -1,5 +1,5 @@
 -- Each test is the definition's.
-use Rattle.names.specs.Laws.Code.{within_below, within_from}
+use Rattle.names.proofs.Laws.Code.{within_below, within_from}
 use Rattle.names.proofs.is_within.Goals as goal
 
 pub returns-then-c-low : goal.returns-then-c-low

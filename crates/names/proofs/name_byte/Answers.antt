@@ -1,5 +1,5 @@
 -- Bytes 0-7 are the base's, 8-10 the extension's.
-use Rattle.names.specs.Laws.Code.{byte_of_base, byte_of_ext}
+use Rattle.names.proofs.Laws.Code.{byte_of_base, byte_of_ext}
 use Rattle.names.proofs.name_byte.Goals as goal
 
 pub returns-then-i-lt8 : goal.returns-then-i-lt8

@@ -1,5 +1,5 @@
 -- What is cut at the first dot is what the definition takes.
-use Rattle.names.specs.Laws.Code.{length_front, given_dot, given_plain}
+use Rattle.names.proofs.Laws.Code.{length_front, given_dot, given_plain}
 use Rattle.names.proofs.name_given.Goals as goal
 
 pub slice_bounds-in_parts-end : goal.slice_bounds-in_parts-end

@@ -1,5 +1,5 @@
 -- Inside the part its byte in capitals, past it a space.
-use Rattle.names.specs.Laws.Code.{filled_letter, filled_past}
+use Rattle.names.proofs.Laws.Code.{filled_letter, filled_past}
 use Rattle.names.proofs.padded_byte.Goals as goal
 
 pub returns-then-i-s : goal.returns-then-i-s

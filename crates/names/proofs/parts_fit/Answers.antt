@@ -1,5 +1,5 @@
 -- The tests come in the definition's order.
-use Rattle.names.specs.Laws.Code.{fitting_none, fitting_long, fitting_longer, fitting_strange, fitting_rest}
+use Rattle.names.proofs.Laws.Code.{fitting_none, fitting_long, fitting_longer, fitting_strange, fitting_rest}
 use Rattle.names.proofs.parts_fit.Goals as goal
 
 pub returns-then-base-lt1 : goal.returns-then-base-lt1

@@ -1,7 +1,7 @@
 -- A small letter is above 32.
 use Rattle.std.proofs.Common.{arith}
 use Rattle.std.proofs.Common.{◌≤◌}
-use Rattle.names.specs.Laws.Code.{small_from, capital_small, capital_other}
+use Rattle.names.proofs.Laws.Code.{small_from, capital_small, capital_other}
 use Rattle.names.proofs.to_capital.Goals as goal
 
 pub overflow_sub-result : goal.overflow_sub-result

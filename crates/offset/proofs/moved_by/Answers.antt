@@ -4,7 +4,7 @@ use mir.Syntax.{w32, w64}
 use mir.Val.{SFits}
 use mir.Facts.{sfits_widen, to_z-of_z, to_z_pos}
 use Rattle.offset.specs.Offset.{moved_by}
-use Rattle.offset.specs.Laws.Offset.{sum_fits, below_zero, above_top, inside}
+use Rattle.offset.proofs.Laws.Offset.{sum_fits, below_zero, above_top, inside}
 use Rattle.offset.proofs.moved_by.Goals as goal
 
 -- the sum as the code makes it

@@ -1,7 +1,7 @@
 use Rattle.std.proofs.Common.{rules}
-use Rattle.search.specs.Laws.Turns.{lowest_miss}
+use Rattle.search.proofs.Laws.Turns.{lowest_miss}
 use Rattle.opened.specs.Places.{is_open}
-use Rattle.opened.specs.Laws.Code.{search_all, found_hit, found_end}
+use Rattle.opened.proofs.Laws.Code.{search_all, found_hit, found_end}
 use Rattle.opened.proofs.is_open.Goals as goal
 
 pub loop-place-init : goal.loop-place-init

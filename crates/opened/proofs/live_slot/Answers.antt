@@ -1,5 +1,5 @@
 -- Each way out is one test that failed, or all that passed.
-use Rattle.opened.specs.Laws.Code.{not_counted, not_used, not_accessed, not_within, not_plain, live}
+use Rattle.opened.proofs.Laws.Code.{not_counted, not_used, not_accessed, not_within, not_plain, live}
 use Rattle.std.proofs.Common.{arith}
 use Rattle.std.proofs.Common.{◌<◌}
 use Rattle.opened.proofs.live_slot.Goals as goal

@@ -1,7 +1,7 @@
 use Rattle.std.proofs.Common.{rules}
-use Rattle.search.specs.Laws.Turns.{lowest_done}
+use Rattle.search.proofs.Laws.Turns.{lowest_done}
 use Rattle.opened.specs.Places.{lowest_unused}
-use Rattle.opened.specs.Laws.Code.{search_all, unused_hit, unused_miss}
+use Rattle.opened.proofs.Laws.Code.{search_all, unused_hit, unused_miss}
 use Rattle.opened.proofs.lowest_unused.Goals as goal
 
 pub loop-lowest-init : goal.loop-lowest-init

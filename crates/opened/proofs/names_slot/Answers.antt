@@ -1,5 +1,5 @@
 -- A used place is compared by its slot; an unused one names none.
-use Rattle.opened.specs.Laws.Code.{names_used, names_unused}
+use Rattle.opened.proofs.Laws.Code.{names_used, names_unused}
 use Rattle.opened.proofs.names_slot.Goals as goal
 
 pub returns-then-used_at : goal.returns-then-used_at

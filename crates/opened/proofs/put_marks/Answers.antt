@@ -1,7 +1,7 @@
 -- Four bytes set one after the other are one run.
 use Rattle.std.proofs.Common.{arith}
 use lib.ListN.{length-set}
-use Rattle.opened.specs.Laws.Stores.{marks_stored}
+use Rattle.opened.proofs.Laws.Stores.{marks_stored}
 use Rattle.std.proofs.Common.{rules}
 use Rattle.opened.proofs.put_marks.Goals as goal
 

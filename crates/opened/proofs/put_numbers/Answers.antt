@@ -1,5 +1,5 @@
 -- Slot, pointer and zeros side by side are the last twelve bytes.
-use Rattle.opened.specs.Laws.Stores.{numbers_stored}
+use Rattle.opened.proofs.Laws.Stores.{numbers_stored}
 use Rattle.std.proofs.Common.{rules}
 use Rattle.opened.proofs.put_numbers.Goals as goal
 

@@ -1,5 +1,5 @@
 -- Marks and numbers side by side are the whole record.
-use Rattle.opened.specs.Laws.Stores.{record_stored}
+use Rattle.opened.proofs.Laws.Stores.{record_stored}
 use Rattle.std.proofs.Common.{rules}
 use Rattle.opened.proofs.put_record.Goals as goal
 

@@ -1,5 +1,5 @@
 -- `?`, or the byte itself.
-use Rattle.patterns.specs.Laws.Matches.{byte_any, byte_itself}
+use Rattle.patterns.proofs.Laws.Matches.{byte_any, byte_itself}
 use Rattle.patterns.proofs.byte_matches.Goals as goal
 
 pub returns-then-p-eq63 : goal.returns-then-p-eq63

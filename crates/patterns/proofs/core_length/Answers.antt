@@ -1,6 +1,6 @@
 -- A part that ends in `*` has a character to take away.
-use Rattle.patterns.specs.Laws.Parts.{core_starred, core_whole}
-use Rattle.patterns.specs.Laws.Code.{starred_some}
+use Rattle.patterns.proofs.Laws.Parts.{core_starred, core_whole}
+use Rattle.patterns.proofs.Laws.Code.{starred_some}
 use Rattle.patterns.proofs.core_length.Goals as goal
 
 pub overflow_sub-result : goal.overflow_sub-result

@@ -1,7 +1,7 @@
 use Rattle.std.proofs.Common.{rules}
 use lib.ListN.{length-set}
-use Rattle.names.specs.Laws.Code.{done_none, done_turn}
-use Rattle.patterns.specs.Laws.Code.{done_wild}
+use Rattle.names.proofs.Laws.Code.{done_none, done_turn}
+use Rattle.patterns.proofs.Laws.Code.{done_wild}
 use Rattle.patterns.proofs.eleven_wild.Goals as goal
 
 pub loop-i-init : goal.loop-i-init

@@ -2,7 +2,7 @@
 use Rattle.std.proofs.Common.{◌-◌, ◌≤◌}
 use Rattle.std.proofs.Common.{◌≡◌}
 use lib.ListN.{length}
-use Rattle.names.specs.Laws.Code.{Done}
+use Rattle.names.proofs.Laws.Code.{Done}
 use Rattle.patterns.specs.Aids.Bytes.{pattern_byte}
 use Rattle.patterns.proofs.eleven_wild.Given as goal
 

@@ -1,5 +1,5 @@
 -- The pattern is made only of parts that fit.
-use Rattle.names.specs.Laws.Code.{parts_refused, parts_kept, parts_named}
+use Rattle.names.proofs.Laws.Code.{parts_refused, parts_kept, parts_named}
 use Rattle.patterns.proofs.in_parts.Goals as goal
 
 pub returns-then-not-parts_fit : goal.returns-then-not-parts_fit

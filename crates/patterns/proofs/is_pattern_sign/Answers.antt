@@ -1,5 +1,5 @@
 -- A character of a name, or `?`.
-use Rattle.patterns.specs.Laws.Code.{sign_allowed, sign_any}
+use Rattle.patterns.proofs.Laws.Code.{sign_allowed, sign_any}
 use Rattle.patterns.proofs.is_pattern_sign.Goals as goal
 
 pub returns-then-is_allowed : goal.returns-then-is_allowed

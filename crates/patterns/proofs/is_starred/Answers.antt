@@ -1,5 +1,5 @@
 -- An empty part has no last character.
-use Rattle.patterns.specs.Laws.Code.{starred_none}
+use Rattle.patterns.proofs.Laws.Code.{starred_none}
 use Rattle.patterns.proofs.is_starred.Goals as goal
 
 pub returns-then-n-lt1 : goal.returns-then-n-lt1

@@ -1,5 +1,5 @@
 use Rattle.std.proofs.Common.{rules}
-use Rattle.patterns.specs.Laws.Matches.{matches_all, matches_differs, matches_more, matches_end}
+use Rattle.patterns.proofs.Laws.Matches.{matches_all, matches_differs, matches_more, matches_end}
 use Rattle.patterns.proofs.matches_at.Goals as goal
 
 pub loop-i-init : goal.loop-i-init

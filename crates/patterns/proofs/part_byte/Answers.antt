@@ -1,5 +1,5 @@
 -- Inside the core its byte in capitals, past it `?` or a space.
-use Rattle.patterns.specs.Laws.Code.{core_inside, wild_letter, wild_any, wild_space}
+use Rattle.patterns.proofs.Laws.Code.{core_inside, wild_letter, wild_any, wild_space}
 use Rattle.patterns.proofs.part_byte.Goals as goal
 
 pub bounds-t-i : goal.bounds-t-i

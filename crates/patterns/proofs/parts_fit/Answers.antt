@@ -1,6 +1,6 @@
 -- The tests come in the definition's order.
-use Rattle.names.specs.Laws.Code.{fitting_none, fitting_long, fitting_longer, fitting_strange, fitting_rest}
-use Rattle.patterns.specs.Laws.Code.{length_taken, part_signs}
+use Rattle.names.proofs.Laws.Code.{fitting_none, fitting_long, fitting_longer, fitting_strange, fitting_rest}
+use Rattle.patterns.proofs.Laws.Code.{length_taken, part_signs}
 use Rattle.patterns.proofs.parts_fit.Goals as goal
 
 pub returns-then-base-lt1 : goal.returns-then-base-lt1

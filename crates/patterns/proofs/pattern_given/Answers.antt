@@ -1,6 +1,6 @@
 -- What is cut at the first dot is what the definition takes.
-use Rattle.names.specs.Laws.Code.{length_front}
-use Rattle.patterns.specs.Laws.Code.{given_dot, given_plain}
+use Rattle.names.proofs.Laws.Code.{length_front}
+use Rattle.patterns.proofs.Laws.Code.{given_dot, given_plain}
 use Rattle.patterns.proofs.pattern_given.Goals as goal
 
 pub slice_bounds-in_parts-end : goal.slice_bounds-in_parts-end

@@ -1,6 +1,6 @@
 -- The verdict that is told is the one that the image has.
-use Rattle.scale.specs.Laws.Calls.{check_leaves}
-use Rattle.scale.specs.Laws.Fits.{check_fits}
+use Rattle.scale.proofs.Laws.Calls.{check_leaves}
+use Rattle.scale.proofs.Laws.Fits.{check_fits}
 use Rattle.scale.proofs.bm_check.Goals as goal
 
 pub tell_verdict-requires : goal.tell_verdict-requires

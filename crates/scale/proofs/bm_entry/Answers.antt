@@ -1,5 +1,5 @@
 -- What is told is what entry answers of the slot.
-use Rattle.scale.specs.Laws.Calls.{entry_leaves}
+use Rattle.scale.proofs.Laws.Calls.{entry_leaves}
 use Rattle.scale.proofs.bm_entry.Goals as goal
 
 pub returns : goal.returns

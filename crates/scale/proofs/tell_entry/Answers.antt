@@ -1,5 +1,5 @@
 -- Each way out is one case of the rule.
-use Rattle.scale.specs.Laws.Calls.{entry_put, entry_none}
+use Rattle.scale.proofs.Laws.Calls.{entry_put, entry_none}
 use Rattle.scale.proofs.tell_entry.Goals as goal
 
 pub returns-then-e : goal.returns-then-e

@@ -1,5 +1,5 @@
 -- Each way out is one case of the rule.
-use Rattle.scale.specs.Laws.Calls.{space_put, space_refused}
+use Rattle.scale.proofs.Laws.Calls.{space_put, space_refused}
 use Rattle.scale.proofs.tell_space.Goals as goal
 
 pub returns-then-a-eq0 : goal.returns-then-a-eq0

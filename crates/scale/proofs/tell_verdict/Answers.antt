@@ -1,6 +1,6 @@
 -- Each arm is one case of the rule.
-use Rattle.scale.specs.Laws.Calls.{sound_leaves, finding_leaves}
-use Rattle.scale.specs.Laws.Fits.{number_fits, place_fits}
+use Rattle.scale.proofs.Laws.Calls.{sound_leaves, finding_leaves}
+use Rattle.scale.proofs.Laws.Fits.{number_fits, place_fits}
 use Rattle.scale.proofs.tell_verdict.Goals as goal
 
 pub overflow_cast-finding : goal.overflow_cast-finding

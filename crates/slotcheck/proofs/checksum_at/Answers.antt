@@ -1,5 +1,5 @@
 use Rattle.std.proofs.Common.{rules}
-use Rattle.slotcheck.specs.Laws.Checksums.{checksum_begin, checksum_more, checksum_end}
+use Rattle.slotcheck.proofs.Laws.Checksums.{checksum_begin, checksum_more, checksum_end}
 use Rattle.slotcheck.proofs.checksum_at.Goals as goal
 
 pub loop-i-init : goal.loop-i-init

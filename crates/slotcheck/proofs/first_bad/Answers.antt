@@ -1,5 +1,5 @@
 -- Nothing was met before the first slot.
-use Rattle.slotcheck.specs.Laws.Checksums.{none_met}
+use Rattle.slotcheck.proofs.Laws.Checksums.{none_met}
 use Rattle.std.proofs.Common.{rules}
 use Rattle.slotcheck.proofs.first_bad.Goals as goal
 

@@ -1,7 +1,7 @@
 use Rattle.std.proofs.Common.{rules}
-use Rattle.search.specs.Laws.Turns.{lowest_all, lowest_done}
+use Rattle.search.proofs.Laws.Turns.{lowest_all, lowest_done}
 use Rattle.slotcheck.specs.Aids.Slots.{any_below}
-use Rattle.slotcheck.specs.Laws.Slots.{any_more, bad_found, bad_not_here}
+use Rattle.slotcheck.proofs.Laws.Slots.{any_more, bad_found, bad_not_here}
 use Rattle.slotcheck.proofs.first_bad_by.Goals as goal
 
 pub loop-s-init : goal.loop-s-init

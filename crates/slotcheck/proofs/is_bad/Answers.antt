@@ -1,6 +1,6 @@
 -- Each of the four in turn: the first that is true decides, else the last.
-use Rattle.slotcheck.specs.Laws.Slots.{bad_after, bad_strange, bad_label, bad_name_lem}
-use Rattle.slotcheck.specs.Laws.Checksums.{told_bad, told_last}
+use Rattle.slotcheck.proofs.Laws.Slots.{bad_after, bad_strange, bad_label, bad_name_lem}
+use Rattle.slotcheck.proofs.Laws.Checksums.{told_bad, told_last}
 use Rattle.slotcheck.proofs.is_bad.Goals as goal
 
 pub returns-then-both : goal.returns-then-both

@@ -1,5 +1,5 @@
 -- Only a plain file has a name; a mark that is not set decides, and else the search below it.
-use Rattle.slotcheck.specs.Laws.Checksums.{told_other, told_new, told_met, row_within}
+use Rattle.slotcheck.proofs.Laws.Checksums.{told_other, told_new, told_met, row_within}
 use Rattle.slotcheck.proofs.is_name_twice.Goals as goal
 
 pub returns-then-not-plain_at : goal.returns-then-not-plain_at

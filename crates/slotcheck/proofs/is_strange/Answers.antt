@@ -1,5 +1,5 @@
 -- Each test in turn: the first that is true decides, else the last.
-use Rattle.slotcheck.specs.Laws.Slots.{strange_first, strange_10, strange_40, strange_80}
+use Rattle.slotcheck.proofs.Laws.Slots.{strange_first, strange_10, strange_40, strange_80}
 use Rattle.slotcheck.proofs.is_strange.Goals as goal
 
 pub returns-then-first-eq46 : goal.returns-then-first-eq46

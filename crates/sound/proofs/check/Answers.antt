@@ -1,5 +1,5 @@
 -- What is judged of the kind that was found is the answer.
-use Rattle.sound.specs.Laws.Checks.{image_kind, image_area, image_judged, image_no_kind}
+use Rattle.sound.proofs.Laws.Checks.{image_kind, image_area, image_judged, image_no_kind}
 use Rattle.sound.proofs.check.Goals as goal
 
 pub judge-requires-clause-usable : goal.judge-requires-clause-usable

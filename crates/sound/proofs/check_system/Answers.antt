@@ -1,5 +1,5 @@
 -- What is judged of the kind that was found is the answer.
-use Rattle.sound.specs.Laws.Checks.{area_kind, area_reached, area_judged, area_no_kind}
+use Rattle.sound.proofs.Laws.Checks.{area_kind, area_reached, area_judged, area_no_kind}
 use Rattle.sound.proofs.check_system.Goals as goal
 
 pub judge-requires-clause-usable : goal.judge-requires-clause-usable

@@ -1,5 +1,5 @@
 -- Each search decides one finding, in the order of the definition.
-use Rattle.sound.specs.Laws.Judged.{judged_tables, judged_values, judged_slots, judged_chains}
+use Rattle.sound.proofs.Laws.Judged.{judged_tables, judged_values, judged_slots, judged_chains}
 use Rattle.sound.proofs.judge.Goals as goal
 
 pub returns-in-At : goal.returns-in-At

@@ -1,7 +1,7 @@
 -- The visit of all files decides finding 5, and its marks the rest.
 use Rattle.std.proofs.Common.{arith}
-use Rattle.walks.specs.Laws.Tails.{tails_begin}
-use Rattle.sound.specs.Laws.Judged.{visited_bad, visited_good}
+use Rattle.walks.proofs.Laws.Tails.{tails_begin}
+use Rattle.sound.proofs.Laws.Judged.{visited_bad, visited_good}
 use Rattle.std.proofs.Common.{rules}
 use Rattle.sound.proofs.judge_chains.Goals as goal
 

@@ -1,5 +1,5 @@
 -- Each search decides one finding.
-use Rattle.sound.specs.Laws.Judged.{marks_two, marks_lost, marks_fine}
+use Rattle.sound.proofs.Laws.Judged.{marks_two, marks_lost, marks_fine}
 use Rattle.sound.proofs.judge_marks.Goals as goal
 
 pub returns-in-At : goal.returns-in-At

@@ -1,6 +1,6 @@
 -- Each test that fails puts one number out of its range; the last test decides.
 use Rattle.std.proofs.Common.{arith}
-use Rattle.stamps.specs.Laws.Ranges.{date_out, date_last}
+use Rattle.stamps.proofs.Laws.Ranges.{date_out, date_last}
 use Rattle.stamps.proofs.date_fits.Goals as goal
 
 pub returns-then-year-gt119 : goal.returns-then-year-gt119

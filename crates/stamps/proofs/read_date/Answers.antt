@@ -1,4 +1,4 @@
-use Rattle.stamps.specs.Laws.Stamps.{read_date_is, read_no_date}
+use Rattle.stamps.proofs.Laws.Stamps.{read_date_is, read_no_date}
 use Rattle.stamps.proofs.read_date.Goals as goal
 
 pub returns-then-date_fits : goal.returns-then-date_fits

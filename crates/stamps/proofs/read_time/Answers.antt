@@ -1,4 +1,4 @@
-use Rattle.stamps.specs.Laws.Stamps.{read_time_is, read_no_time}
+use Rattle.stamps.proofs.Laws.Stamps.{read_time_is, read_no_time}
 use Rattle.stamps.proofs.read_time.Goals as goal
 
 pub returns-then-time_fits : goal.returns-then-time_fits

@@ -1,6 +1,6 @@
 -- Each test that fails puts one number out of its range; the last test decides.
 use Rattle.std.proofs.Common.{arith}
-use Rattle.stamps.specs.Laws.Ranges.{time_out, time_last}
+use Rattle.stamps.proofs.Laws.Ranges.{time_out, time_last}
 use Rattle.stamps.proofs.time_fits.Goals as goal
 
 pub returns-then-hour-gt23 : goal.returns-then-hour-gt23

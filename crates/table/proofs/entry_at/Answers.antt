@@ -1,5 +1,5 @@
 -- As the first or the second of its triple, by its number, the entry is the one of its word.
-use Rattle.table.specs.Laws.Triples.{read_even, read_odd}
+use Rattle.table.proofs.Laws.Triples.{read_even, read_odd}
 use Rattle.table.proofs.entry_at.Goals as goal
 
 pub returns-then-n-eq0 : goal.returns-then-n-eq0

@@ -1,5 +1,5 @@
 -- As the first or the second of its triple, by its number, the entry is stored as in its word.
-use Rattle.table.specs.Laws.Triples.{set_even, set_odd}
+use Rattle.table.proofs.Laws.Triples.{set_even, set_odd}
 use Rattle.table.proofs.set_at.Goals as goal
 
 pub returns-then-n-eq0 : goal.returns-then-n-eq0

@@ -1,5 +1,5 @@
 -- The two bytes stored are those of the word with v put in.
-use Rattle.table.specs.Laws.Triples.{put_second}
+use Rattle.table.proofs.Laws.Triples.{put_second}
 use Rattle.std.proofs.Common.{arith}
 use lib.ListN.{length-set}
 use Rattle.std.proofs.Common.{rules}

@@ -1,5 +1,5 @@
 -- The meaning of the value says which count goes up.
-use Rattle.tablecheck.specs.Laws.Tables.{met_on, met_none}
+use Rattle.tablecheck.proofs.Laws.Tables.{met_on, met_none}
 use Rattle.std.proofs.Common.{rules}
 use Rattle.tablecheck.proofs.counted.Goals as goal
 

@@ -1,5 +1,5 @@
 -- One cluster after the other.
-use Rattle.tablecheck.specs.Laws.Tables.{counted_values, counted_none, two_on}
+use Rattle.tablecheck.proofs.Laws.Tables.{counted_values, counted_none, two_on}
 use Rattle.std.proofs.Common.{arith}
 use Rattle.tablecheck.proofs.counted_two.Goals as goal
 

@@ -1,5 +1,5 @@
 -- Each way out is one case of the test.
-use Rattle.tablecheck.specs.Laws.Tables.{bytes_differ, mark_one, mark_two, no_difference}
+use Rattle.tablecheck.proofs.Laws.Tables.{bytes_differ, mark_one, mark_two, no_difference}
 use Rattle.tablecheck.proofs.differs.Goals as goal
 
 pub returns-then-byte-img : goal.returns-then-byte-img

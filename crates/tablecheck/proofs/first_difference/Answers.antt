@@ -1,6 +1,6 @@
 use Rattle.std.proofs.Common.{rules}
-use Rattle.search.specs.Laws.Turns.{lowest_all}
-use Rattle.tablecheck.specs.Laws.Tables.{in_copy_one, in_copy_two, difference_hit, difference_miss, difference_end}
+use Rattle.search.proofs.Laws.Turns.{lowest_all}
+use Rattle.tablecheck.proofs.Laws.Tables.{in_copy_one, in_copy_two, difference_hit, difference_miss, difference_end}
 use Rattle.tablecheck.proofs.first_difference.Goals as goal
 
 pub loop-j-init : goal.loop-j-init

@@ -1,7 +1,7 @@
 use Rattle.std.proofs.Common.{rules}
-use Rattle.search.specs.Laws.Flags.{none_from, none_told}
-use Rattle.search.specs.Laws.Turns.{lowest_all}
-use Rattle.tablecheck.specs.Laws.Tables.{same_lost, same_on}
+use Rattle.search.proofs.Laws.Flags.{none_from, none_told}
+use Rattle.search.proofs.Laws.Turns.{lowest_all}
+use Rattle.tablecheck.proofs.Laws.Tables.{same_lost, same_on}
 use Rattle.tablecheck.proofs.same_bytes.Goals as goal
 use Rattle.tablecheck.proofs.same_bytes.Goals.{then-img-j, else-img-j}
 

@@ -1,5 +1,5 @@
 -- Each way out is far enough.
-use Rattle.tablecheck.specs.Laws.Tables.{search_short, search_three, search_all}
+use Rattle.tablecheck.proofs.Laws.Tables.{search_short, search_three, search_all}
 use Rattle.tablecheck.proofs.search_end.Goals as goal
 
 pub returns-then-size-lt3 : goal.returns-then-size-lt3

@@ -1,6 +1,6 @@
 use Rattle.std.proofs.Common.{arith}
 use Rattle.std.proofs.Common.{rules}
-use Rattle.tablecheck.specs.Laws.Tables.{met_start, met_all, counted_values, counted_none, counted_last}
+use Rattle.tablecheck.proofs.Laws.Tables.{met_start, met_all, counted_values, counted_none, counted_last}
 use Rattle.tablecheck.proofs.take_census.Goals as goal
 
 pub loop-c-init : goal.loop-c-init

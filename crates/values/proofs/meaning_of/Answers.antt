@@ -1,5 +1,5 @@
 -- Each test passed or failed picks its case.
-use Rattle.values.specs.Laws.Values.{means_free, means_one, means_next, means_end, means_bad, means_reserved, means_between}
+use Rattle.values.proofs.Laws.Values.{means_free, means_one, means_next, means_end, means_bad, means_reserved, means_between}
 use Rattle.values.proofs.meaning_of.Goals as goal
 
 pub returns-then-v-eq0 : goal.returns-then-v-eq0

@@ -1,6 +1,6 @@
 -- The root of a ready volume stands within its image.
-use Rattle.calls.specs.Laws.Ready.{on_usable}
-use Rattle.calls.specs.Laws.Files.{root_within, named_in_root}
+use Rattle.calls.proofs.Laws.Ready.{on_usable}
+use Rattle.calls.proofs.Laws.Files.{root_within, named_in_root}
 use Rattle.calls.proofs.files.file_named.Goals as goal
 
 pub root_at-requires : goal.root_at-requires

@@ -1,5 +1,5 @@
 use Rattle.std.proofs.Common.{rules}
-use Rattle.chaincheck.specs.Laws.FileTurns.{files_begin, files_done, files_bad, files_skip, files_add, held_fits}
+use Rattle.chaincheck.proofs.Laws.FileTurns.{files_begin, files_done, files_bad, files_skip, files_add, held_fits}
 use Rattle.chaincheck.proofs.files.visit_files.Goals as goal
 use Rattle.chaincheck.proofs.files.visit_files.Goals.{in-NoFile, in-Clusters}
 

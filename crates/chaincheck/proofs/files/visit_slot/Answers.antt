@@ -1,5 +1,5 @@
 -- The number of clusters met is held against the size.
-use Rattle.chaincheck.specs.Laws.SlotTurns.{slot_no_file, chain_few, slot_clusters, slot_other, slot_endless}
+use Rattle.chaincheck.proofs.Laws.SlotTurns.{slot_no_file, chain_few, slot_clusters, slot_other, slot_endless}
 use Rattle.chaincheck.proofs.files.visit_slot.Goals as goal
 
 pub returns-then-not-plain_at : goal.returns-then-not-plain_at

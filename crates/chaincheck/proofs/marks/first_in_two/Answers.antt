@@ -1,8 +1,8 @@
 use Rattle.std.proofs.Common.{rules}
-use Rattle.chains.specs.Laws.ClusterLoops.{lowest_start}
-use Rattle.search.specs.Laws.Turns.{lowest_done}
-use Rattle.search.specs.Laws.Flags.{none_found}
-use Rattle.chaincheck.specs.Laws.MarkTurns.{two_hit, two_miss}
+use Rattle.chains.proofs.Laws.ClusterLoops.{lowest_start}
+use Rattle.search.proofs.Laws.Turns.{lowest_done}
+use Rattle.search.proofs.Laws.Flags.{none_found}
+use Rattle.chaincheck.proofs.Laws.MarkTurns.{two_hit, two_miss}
 use Rattle.chaincheck.proofs.marks.first_in_two.Goals as goal
 
 pub returns-then-none_in_two : goal.returns-then-none_in_two

@@ -1,6 +1,6 @@
 use Rattle.std.proofs.Common.{rules}
-use Rattle.chains.specs.Laws.ClusterLoops.{lowest_start}
-use Rattle.search.specs.Laws.Turns.{lowest_hit, lowest_miss, lowest_done}
+use Rattle.chains.proofs.Laws.ClusterLoops.{lowest_start}
+use Rattle.search.proofs.Laws.Turns.{lowest_hit, lowest_miss, lowest_done}
 use Rattle.chaincheck.proofs.marks.first_lost.Goals as goal
 
 pub loop-c-init : goal.loop-c-init

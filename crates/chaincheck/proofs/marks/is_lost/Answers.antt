@@ -1,5 +1,5 @@
 -- The mark and the meaning of the value decide.
-use Rattle.chaincheck.specs.Laws.MarkTurns.{met_before, lost_by}
+use Rattle.chaincheck.proofs.Laws.MarkTurns.{met_before, lost_by}
 use Rattle.std.proofs.Common.{rules}
 use Rattle.chaincheck.proofs.marks.is_lost.Goals as goal
 

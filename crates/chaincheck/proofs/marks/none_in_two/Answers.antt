@@ -1,7 +1,7 @@
 use Rattle.std.proofs.Common.{rules}
-use Rattle.chains.specs.Laws.ClusterLoops.{lowest_start}
-use Rattle.search.specs.Laws.Flags.{none_from, none_told}
-use Rattle.chaincheck.specs.Laws.MarkTurns.{none_two_hit, none_two_miss}
+use Rattle.chains.proofs.Laws.ClusterLoops.{lowest_start}
+use Rattle.search.proofs.Laws.Flags.{none_from, none_told}
+use Rattle.chaincheck.proofs.Laws.MarkTurns.{none_two_hit, none_two_miss}
 use Rattle.chaincheck.proofs.marks.none_in_two.Goals as goal
 use Rattle.chaincheck.proofs.marks.none_in_two.Goals.{then-marks-c-eq2, else-marks-c-eq2}
 

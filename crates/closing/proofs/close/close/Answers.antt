@@ -1,6 +1,6 @@
 -- A volume that is not ready is refused by the first two rows; else the rest is left to the call on the volume.
-use Rattle.calls.specs.Laws.Ready.{ready_on, not_ready}
-use Rattle.closing.specs.Laws.Close.{close_refused}
+use Rattle.calls.proofs.Laws.Ready.{ready_on, not_ready}
+use Rattle.closing.proofs.Laws.Close.{close_refused}
 use Rattle.closing.proofs.close.close.Goals as goal
 
 pub close_on-requires : goal.close_on-requires

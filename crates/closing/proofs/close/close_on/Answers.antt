@@ -1,8 +1,8 @@
 -- Each way out is one row that holds after those that don't.
-use Rattle.calls.specs.Laws.Ready.{on_usable}
-use Rattle.calls.specs.Laws.Stamps.{stamped}
-use Rattle.calls.specs.Laws.Files.{reached, live_counted, live_at_most, live_within}
-use Rattle.closing.specs.Laws.Close.{close_refused, close_well}
+use Rattle.calls.proofs.Laws.Ready.{on_usable}
+use Rattle.calls.proofs.Laws.Stamps.{stamped}
+use Rattle.calls.proofs.Laws.Files.{reached, live_counted, live_at_most, live_within}
+use Rattle.closing.proofs.Laws.Close.{close_refused, close_well}
 use Rattle.closing.proofs.close.close_on.Goals as goal
 
 pub slot_at-requires-clause-usable : goal.slot_at-requires-clause-usable

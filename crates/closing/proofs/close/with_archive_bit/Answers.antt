@@ -1,5 +1,5 @@
 -- An attribute without bit 20 has room for it.
-use Rattle.closing.specs.Laws.Close.{archived_before, archived_now, archived_fits}
+use Rattle.closing.proofs.Laws.Close.{archived_before, archived_now, archived_fits}
 use Rattle.std.proofs.Common.{rules}
 use Rattle.closing.proofs.close.with_archive_bit.Goals as goal
 

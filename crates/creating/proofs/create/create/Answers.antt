@@ -1,6 +1,6 @@
 -- A volume that is not ready is refused by the first two rows; else the rest is left to the call on the volume.
-use Rattle.calls.specs.Laws.Ready.{ready_on, not_ready}
-use Rattle.creating.specs.Laws.Create.{create_refused}
+use Rattle.calls.proofs.Laws.Ready.{ready_on, not_ready}
+use Rattle.creating.proofs.Laws.Create.{create_refused}
 use Rattle.creating.proofs.create.create.Goals as goal
 
 pub create_on-requires : goal.create_on-requires

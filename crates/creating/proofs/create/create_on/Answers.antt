@@ -1,10 +1,10 @@
 -- Each way out is one row that holds after those that don't, or the last rows of a new file or of an existing one.
-use Rattle.calls.specs.Laws.Attribute.{attr_fits}
-use Rattle.holding.specs.Laws.Found.{named_file}
-use Rattle.calls.specs.Laws.Rows.{tests}
-use Rattle.calls.specs.Laws.Stamps.{stamped}
-use Rattle.calls.specs.Laws.Named.{named, file_named}
-use Rattle.creating.specs.Laws.Create.{create_refused, create_new, create_old}
+use Rattle.calls.proofs.Laws.Attribute.{attr_fits}
+use Rattle.holding.proofs.Laws.Found.{named_file}
+use Rattle.calls.proofs.Laws.Rows.{tests}
+use Rattle.calls.proofs.Laws.Stamps.{stamped}
+use Rattle.calls.proofs.Laws.Named.{named, file_named}
+use Rattle.creating.proofs.Laws.Create.{create_refused, create_new, create_old}
 use Rattle.std.proofs.Common.{rules}
 use Rattle.creating.proofs.create.create_on.Goals as goal
 

@@ -1,10 +1,10 @@
 -- Each way out is one row that holds after those that don't.
-use Rattle.calls.specs.Laws.Ready.{on_usable}
-use Rattle.calls.specs.Laws.Files.{unused_below, unused_fits, place_stops}
-use Rattle.calls.specs.Laws.Rows.{tests}
-use Rattle.holding.specs.Laws.Chain.{file_below, slot_fits, file_at}
-use Rattle.freeing.specs.Laws.Freed.{freed_within}
-use Rattle.creating.specs.Laws.Create.{old_refused, empty_well}
+use Rattle.calls.proofs.Laws.Ready.{on_usable}
+use Rattle.calls.proofs.Laws.Files.{unused_below, unused_fits, place_stops}
+use Rattle.calls.proofs.Laws.Rows.{tests}
+use Rattle.holding.proofs.Laws.Chain.{file_below, slot_fits, file_at}
+use Rattle.freeing.proofs.Laws.Freed.{freed_within}
+use Rattle.creating.proofs.Laws.Create.{old_refused, empty_well}
 use Rattle.std.proofs.Common.{rules}
 use Rattle.creating.proofs.create.empty_old.Goals as goal
 

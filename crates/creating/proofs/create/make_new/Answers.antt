@@ -1,7 +1,7 @@
 -- Each way out is one row that holds after those that don't.
-use Rattle.calls.specs.Laws.Ready.{on_usable}
-use Rattle.calls.specs.Laws.Files.{unused_below, unused_fits, place_stops}
-use Rattle.creating.specs.Laws.Create.{open_at_most, open_fits, open_within, slot_stops, slot_past, new_refused, new_well}
+use Rattle.calls.proofs.Laws.Ready.{on_usable}
+use Rattle.calls.proofs.Laws.Files.{unused_below, unused_fits, place_stops}
+use Rattle.creating.proofs.Laws.Create.{open_at_most, open_fits, open_within, slot_stops, slot_past, new_refused, new_well}
 use Rattle.std.proofs.Common.{rules}
 use Rattle.creating.proofs.create.make_new.Goals as goal
 

@@ -1,6 +1,6 @@
 -- Each way out is one row that holds after those that don't.
-use Rattle.calls.specs.Laws.Rows.{tests}
-use Rattle.deleting.specs.Laws.Delete.{last_refused, delete_well}
+use Rattle.calls.proofs.Laws.Rows.{tests}
+use Rattle.deleting.proofs.Laws.Delete.{last_refused, delete_well}
 use Rattle.deleting.proofs.delete.delete_in.Goals as goal
 
 pub returns-then-is_open : goal.returns-then-is_open

@@ -1,7 +1,7 @@
 -- Each way out is one row that holds after those that don't, or the last two rows.
-use Rattle.holding.specs.Laws.Found.{named_file}
-use Rattle.calls.specs.Laws.Named.{named, file_named}
-use Rattle.deleting.specs.Laws.Delete.{delete_refused, delete_rest}
+use Rattle.holding.proofs.Laws.Found.{named_file}
+use Rattle.calls.proofs.Laws.Named.{named, file_named}
+use Rattle.deleting.proofs.Laws.Delete.{delete_refused, delete_rest}
 use Rattle.deleting.proofs.delete.delete_on.Goals as goal
 
 pub returns-then-not-given : goal.returns-then-not-given

@@ -1,7 +1,7 @@
 -- Freeing keeps the length, so the slot still stands within the image.
-use Rattle.calls.specs.Laws.Ready.{on_usable}
-use Rattle.holding.specs.Laws.Chain.{file_below, file_at}
-use Rattle.freeing.specs.Laws.Freed.{freed_within}
+use Rattle.calls.proofs.Laws.Ready.{on_usable}
+use Rattle.holding.proofs.Laws.Chain.{file_below, file_at}
+use Rattle.freeing.proofs.Laws.Freed.{freed_within}
 use Rattle.std.proofs.Common.{rules}
 use Rattle.deleting.proofs.delete.erase_in.Goals as goal
 

@@ -1,5 +1,5 @@
 -- Each way out is one case of the rule; the slots of an image of a kind lie within it.
-use Rattle.entries.specs.Laws.Entry.{kind_usable, not_of_a_kind, out_of_range_lem, slot_within, in_range}
+use Rattle.entries.proofs.Laws.Entry.{kind_usable, not_of_a_kind, out_of_range_lem, slot_within, in_range}
 use Rattle.std.proofs.Common.{rules}
 use Rattle.entries.proofs.entry.entry.Goals as goal
 

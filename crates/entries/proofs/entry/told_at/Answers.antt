@@ -1,5 +1,5 @@
 -- The test of what was read decides.
-use Rattle.entries.specs.Laws.Entry.{told, untold}
+use Rattle.entries.proofs.Laws.Entry.{told, untold}
 use Rattle.entries.proofs.entry.told_at.Goals as goal
 
 pub returns-then-is_told : goal.returns-then-is_told

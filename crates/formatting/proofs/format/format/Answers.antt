@@ -1,8 +1,8 @@
 -- Each way out is one case of the rule.
 use Rattle.std.proofs.Common.{arith}
 use Rattle.diskette.specs.Aids.Usable.{Usable}
-use Rattle.diskette.specs.Laws.Kinds.{named_usable}
-use Rattle.formatting.specs.Laws.Format.{no_such_kind, wrong_length, made_blank}
+use Rattle.diskette.proofs.Laws.Kinds.{named_usable}
+use Rattle.formatting.proofs.Laws.Format.{no_such_kind, wrong_length, made_blank}
 use Rattle.std.proofs.Common.{rules}
 use Rattle.formatting.proofs.format.format.Goals as goal
 

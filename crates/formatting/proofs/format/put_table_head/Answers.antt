@@ -1,7 +1,7 @@
 -- Three bytes stored one by one are the run of three.
 use Rattle.std.proofs.Common.{arith}
 use lib.ListN.{length-set}
-use Rattle.formatting.specs.Laws.Format.{head_stored}
+use Rattle.formatting.proofs.Laws.Format.{head_stored}
 use Rattle.formatting.proofs.format.put_table_head.Goals as goal
 
 pub bounds-img-at-2 : goal.bounds-img-at-2

@@ -1,7 +1,7 @@
 -- A chain has no more clusters than there are.
-use Rattle.calls.specs.Laws.Ready.{on_usable}
-use Rattle.holding.specs.Laws.Clusters.{copies_reach, last_small}
-use Rattle.freeing.specs.Laws.Freed.{freed_is}
+use Rattle.calls.proofs.Laws.Ready.{on_usable}
+use Rattle.holding.proofs.Laws.Clusters.{copies_reach, last_small}
+use Rattle.freeing.proofs.Laws.Freed.{freed_is}
 use Rattle.std.proofs.Common.{rules}
 use Rattle.freeing.proofs.freed.free_file.Goals as goal
 

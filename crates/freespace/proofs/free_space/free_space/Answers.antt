@@ -1,5 +1,5 @@
 -- Each way out is one row of the rule; the count is the one that check answered.
-use Rattle.freespace.specs.Laws.FreeSpace.{kind_usable, not_of_a_kind, with_finding, with_counts}
+use Rattle.freespace.proofs.Laws.FreeSpace.{kind_usable, not_of_a_kind, with_finding, with_counts}
 use Rattle.freespace.proofs.free_space.free_space.Goals as goal
 
 pub space_with-requires : goal.space_with-requires

@@ -1,10 +1,10 @@
 -- Each way out is one row that holds after those that don't.
-use Rattle.calls.specs.Laws.Ready.{on_usable}
-use Rattle.calls.specs.Laws.Files.{named_at_most, named_within}
-use Rattle.calls.specs.Laws.Rows.{bounds}
-use Rattle.calls.specs.Laws.Named.{named, file_named, file_slot_lem}
-use Rattle.marking.specs.Laws.Mode.{attr_stops, attr_past, open_stops, mode_refused, mode_read, mode_set}
-use Rattle.calls.specs.Laws.Attribute.{attr_fits}
+use Rattle.calls.proofs.Laws.Ready.{on_usable}
+use Rattle.calls.proofs.Laws.Files.{named_at_most, named_within}
+use Rattle.calls.proofs.Laws.Rows.{bounds}
+use Rattle.calls.proofs.Laws.Named.{named, file_named, file_slot_lem}
+use Rattle.marking.proofs.Laws.Mode.{attr_stops, attr_past, open_stops, mode_refused, mode_read, mode_set}
+use Rattle.calls.proofs.Laws.Attribute.{attr_fits}
 use Rattle.std.proofs.Common.{rules}
 use Rattle.marking.proofs.mode.mode_on.Goals as goal
 

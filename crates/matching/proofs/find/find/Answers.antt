@@ -1,6 +1,6 @@
 -- A volume that is not ready is refused by the first two rows; else the rest is left to the call on the volume.
-use Rattle.calls.specs.Laws.Ready.{ready_on, not_ready}
-use Rattle.matching.specs.Laws.Find.{find_refused}
+use Rattle.calls.proofs.Laws.Ready.{ready_on, not_ready}
+use Rattle.matching.proofs.Laws.Find.{find_refused}
 use Rattle.matching.proofs.find.find.Goals as goal
 
 pub find_on-requires : goal.find_on-requires

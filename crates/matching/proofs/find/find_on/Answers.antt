@@ -1,5 +1,5 @@
 -- Each way out is one row that holds after those that don't.
-use Rattle.matching.specs.Laws.Find.{find_refused, find_well, match_fits, rows}
+use Rattle.matching.proofs.Laws.Find.{find_refused, find_well, match_fits, rows}
 use Rattle.std.proofs.Common.{rules}
 use Rattle.matching.proofs.find.find_on.Goals as goal
 

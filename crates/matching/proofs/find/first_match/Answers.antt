@@ -1,6 +1,6 @@
 use Rattle.std.proofs.Common.{arith}
-use Rattle.calls.specs.Laws.Ready.{on_usable}
-use Rattle.matching.specs.Laws.Find.{match_none, match_here, match_later, slot_inside}
+use Rattle.calls.proofs.Laws.Ready.{on_usable}
+use Rattle.matching.proofs.Laws.Find.{match_none, match_here, match_later, slot_inside}
 use Rattle.matching.proofs.find.first_match.Goals as goal
 
 pub root_entries-count-requires : goal.root_entries-count-requires

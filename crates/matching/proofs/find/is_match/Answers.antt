@@ -1,5 +1,5 @@
 -- The tests come in the definition's order.
-use Rattle.matching.specs.Laws.Find.{match_not_plain, match_not_shown, match_rest}
+use Rattle.matching.proofs.Laws.Find.{match_not_plain, match_not_shown, match_rest}
 use Rattle.matching.proofs.find.is_match.Goals as goal
 
 pub returns-then-not-plain_at : goal.returns-then-not-plain_at

@@ -1,4 +1,4 @@
-use Rattle.member.specs.Laws.Clusters.{comes_below, comes_above, comes_here, comes_on, comes_spent}
+use Rattle.member.proofs.Laws.Clusters.{comes_below, comes_above, comes_here, comes_on, comes_spent}
 use Rattle.std.proofs.Common.{rules}
 use Rattle.member.proofs.clusters.comes_to.Goals as goal
 

@@ -1,5 +1,5 @@
 -- What was found, as a number.
-use Rattle.member.specs.Laws.Clusters.{holder_fits, holder_found, holder_none}
+use Rattle.member.proofs.Laws.Clusters.{holder_fits, holder_found, holder_none}
 use Rattle.std.proofs.Common.{rules}
 use Rattle.member.proofs.clusters.holder_told.Goals as goal
 

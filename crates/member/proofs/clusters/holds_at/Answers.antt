@@ -1,5 +1,5 @@
 -- A file's chain decides; nothing else holds a cluster.
-use Rattle.member.specs.Laws.Clusters.{holds_file_lem, holds_nothing}
+use Rattle.member.proofs.Laws.Clusters.{holds_file_lem, holds_nothing}
 use Rattle.member.proofs.clusters.holds_at.Goals as goal
 
 pub returns-then-plain_at : goal.returns-then-plain_at

@@ -1,4 +1,4 @@
-use Rattle.search.specs.Laws.Turns.{lowest_hit, lowest_miss, lowest_done}
+use Rattle.search.proofs.Laws.Turns.{lowest_hit, lowest_miss, lowest_done}
 use Rattle.std.proofs.Common.{rules}
 use Rattle.member.proofs.clusters.lowest_holder.Goals as goal
 

@@ -1,6 +1,6 @@
 -- By the kind that was found.
-use Rattle.member.specs.Laws.Answers.{kind_usable}
-use Rattle.member.specs.Laws.Clusters.{area_there, cluster_known, cluster_unknown}
+use Rattle.member.proofs.Laws.Answers.{kind_usable}
+use Rattle.member.proofs.Laws.Clusters.{area_there, cluster_known, cluster_unknown}
 use Rattle.member.proofs.clusters.member_cluster.Goals as goal
 
 pub value_told-requires-clause-usable : goal.value_told-requires-clause-usable

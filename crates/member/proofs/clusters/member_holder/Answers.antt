@@ -1,6 +1,6 @@
 -- By the kind that was found.
-use Rattle.member.specs.Laws.Answers.{kind_usable}
-use Rattle.member.specs.Laws.Clusters.{area_there, holder_known, holder_unknown}
+use Rattle.member.proofs.Laws.Answers.{kind_usable}
+use Rattle.member.proofs.Laws.Clusters.{area_there, holder_known, holder_unknown}
 use Rattle.member.proofs.clusters.member_holder.Goals as goal
 
 pub holder_told-requires-clause-usable : goal.holder_told-requires-clause-usable

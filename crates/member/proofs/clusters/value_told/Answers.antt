@@ -1,5 +1,5 @@
 -- By the cluster's number, and then by its value.
-use Rattle.member.specs.Laws.Clusters.{cluster_below, cluster_above, cluster_told_lem}
+use Rattle.member.proofs.Laws.Clusters.{cluster_below, cluster_above, cluster_told_lem}
 use Rattle.member.proofs.clusters.value_told.Goals as goal
 
 pub returns-then-c-lt2 : goal.returns-then-c-lt2

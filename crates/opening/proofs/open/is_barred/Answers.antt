@@ -1,5 +1,5 @@
 -- Access 0 is never barred, another by the read-only bit.
-use Rattle.opening.specs.Laws.Open.{barred_by, not_barred}
+use Rattle.opening.proofs.Laws.Open.{barred_by, not_barred}
 use Rattle.opening.proofs.open.is_barred.Goals as goal
 
 pub returns-then-access-gt0 : goal.returns-then-access-gt0

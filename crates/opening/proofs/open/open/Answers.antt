@@ -1,6 +1,6 @@
 -- A volume that is not ready is refused by the first two rows; else the rest is left to the call on the volume.
-use Rattle.calls.specs.Laws.Ready.{ready_on, not_ready}
-use Rattle.opening.specs.Laws.Open.{open_refused}
+use Rattle.calls.proofs.Laws.Ready.{ready_on, not_ready}
+use Rattle.opening.proofs.Laws.Open.{open_refused}
 use Rattle.opening.proofs.open.open.Goals as goal
 
 pub open_on-requires : goal.open_on-requires

@@ -1,8 +1,8 @@
 -- Each way out is one row that holds after those that don't.
-use Rattle.opening.specs.Laws.Open.{open_refused, open_well, barred_stops, barred_past}
-use Rattle.calls.specs.Laws.Named.{named, file_named, file_slot_lem}
-use Rattle.calls.specs.Laws.Files.{named_below, named_fits, unused_below, unused_fits, place_stops}
-use Rattle.calls.specs.Laws.Rows.{bounds}
+use Rattle.opening.proofs.Laws.Open.{open_refused, open_well, barred_stops, barred_past}
+use Rattle.calls.proofs.Laws.Named.{named, file_named, file_slot_lem}
+use Rattle.calls.proofs.Laws.Files.{named_below, named_fits, unused_below, unused_fits, place_stops}
+use Rattle.calls.proofs.Laws.Rows.{bounds}
 use Rattle.std.proofs.Common.{rules}
 use Rattle.opening.proofs.open.open_on.Goals as goal
 

@@ -1,7 +1,7 @@
 -- The last cluster is one of the volume, or 0 where there is none.
-use Rattle.calls.specs.Laws.Ready.{on_usable}
-use Rattle.holding.specs.Laws.Clusters.{last_small, copies_reach}
-use Rattle.putting.specs.Laws.LongerCode.{end_small, added_is}
+use Rattle.calls.proofs.Laws.Ready.{on_usable}
+use Rattle.holding.proofs.Laws.Clusters.{last_small, copies_reach}
+use Rattle.putting.proofs.Laws.LongerCode.{end_small, added_is}
 use Rattle.putting.proofs.longer.add_behind.Goals as goal
 
 pub copy_two-requires : goal.copy_two-requires

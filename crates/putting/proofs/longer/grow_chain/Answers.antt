@@ -1,6 +1,6 @@
 -- The new clusters come behind the file's own.
-use Rattle.calls.specs.Laws.Ready.{on_usable}
-use Rattle.putting.specs.Laws.LongerCode.{end_goes_on, grown_is}
+use Rattle.calls.proofs.Laws.Ready.{on_usable}
+use Rattle.putting.proofs.Laws.LongerCode.{end_goes_on, grown_is}
 use Rattle.putting.proofs.longer.grow_chain.Goals as goal
 
 pub needed_for-requires : goal.needed_for-requires

@@ -1,5 +1,5 @@
 -- The entry stands behind the tables.
-use Rattle.putting.specs.Laws.LongerCode.{start_fits, grown_within, lengthened_is}
+use Rattle.putting.proofs.Laws.LongerCode.{start_fits, grown_within, lengthened_is}
 use Rattle.putting.proofs.longer.lengthen.Goals as goal
 
 pub put_fields-requires-clause-a_in_bounds : goal.put_fields-requires-clause-a_in_bounds

@@ -1,5 +1,5 @@
 -- By the two cases of the test.
-use Rattle.putting.specs.Laws.LongerCode.{starts_new, starts_old}
+use Rattle.putting.proofs.Laws.LongerCode.{starts_new, starts_old}
 use Rattle.putting.proofs.longer.start_then.Goals as goal
 
 pub returns-then-own-eq0 : goal.returns-then-own-eq0

@@ -1,5 +1,5 @@
 -- No zeros are put where the pointer is not past the size.
-use Rattle.putting.specs.Laws.Put.{put_area, gap_none, gap_fits, zeros_put_lem}
+use Rattle.putting.proofs.Laws.Put.{put_area, gap_none, gap_fits, zeros_put_lem}
 use Rattle.putting.proofs.put.fill_gap.Goals as goal
 
 pub returns-then-pointer-size : goal.returns-then-pointer-size

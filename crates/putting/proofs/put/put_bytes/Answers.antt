@@ -1,5 +1,5 @@
 -- The chain has room for the bytes.
-use Rattle.putting.specs.Laws.Put.{put_area, put_fits, bytes_put_lem}
+use Rattle.putting.proofs.Laws.Put.{put_area, put_fits, bytes_put_lem}
 use Rattle.putting.proofs.put.put_bytes.Goals as goal
 
 pub pour-requires-clause-area : goal.pour-requires-clause-area

@@ -1,5 +1,5 @@
 -- The first n bytes are the part from 0 to n.
-use Rattle.putting.specs.Laws.Put.{first_put}
+use Rattle.putting.proofs.Laws.Put.{first_put}
 use Rattle.putting.proofs.put.put_first.Goals as goal
 
 pub returns : goal.returns

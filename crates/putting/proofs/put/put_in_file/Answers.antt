@@ -1,6 +1,6 @@
 -- The longer chain holds every byte up to the new size.
-use Rattle.calls.specs.Laws.Ready.{on_usable}
-use Rattle.putting.specs.Laws.Put.{count_fits, reach_fits, can_grow, has_room, written_is}
+use Rattle.calls.proofs.Laws.Ready.{on_usable}
+use Rattle.putting.proofs.Laws.Put.{count_fits, reach_fits, can_grow, has_room, written_is}
 use Rattle.std.proofs.Common.{rules}
 use Rattle.putting.proofs.put.put_in_file.Goals as goal
 

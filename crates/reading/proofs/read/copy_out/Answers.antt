@@ -1,8 +1,8 @@
 -- The chain of a file of a sound volume has room for its size, and what is fetched along it is the file's.
-use Rattle.calls.specs.Laws.Ready.{on_usable}
-use Rattle.calls.specs.Laws.Files.{slot_within}
-use Rattle.holding.specs.Laws.Clusters.{base_fits, kind_area}
-use Rattle.reading.specs.Laws.Read.{copy_room, copied_is, copied_none}
+use Rattle.calls.proofs.Laws.Ready.{on_usable}
+use Rattle.calls.proofs.Laws.Files.{slot_within}
+use Rattle.holding.proofs.Laws.Clusters.{base_fits, kind_area}
+use Rattle.reading.proofs.Laws.Read.{copy_room, copied_is, copied_none}
 use Rattle.std.proofs.Common.{arith}
 use Rattle.std.proofs.Common.{rules}
 use Rattle.reading.proofs.read.copy_out.Goals as goal

@@ -1,6 +1,6 @@
 -- A volume that is not ready is refused by the first two rows; else the rest is left to the call on the volume.
-use Rattle.calls.specs.Laws.Ready.{ready_on, not_ready}
-use Rattle.reading.specs.Laws.Read.{read_refused}
+use Rattle.calls.proofs.Laws.Ready.{ready_on, not_ready}
+use Rattle.reading.proofs.Laws.Read.{read_refused}
 use Rattle.reading.proofs.read.read.Goals as goal
 
 pub read_on-requires : goal.read_on-requires

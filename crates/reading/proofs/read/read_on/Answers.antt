@@ -1,8 +1,8 @@
 -- Each way out is one row that holds after those that don't.
-use Rattle.calls.specs.Laws.Ready.{on_usable}
-use Rattle.calls.specs.Laws.Files.{reached, live_counted, live_at_most, live_within}
-use Rattle.holding.specs.Laws.Found.{live_file}
-use Rattle.reading.specs.Laws.Read.{count_roomy, count_short, read_stops, read_refused, read_well}
+use Rattle.calls.proofs.Laws.Ready.{on_usable}
+use Rattle.calls.proofs.Laws.Files.{reached, live_counted, live_at_most, live_within}
+use Rattle.holding.proofs.Laws.Found.{live_file}
+use Rattle.reading.proofs.Laws.Read.{count_roomy, count_short, read_stops, read_refused, read_well}
 use Rattle.reading.proofs.read.read_on.Goals as goal
 
 ruleset rows = (reached, read_stops)

@@ -1,5 +1,5 @@
 -- The search says whether there is such a file.
-use Rattle.renaming.specs.Laws.Rename.{is_taken, not_taken}
+use Rattle.renaming.proofs.Laws.Rename.{is_taken, not_taken}
 use Rattle.renaming.proofs.rename.is_taken.Goals as goal
 
 pub returns-in-At : goal.returns-in-At

@@ -1,7 +1,7 @@
 -- A slot of a ready volume stands within its image.
 use Rattle.std.proofs.Common.{arith}
-use Rattle.calls.specs.Laws.Ready.{on_usable}
-use Rattle.calls.specs.Laws.Files.{slot_within}
+use Rattle.calls.proofs.Laws.Ready.{on_usable}
+use Rattle.calls.proofs.Laws.Files.{slot_within}
 use Rattle.renaming.proofs.rename.put_name_in.Goals as goal
 
 pub slot_at-requires-clause-usable : goal.slot_at-requires-clause-usable

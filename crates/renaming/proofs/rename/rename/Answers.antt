@@ -1,6 +1,6 @@
 -- A volume that is not ready is refused by the first two rows; else the rest is left to the call on the volume.
-use Rattle.calls.specs.Laws.Ready.{ready_on, not_ready}
-use Rattle.renaming.specs.Laws.Rename.{rename_refused}
+use Rattle.calls.proofs.Laws.Ready.{ready_on, not_ready}
+use Rattle.renaming.proofs.Laws.Rename.{rename_refused}
 use Rattle.renaming.proofs.rename.rename.Goals as goal
 
 pub rename_on-requires : goal.rename_on-requires

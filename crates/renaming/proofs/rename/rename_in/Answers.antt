@@ -1,6 +1,6 @@
 -- Each way out is one row that holds after those that don't.
-use Rattle.calls.specs.Laws.Rows.{tests}
-use Rattle.renaming.specs.Laws.Rename.{last_refused, rename_well}
+use Rattle.calls.proofs.Laws.Rows.{tests}
+use Rattle.renaming.proofs.Laws.Rename.{last_refused, rename_well}
 use Rattle.renaming.proofs.rename.rename_in.Goals as goal
 
 pub returns-then-is_open : goal.returns-then-is_open

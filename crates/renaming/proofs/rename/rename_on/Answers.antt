@@ -1,7 +1,7 @@
 -- Each way out is one row that holds after those that don't, or the last three rows.
-use Rattle.calls.specs.Laws.Files.{named_below}
-use Rattle.calls.specs.Laws.Named.{named, file_named}
-use Rattle.renaming.specs.Laws.Rename.{rename_refused, rename_rest}
+use Rattle.calls.proofs.Laws.Files.{named_below}
+use Rattle.calls.proofs.Laws.Named.{named, file_named}
+use Rattle.renaming.proofs.Laws.Rename.{rename_refused, rename_rest}
 use Rattle.renaming.proofs.rename.rename_on.Goals as goal
 
 pub returns-then-not-given : goal.returns-then-not-given

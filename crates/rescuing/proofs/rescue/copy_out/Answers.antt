@@ -1,7 +1,7 @@
 -- A chain that is as finding 5 asks has room for the size, and what is fetched along it is the file's.
 use Rattle.std.proofs.Common.{arith}
-use Rattle.holding.specs.Laws.Kinds.{usable, slot_inside, area_inside, base_fits}
-use Rattle.rescuing.specs.Laws.Chain.{copy_room, copied_is}
+use Rattle.holding.proofs.Laws.Kinds.{usable, slot_inside, area_inside, base_fits}
+use Rattle.rescuing.proofs.Laws.Chain.{copy_room, copied_is}
 use Rattle.std.proofs.Common.{rules}
 use Rattle.rescuing.proofs.rescue.copy_out.Goals as goal
 

@@ -1,7 +1,7 @@
 -- Without a start there is no cluster; else the chain is long enough and has an end, or not.
 use Rattle.std.proofs.Common.{arith}
-use Rattle.holding.specs.Laws.Kinds.{usable, slot_inside, last_small, table_inside}
-use Rattle.rescuing.specs.Laws.Chain.{none_good, too_short, ends_good}
+use Rattle.holding.proofs.Laws.Kinds.{usable, slot_inside, last_small, table_inside}
+use Rattle.rescuing.proofs.Laws.Chain.{none_good, too_short, ends_good}
 use Rattle.rescuing.proofs.rescue.has_good_chain.Goals as goal
 
 pub slot_at-a-requires-clause-usable : goal.slot_at-a-requires-clause-usable

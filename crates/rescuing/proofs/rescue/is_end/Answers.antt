@@ -1,5 +1,5 @@
 -- The two ends of the end values.
-use Rattle.rescuing.specs.Laws.Ends.{end_below, end_within}
+use Rattle.rescuing.proofs.Laws.Ends.{end_below, end_within}
 use Rattle.rescuing.proofs.rescue.is_end.Goals as goal
 
 pub returns-then-v-lt4088 : goal.returns-then-v-lt4088

@@ -1,6 +1,6 @@
 -- Each way out is one row that holds after those that don't.
-use Rattle.holding.specs.Laws.Kinds.{usable, root_inside}
-use Rattle.rescuing.specs.Laws.Rescue.{count_roomy, count_short, rescue_42, found_file, found_low, found_inside, rescue_2, rescue_5, good_chain_lem, rescue_well}
+use Rattle.holding.proofs.Laws.Kinds.{usable, root_inside}
+use Rattle.rescuing.proofs.Laws.Rescue.{count_roomy, count_short, rescue_42, found_file, found_low, found_inside, rescue_2, rescue_5, good_chain_lem, rescue_well}
 use Rattle.rescuing.proofs.rescue.rescue_on.Goals as goal
 
 pub returns-then-not-given : goal.returns-then-not-given

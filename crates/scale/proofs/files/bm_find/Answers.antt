@@ -1,5 +1,5 @@
 -- What find answered, handed on.
-use Rattle.scale.specs.Laws.Calls.{hands}
+use Rattle.scale.proofs.Laws.Calls.{hands}
 use Rattle.scale.proofs.files.bm_find.Goals as goal
 
 pub returns : goal.returns

@@ -1,5 +1,5 @@
 -- What read answered, handed on; the table and the buffer that it left.
-use Rattle.scale.specs.Laws.Calls.{hands}
+use Rattle.scale.proofs.Laws.Calls.{hands}
 use Rattle.scale.proofs.files.bm_read.Goals as goal
 
 pub returns : goal.returns

@@ -1,5 +1,5 @@
 -- What rename answered, handed on; the image that it left.
-use Rattle.scale.specs.Laws.Calls.{hands}
+use Rattle.scale.proofs.Laws.Calls.{hands}
 use Rattle.scale.proofs.files.bm_rename.Goals as goal
 
 pub returns : goal.returns

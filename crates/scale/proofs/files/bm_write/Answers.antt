@@ -1,5 +1,5 @@
 -- What write answered, handed on; the image and the table that it left.
-use Rattle.scale.specs.Laws.Calls.{hands}
+use Rattle.scale.proofs.Laws.Calls.{hands}
 use Rattle.scale.proofs.files.bm_write.Goals as goal
 
 pub returns : goal.returns

@@ -1,5 +1,5 @@
 -- Name, attribute and the rest stand side by side.
-use Rattle.scale.specs.Laws.Out.{fields_short, fields_stored}
+use Rattle.scale.proofs.Laws.Out.{fields_short, fields_stored}
 use Rattle.scale.proofs.put.entry_fields.Goals as goal
 
 pub returns-then-out-lt22 : goal.returns-then-out-lt22

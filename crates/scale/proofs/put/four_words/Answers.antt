@@ -1,5 +1,5 @@
 -- They are put where there is room for them.
-use Rattle.scale.specs.Laws.Out.{four_short, four_put}
+use Rattle.scale.proofs.Laws.Out.{four_short, four_put}
 use Rattle.scale.proofs.put.four_words.Goals as goal
 
 pub returns-then-out-lt16 : goal.returns-then-out-lt16

@@ -1,5 +1,5 @@
 -- The four fields stand side by side.
-use Rattle.scale.specs.Laws.Out.{tail_stored}
+use Rattle.scale.proofs.Laws.Out.{tail_stored}
 use Rattle.std.proofs.Common.{rules}
 use Rattle.scale.proofs.put.tail.Goals as goal
 

@@ -1,8 +1,8 @@
 -- One method a way out.
 use Rattle.std.proofs.Common.{arith}
-use Rattle.calls.specs.Laws.Ready.{on_usable}
-use Rattle.calls.specs.Laws.Files.{slot_within}
-use Rattle.seeking.specs.Laws.Seek.{base_zero, base_pointer, base_size}
+use Rattle.calls.proofs.Laws.Ready.{on_usable}
+use Rattle.calls.proofs.Laws.Files.{slot_within}
+use Rattle.seeking.proofs.Laws.Seek.{base_zero, base_pointer, base_size}
 use Rattle.seeking.proofs.seek.base_of.Goals as goal
 
 pub returns-then-method-eq0 : goal.returns-then-method-eq0

@@ -1,6 +1,6 @@
 -- A volume that is not ready is refused by the first two rows; else the rest is left to the call on the volume.
-use Rattle.calls.specs.Laws.Ready.{ready_on, not_ready}
-use Rattle.seeking.specs.Laws.Seek.{seek_handed, seek_refused}
+use Rattle.calls.proofs.Laws.Ready.{ready_on, not_ready}
+use Rattle.seeking.proofs.Laws.Seek.{seek_handed, seek_refused}
 use Rattle.seeking.proofs.seek.seek.Goals as goal
 
 pub seek_on-requires : goal.seek_on-requires

@@ -1,7 +1,7 @@
 -- Each way out is one row that holds after those that don't.
-use Rattle.calls.specs.Laws.Rows.{bounds}
-use Rattle.calls.specs.Laws.Files.{reached, live_slot_lem, live_below, live_counted}
-use Rattle.seeking.specs.Laws.Seek.{beyond_stops, seek_refused, seek_well}
+use Rattle.calls.proofs.Laws.Rows.{bounds}
+use Rattle.calls.proofs.Laws.Files.{reached, live_slot_lem, live_below, live_counted}
+use Rattle.seeking.proofs.Laws.Seek.{beyond_stops, seek_refused, seek_well}
 use Rattle.seeking.proofs.seek.seek_on.Goals as goal
 
 ruleset rows = (reached, bounds, beyond_stops)

@@ -1,5 +1,5 @@
 -- The record that the table of one record says after the call.
-use Rattle.single.specs.Laws.Held.{open_held}
+use Rattle.single.proofs.Laws.Held.{open_held}
 use Rattle.single.proofs.held.open.Goals as goal
 
 pub returns : goal.returns

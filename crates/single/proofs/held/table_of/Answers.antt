@@ -1,5 +1,5 @@
 -- The two marks are stored last.
-use Rattle.single.specs.Laws.Held.{table_made}
+use Rattle.single.proofs.Laws.Held.{table_made}
 use Rattle.single.proofs.held.table_of.Goals as goal
 
 pub returns : goal.returns

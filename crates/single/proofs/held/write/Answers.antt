@@ -1,5 +1,5 @@
 -- The record that the table of one record says after the call.
-use Rattle.single.specs.Laws.Held.{write_held}
+use Rattle.single.proofs.Laws.Held.{write_held}
 use Rattle.single.proofs.held.write.Goals as goal
 
 pub returns : goal.returns

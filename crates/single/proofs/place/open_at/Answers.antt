@@ -1,5 +1,5 @@
 -- The place found goes with an answer that is well, and none with a refusal.
-use Rattle.single.specs.Laws.OpenAt.{opened_well, opened_refused}
+use Rattle.single.proofs.Laws.OpenAt.{opened_well, opened_refused}
 use Rattle.single.proofs.place.open_at.Goals as goal
 
 pub returns-then-number-eq0 : goal.returns-then-number-eq0

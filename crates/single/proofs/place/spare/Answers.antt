@@ -1,5 +1,5 @@
 -- A free record or a used one.
-use Rattle.single.specs.Laws.OpenAt.{spare_free, spare_none}
+use Rattle.single.proofs.Laws.OpenAt.{spare_free, spare_none}
 use Rattle.single.proofs.place.spare.Goals as goal
 
 pub returns-in-At : goal.returns-in-At

@@ -1,5 +1,5 @@
 -- The two tests put the six numbers in their ranges, so the words are made as the definition makes them.
-use Rattle.stamps.specs.Laws.Stamps.{pack_no_time, pack_no_date, pack_time, pack_date, pack_words}
+use Rattle.stamps.proofs.Laws.Stamps.{pack_no_time, pack_no_date, pack_time, pack_date, pack_words}
 use Rattle.stamps.proofs.Stamp.pack.Goals as goal
 
 pub returns-then-not-time_fits : goal.returns-then-not-time_fits

@@ -1,5 +1,5 @@
 use Rattle.std.proofs.Common.{rules}
-use Rattle.text.specs.Laws.Digits.{width_most, width_turn, width_done}
+use Rattle.text.proofs.Laws.Digits.{width_most, width_turn, width_done}
 use Rattle.text.proofs.digits.digit_count.Goals as goal
 
 pub loop-rest-init : goal.loop-rest-init

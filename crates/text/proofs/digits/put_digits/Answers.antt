@@ -1,6 +1,6 @@
 use Rattle.std.proofs.Common.{rules}
 use lib.ListN.{length-set}
-use Rattle.text.specs.Laws.Digits.{below_base, digits_turn, puts_digits}
+use Rattle.text.proofs.Laws.Digits.{below_base, digits_turn, puts_digits}
 use Rattle.text.proofs.digits.put_digits.Goals as goal
 
 pub sign-requires : goal.sign-requires

@@ -1,5 +1,5 @@
 -- Figures are below ten, letters from ten on.
-use Rattle.text.specs.Laws.Digits.{sign_figure, sign_letter}
+use Rattle.text.proofs.Laws.Digits.{sign_figure, sign_letter}
 use Rattle.text.proofs.digits.sign.Goals as goal
 
 pub returns-then-small-lt10 : goal.returns-then-small-lt10

@@ -1,5 +1,5 @@
 use Rattle.std.proofs.Common.{rules}
-use Rattle.text.specs.Laws.Names.{blank_turn, blank_found, blank_done}
+use Rattle.text.proofs.Laws.Names.{blank_turn, blank_found, blank_done}
 use Rattle.text.proofs.name.only_spaces.Goals as goal
 
 pub returns-then-part-i-ne32 : goal.returns-then-part-i-ne32

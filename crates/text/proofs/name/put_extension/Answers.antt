@@ -1,5 +1,5 @@
 -- Nothing for a blank part, else the dot and the part.
-use Rattle.text.specs.Laws.Names.{puts_no_extension, puts_extension}
+use Rattle.text.proofs.Laws.Names.{puts_no_extension, puts_extension}
 use Rattle.std.proofs.Common.{rules}
 use Rattle.text.proofs.name.put_extension.Goals as goal
 

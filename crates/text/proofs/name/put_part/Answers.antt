@@ -1,6 +1,6 @@
 use Rattle.std.proofs.Common.{rules}
 use lib.ListN.{length-set}
-use Rattle.text.specs.Laws.Names.{part_all, part_turn, part_count, puts_stop, puts_end}
+use Rattle.text.proofs.Laws.Names.{part_all, part_turn, part_count, puts_stop, puts_end}
 use Rattle.text.proofs.name.put_part.Goals as goal
 
 pub loop-i-init : goal.loop-i-init

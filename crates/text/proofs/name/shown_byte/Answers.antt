@@ -1,5 +1,5 @@
 -- A plain byte stays, any other is a question mark.
-use Rattle.text.specs.Laws.Names.{shown_plain, shown_other}
+use Rattle.text.proofs.Laws.Names.{shown_plain, shown_other}
 use Rattle.text.proofs.name.shown_byte.Goals as goal
 
 pub returns-then-is_plain : goal.returns-then-is_plain

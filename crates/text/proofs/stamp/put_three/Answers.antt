@@ -1,6 +1,6 @@
 -- Pieces put one after the other are the whole.
 use Rattle.text.specs.Stamps.{three_text}
-use Rattle.text.specs.Laws.Puts.{puts_then}
+use Rattle.text.proofs.Laws.Puts.{puts_then}
 use Rattle.std.proofs.Common.{rules}
 use Rattle.text.proofs.stamp.put_three.Goals as goal
 

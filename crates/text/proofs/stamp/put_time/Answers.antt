@@ -1,6 +1,6 @@
 -- Three numbers, or none where the word is out of range.
 use Rattle.text.specs.Stamps.{time_shown}
-use Rattle.text.specs.Laws.Puts.{puts_shown, time_put}
+use Rattle.text.proofs.Laws.Puts.{puts_shown, time_put}
 use Rattle.std.proofs.Common.{rules}
 use Rattle.text.proofs.stamp.put_time.Goals as goal
 

@@ -1,9 +1,9 @@
 -- The chain of a file of a sound volume has room for its size, so each of its bytes lies in the image.
 use Rattle.std.proofs.Common.{arith}
-use Rattle.calls.specs.Laws.Ready.{on_usable}
-use Rattle.calls.specs.Laws.Files.{slot_within}
-use Rattle.holding.specs.Laws.Clusters.{base_fits, kind_area, cluster_wide}
-use Rattle.viewing.specs.Laws.View.{see_none, see_room, see_some}
+use Rattle.calls.proofs.Laws.Ready.{on_usable}
+use Rattle.calls.proofs.Laws.Files.{slot_within}
+use Rattle.holding.proofs.Laws.Clusters.{base_fits, kind_area, cluster_wide}
+use Rattle.viewing.proofs.Laws.View.{see_none, see_room, see_some}
 use Rattle.std.proofs.Common.{rules}
 use Rattle.viewing.proofs.view.see_file.Goals as goal
 

@@ -1,7 +1,7 @@
 -- Each way out is one row that holds after those that don't.
-use Rattle.holding.specs.Laws.Found.{named_file}
-use Rattle.calls.specs.Laws.Named.{named, file_named}
-use Rattle.viewing.specs.Laws.View.{see_refused, see_well}
+use Rattle.holding.proofs.Laws.Found.{named_file}
+use Rattle.calls.proofs.Laws.Named.{named, file_named}
+use Rattle.viewing.proofs.Laws.View.{see_refused, see_well}
 use Rattle.viewing.proofs.view.see_on.Goals as goal
 
 pub returns-then-not-given : goal.returns-then-not-given

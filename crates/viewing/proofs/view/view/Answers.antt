@@ -1,5 +1,5 @@
 -- What was seen lies in the image.
-use Rattle.viewing.specs.Laws.View.{seen_views}
+use Rattle.viewing.proofs.Laws.View.{seen_views}
 use Rattle.viewing.proofs.view.view.Goals as goal
 
 pub returns : goal.returns

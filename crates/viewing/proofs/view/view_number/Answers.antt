@@ -1,5 +1,5 @@
 -- The number of what was seen.
-use Rattle.viewing.specs.Laws.View.{seen_numbers}
+use Rattle.viewing.proofs.Laws.View.{seen_numbers}
 use Rattle.viewing.proofs.view.view_number.Goals as goal
 
 pub returns : goal.returns

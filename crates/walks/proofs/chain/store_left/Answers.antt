@@ -1,5 +1,5 @@
 use Rattle.std.proofs.Common.{rules}
-use Rattle.walks.specs.Laws.Tails.{store_from, store_to, store_at, store_inside, store_on, store_turn, store_end}
+use Rattle.walks.proofs.Laws.Tails.{store_from, store_to, store_at, store_inside, store_on, store_turn, store_end}
 use Rattle.walks.proofs.chain.store_left.Goals as goal
 
 pub offset_bounds-left-c : goal.offset_bounds-left-c

@@ -1,5 +1,5 @@
 -- Bytes make entries of 12 bits.
-use Rattle.walks.specs.Laws.Value.{value_is}
+use Rattle.walks.proofs.Laws.Value.{value_is}
 use Rattle.std.proofs.Common.{rules}
 use Rattle.walks.proofs.chain.value_of.Goals as goal
 

@@ -1,5 +1,5 @@
 -- The walk answers, and where it met clusters again the number left is stored for all it met.
-use Rattle.walks.specs.Laws.Tails.{visit_empty, visit_below, visit_above, visit_endless, walk_leads, walk_known, walk_few, visit_ends}
+use Rattle.walks.proofs.Laws.Tails.{visit_empty, visit_below, visit_above, visit_endless, walk_leads, walk_known, walk_few, visit_ends}
 use Rattle.walks.proofs.chain.visit.Goals as goal
 
 pub returns-then-start-eq0 : goal.returns-then-start-eq0

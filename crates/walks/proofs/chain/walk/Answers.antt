@@ -1,5 +1,5 @@
 use Rattle.std.proofs.Common.{rules}
-use Rattle.walks.specs.Laws.WalkTurns.{walk_begins, walk_circles, walk_joins, mark_fits, walk_ends_stored, walk_ends, walk_goes_on, walk_breaks, walk_spent}
+use Rattle.walks.proofs.Laws.WalkTurns.{walk_begins, walk_circles, walk_joins, mark_fits, walk_ends_stored, walk_ends, walk_goes_on, walk_breaks, walk_spent}
 use Rattle.walks.proofs.chain.walk.Goals as goal
 
 pub loop-met-init : goal.loop-met-init

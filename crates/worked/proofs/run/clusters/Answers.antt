@@ -1,5 +1,5 @@
 -- What a byte names is usable.
-use Rattle.diskette.specs.Laws.Kinds.{named_usable}
+use Rattle.diskette.proofs.Laws.Kinds.{named_usable}
 use Rattle.worked.proofs.run.clusters.Goals as goal
 
 pub needed_for-requires : goal.needed_for-requires

@@ -1,6 +1,6 @@
 -- What a byte names is usable, and the tests put the cluster in range.
 use Rattle.std.proofs.Common.{arith}
-use Rattle.diskette.specs.Laws.Kinds.{named_usable}
+use Rattle.diskette.proofs.Laws.Kinds.{named_usable}
 use Rattle.worked.proofs.run.sector.Goals as goal
 
 pub last_cluster-requires : goal.last_cluster-requires

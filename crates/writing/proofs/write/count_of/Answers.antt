@@ -1,5 +1,5 @@
 -- By the three ways out.
-use Rattle.writing.specs.Laws.Write.{none_left, all_taken, some_taken}
+use Rattle.writing.proofs.Laws.Write.{none_left, all_taken, some_taken}
 use Rattle.writing.proofs.write.count_of.Goals as goal
 
 pub returns-then-room-pointer : goal.returns-then-room-pointer

@@ -1,5 +1,5 @@
 -- Own and free clusters are no more than the volume has.
-use Rattle.writing.specs.Laws.Write.{clusters_fit, room_fits_word, room_by}
+use Rattle.writing.proofs.Laws.Write.{clusters_fit, room_fits_word, room_by}
 use Rattle.std.proofs.Common.{rules}
 use Rattle.writing.proofs.write.room_for.Goals as goal
 

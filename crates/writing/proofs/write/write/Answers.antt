@@ -1,6 +1,6 @@
 -- A volume that is not ready is refused by the first two rows; else the rest is left to the call on the volume.
-use Rattle.calls.specs.Laws.Ready.{ready_on, ready_free, not_ready}
-use Rattle.writing.specs.Laws.Write.{write_refused}
+use Rattle.calls.proofs.Laws.Ready.{ready_on, ready_free, not_ready}
+use Rattle.writing.proofs.Laws.Write.{write_refused}
 use Rattle.writing.proofs.write.write.Goals as goal
 
 pub write_on-requires-clause-on_volume : goal.write_on-requires-clause-on_volume

@@ -1,6 +1,6 @@
 -- What is accepted ends within the room.
-use Rattle.calls.specs.Laws.Ready.{on_usable}
-use Rattle.writing.specs.Laws.Write.{own_few, room_is, count_within, count_reaches, pointer_fits, answer_fits, write_none, write_some}
+use Rattle.calls.proofs.Laws.Ready.{on_usable}
+use Rattle.writing.proofs.Laws.Write.{own_few, room_is, count_within, count_reaches, pointer_fits, answer_fits, write_none, write_some}
 use Rattle.std.proofs.Common.{rules}
 use Rattle.writing.proofs.write.write_at.Goals as goal
 

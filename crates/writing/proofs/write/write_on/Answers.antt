@@ -1,9 +1,9 @@
 -- Each way out is one row that holds after those that don't.
-use Rattle.calls.specs.Laws.Files.{reached, live_counted}
-use Rattle.calls.specs.Laws.Ready.{on_usable}
-use Rattle.holding.specs.Laws.Chain.{file_below}
-use Rattle.holding.specs.Laws.Found.{live_file, live_file_at}
-use Rattle.writing.specs.Laws.Write.{write_stops, write_refused, write_well}
+use Rattle.calls.proofs.Laws.Files.{reached, live_counted}
+use Rattle.calls.proofs.Laws.Ready.{on_usable}
+use Rattle.holding.proofs.Laws.Chain.{file_below}
+use Rattle.holding.proofs.Laws.Found.{live_file, live_file_at}
+use Rattle.writing.proofs.Laws.Write.{write_stops, write_refused, write_well}
 use Rattle.writing.proofs.write.write_on.Goals as goal
 
 ruleset rows = (reached, write_stops)

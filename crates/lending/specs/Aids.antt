@@ -1,0 +1,2 @@
+-- Aids to the proofs. No definition rests on them.
+pub mod Fits

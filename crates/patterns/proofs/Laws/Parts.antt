@@ -1,0 +1,99 @@
+-- A part without its last `*`, and the eleven bytes of two parts.
+use Rattle.std.specs.Prelude.{ℕ, suc, ◌-◌, ◌≤◌, ◌<◌, Bool, true, false, cond, not, List, [], ◌∷◌, ◌≡◌, refl, eqb, length, get_or, take}
+use Rattle.std.proofs.Common.{arith, sym, ◌∙◌, ap, get_or-take, eqb-true, ne_eqb}
+use Rattle.names.specs.Alphabet.{plain, allowed}
+use Rattle.names.specs.Spelling.{dot, space, every, Parts, without_last}
+use Rattle.names.specs.Aids.Reading.{undotted}
+use Rattle.names.proofs.Laws.Tests.{and_left, and_right}
+use Rattle.names.proofs.Laws.Alphabet.{told, every_also}
+use Rattle.names.proofs.Laws.Parts.{length_both, both_at}
+use Rattle.patterns.specs.Patterns.{any, star, pattern_sign, pattern_part, starred, eleven_wild}
+use Rattle.patterns.specs.Aids.Bytes.{pattern_byte}
+
+-- ---- without a last `*`
+
+pub take_core : (t : List ℕ) → take (length (without_last star t)) t ≡ without_last star t
+unfolding without_last
+take_core [] = refl
+take_core (c ∷ []) = go (eqb c star)
+  where
+    go : (b : Bool) → take (length (cond b [] (c ∷ []))) (c ∷ []) ≡ cond b [] (c ∷ [])
+    go true = refl
+    go false = refl
+take_core (c ∷ (d ∷ cs)) = ap (λ (l : List ℕ). c ∷ l) (take_core (d ∷ cs))
+
+length_core : (t : List ℕ) → length (without_last star t) ≡ cond (starred t) (length t - 1) (length t)
+unfolding without_last
+length_core [] = refl
+length_core (c ∷ []) = go (eqb c star)
+  where
+    go : (b : Bool) → length (cond b [] (c ∷ [])) ≡ cond b 0 1
+    go true = refl
+    go false = refl
+length_core (c ∷ (d ∷ cs)) =
+    let k : suc (suc (length cs)) - 1 ≡ suc (length cs) = omega arith in
+    let m : suc (length cs) - 1 ≡ length cs = omega arith in
+    rw k (go (eqb (get_or (d ∷ cs) (length cs) 0) star) (rw m at (length_core (d ∷ cs))))
+  where
+    go : (b : Bool) → length (without_last star (d ∷ cs)) ≡ cond b (length cs) (suc (length cs))
+        → suc (length (without_last star (d ∷ cs))) ≡ cond b (suc (length cs)) (suc (suc (length cs)))
+    go true e = ap suc e
+    go false e = ap suc e
+
+module _ (t : List ℕ) (s : Bool) (is : s ≡ starred t) where
+  pub core_starred : s ≡ true → length t - 1 ≡ length (without_last star t)
+  core_starred e = sym (length_core t ∙ rw (sym is ∙ e))
+
+  pub core_whole : s ≡ false → length t ≡ length (without_last star t)
+  core_whole e = sym (length_core t ∙ rw (sym is ∙ e))
+
+pub core_short : (t : List ℕ) → length (without_last star t) ≤ length t
+core_short t = go (starred t) (length_core t)
+  where
+    go : (b : Bool) → length (without_last star t) ≡ cond b (length t - 1) (length t) → length (without_last star t) ≤ length t
+    go true e = omega arith
+    go false e = omega arith
+
+pub core_at : (t : List ℕ) (i : ℕ) → i < length (without_last star t) → get_or (without_last star t) i 0 ≡ get_or t i 0
+core_at t i h = ap (λ (l : List ℕ). get_or l i 0) (sym (take_core t)) ∙ get_or-take (length (without_last star t)) t i 0 h
+
+-- ---- no part of a pattern has a dot
+
+sign_no_dot : pattern_sign dot ≡ false
+unfolding pattern_sign allowed plain
+sign_no_dot = refl
+
+-- what holds of all but a last `*`, and of `*`, holds of all
+every_last : (p : ℕ → Bool) → p star ≡ true → (t : List ℕ) → every p (without_last star t) ≡ true → every p t ≡ true
+unfolding every without_last
+every_last p h [] e = refl
+every_last p h (c ∷ []) e = go (eqb c star) refl e
+  where
+    go : (b : Bool) → eqb c star ≡ b → every p (cond b [] (c ∷ [])) ≡ true → every p (c ∷ []) ≡ true
+    go true q f = rw (eqb-true c star q, h)
+    go false q f = f
+every_last p h (c ∷ (d ∷ cs)) e =
+    rw (and_left (p c) (every p (without_last star (d ∷ cs))) e)
+    (every_last p h (d ∷ cs) (and_right (p c) (every p (without_last star (d ∷ cs))) e))
+
+pub part_undotted : (t : List ℕ) → pattern_part t ≡ true → undotted t ≡ true
+unfolding pattern_part
+part_undotted t e =
+    every_last (λ (c : ℕ). not (eqb c dot)) refl t
+    (every_also pattern_sign (λ (c : ℕ). not (eqb c dot)) (λ c s. rw (ne_eqb c dot (told pattern_sign c dot s sign_no_dot))) (without_last star t) e)
+
+-- ---- the eleven bytes
+
+module _ (base ext : List ℕ) (p : Parts pattern_part base ext) where
+  eight : length (without_last star base) ≤ 8
+  eight = omega (arith, core_short base, p.eight)
+
+  pub length_wild : length (eleven_wild base ext) ≡ 11
+  unfolding eleven_wild
+  length_wild =
+      length_both (cond (starred base) any space) (cond (starred ext) any space) (without_last star base) (without_last star ext) eight
+      (omega (arith, core_short ext, p.three))
+
+  pub wild_at : (i : ℕ) → i < 11 → get_or (eleven_wild base ext) i 0 ≡ pattern_byte base ext i
+  unfolding eleven_wild
+  wild_at = both_at (cond (starred base) any space) (cond (starred ext) any space) (without_last star base) (without_last star ext) eight

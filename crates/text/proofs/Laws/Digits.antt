@@ -1,0 +1,112 @@
+-- How many digits a number has, and digits stored from the last to the first.
+use Rattle.std.specs.Prelude.{ℕ, zero, suc, ◌+◌, ◌-◌, ◌*◌, ◌/◌, ◌%◌, ◌≤◌, ◌<◌, List, [], ◌∷◌, ◌≡◌, refl, length, set}
+use Rattle.std.proofs.Common.{arith, mod-lt, inr, sym, ◌∙◌, ap, length-append, lt-ltb, le-ltb}
+use Rattle.std.proofs.Math.Decide.{dec_lt}
+use Rattle.image.specs.Store.{stored}
+use Rattle.image.proofs.Laws.Store.{stored_append, stored_swap}
+use Rattle.text.specs.Aids.Puts.{Puts, PutsIn}
+use Rattle.text.specs.Digits.{digit_sign, in_digits, width_in, width, decimal}
+
+-- ---- a sign
+
+pub sign_figure : (d : ℕ) → d < 10 → 0x30 + d ≡ digit_sign d
+unfolding digit_sign
+sign_figure d h = rw (lt-ltb d 10 h)
+
+pub sign_letter : (d : ℕ) → 10 ≤ d → 0x41 + (d - 10) ≡ digit_sign d
+unfolding digit_sign
+sign_letter d h = rw (le-ltb d 10 h)
+
+-- ---- how many digits
+
+enough : (f g n : ℕ) → n ≤ f → n ≤ g → width_in f n ≡ width_in g n
+unfolding width_in
+enough zero zero n p q = refl
+enough zero (suc g) n p q = rw (lt-ltb n 10 (omega arith))
+enough (suc f) zero n p q = rw (lt-ltb n 10 (omega arith))
+enough (suc f) (suc g) n p q = elim (dec_lt n 10) [
+  | yes h ↦ rw (lt-ltb n 10 h)
+  | no h ↦ rw (le-ltb n 10 (omega arith), enough f g (n / 10) (omega arith) (omega arith))
+]
+
+pub width_one : (n : ℕ) → n < 10 → width n ≡ 1
+unfolding width width_in
+width_one n h = enough n (suc n) n (omega arith) (omega arith) ∙ rw (lt-ltb n 10 h)
+
+pub width_more : (n : ℕ) → 9 < n → width n ≡ 1 + width (n / 10)
+unfolding width width_in
+width_more n h = enough n (suc n) n (omega arith) (omega arith) ∙ rw (le-ltb n 10 h, enough n (n / 10) (n / 10) (omega arith) (omega arith))
+
+-- ten to the power k + 1
+abbrev tens : ℕ → ℕ
+tens zero = 10
+tens (suc k) = tens k * 10
+
+width_below : (k n : ℕ) → n < tens k → width n ≤ k + 1
+width_below zero n h = omega (arith, width_one n h)
+width_below (suc k) n h = elim (dec_lt n 10) [
+  | yes p ↦ omega (arith, width_one n p)
+  | no p ↦ omega (arith, width_more n (omega arith), width_below k (n / 10) (omega arith))
+]
+
+-- a number of 64 bits
+pub width_most : (n : ℕ) → n < 0x1_0000_0000_0000_0000 → width n ≤ 20
+width_most n h = width_below 19 n (omega arith)
+
+-- ---- in the form of the loop: what is left counts the rest's digits
+
+pub width_turn : (n m w : ℕ) → 9 < n → m + width n ≡ w + 1 → m + 1 + width (n / 10) ≡ w + 1
+width_turn n m w h inv = omega (arith, width_more n h)
+
+pub width_done : (n m w : ℕ) → n ≤ 9 → m + width n ≡ w + 1 → m ≡ w
+width_done n m w h inv = omega (arith, width_one n (omega arith))
+
+-- ---- digits stored
+
+pub length_digits : (base w n : ℕ) → length (in_digits base w n) ≡ w
+unfolding in_digits
+length_digits base zero n = refl
+length_digits base (suc w) n = rw (length-append (in_digits base w (n / base)) (digit_sign (n % base) ∷ [])) (omega (arith, length_digits base w (n / base)))
+
+pub below_base : (n base : ℕ) → 1 < base → base ≤ 16 → n % base < 16
+below_base n base h k = omega (arith, mod-lt n {m = base} (omega arith))
+
+digits_step : (l : List ℕ) (at base n i : ℕ) → at + (i + 1) ≤ length l
+    → stored (set l (at + i) (digit_sign (n % base))) at (in_digits base i (n / base)) ≡ stored l at (in_digits base (suc i) n)
+unfolding stored in_digits
+digits_step l at base n i f =
+    let ds : List ℕ = in_digits base i (n / base) in
+    let x : List ℕ = digit_sign (n % base) ∷ [] in
+    let e : length ds ≡ i = length_digits base i (n / base) in
+    stored_swap l (at + i) x at ds (omega arith) (omega arith) (inr (omega arith)) ∙ ap (λ (k : ℕ). stored (stored l at ds) (at + k) x) (sym e) ∙ sym (stored_append l at ds x)
+
+-- ---- in the form of the loop: what is left is stored before what stands there
+
+pub digits_turn : (l l₀ m : List ℕ) (at base n w i b : ℕ) → 0 < i → i ≤ w → length l ≡ length l₀ → at + w ≤ length l₀ → b ≡ digit_sign (n % base)
+    → stored l at (in_digits base i n) ≡ m → stored (set l (at + (i - 1)) b) at (in_digits base (i - 1) (n / base)) ≡ m
+digits_turn l l₀ m at base n w zero b h k e f d inv = absurd (omega arith)
+digits_turn l l₀ m at base n w (suc i) b h k e f d inv =
+    let p : suc i - 1 ≡ i = omega arith in
+    rw (p, d) (digits_step l at base n i (omega arith) ∙ inv)
+
+digits_done : (l m : List ℕ) (at base n i : ℕ) → i ≤ 0 → stored l at (in_digits base i n) ≡ m → l ≡ m
+unfolding stored in_digits
+digits_done l m at base n zero h inv = inv
+digits_done l m at base n (suc i) h inv = absurd (omega arith)
+
+pub puts_digits : (l l₀ : List ℕ) (at base w n i rest : ℕ) → i ≤ 0 → stored l at (in_digits base i rest) ≡ stored l₀ at (in_digits base w n) → Puts (in_digits base w n) l₀ at (at + w) l
+puts_digits l l₀ at base w n i rest h inv =
+    record {
+      stores = digits_done l (stored l₀ at (in_digits base w n)) at base rest i h inv;
+      next = omega (arith, length_digits base w n);
+    }
+
+-- ---- as many digits as the number has
+
+module _ (n w : ℕ) (e : w ≡ width n) (h : n < 0x1_0000_0000_0000_0000) where
+  pub decimal_fits : (at k : ℕ) → at + 20 ≤ k → at + w ≤ k
+  decimal_fits at k f = omega (arith, width_most n h)
+
+  pub puts_decimal : (l : List ℕ) (at r : ℕ) (m : List ℕ) → PutsIn w (in_digits 10 w n) l at r m → PutsIn 20 (decimal n) l at r m
+  unfolding decimal
+  puts_decimal l at r m p = record { puts = rw e at p.puts; room = omega (arith, width_most n h) }
