@@ -17,7 +17,8 @@ TOKEN = re.compile(r"[^\s:(){},;λ←→↦=.\"\[\]|⟦⟧`]+")
 SPLIT = re.compile(r"([^\s:(){},;λ←→↦=.\"\[\]|⟦⟧`]+)")
 DECLARED = re.compile(r"^(\s*)((?:unfoldable |abbrev |pub |ruleset |data |record )*)([^\s:(){},;λ←→↦=.\"\[\]|]+)((?: [^:=]*)?)\s*:\s(.*)$")
 USE = re.compile(r"(?:pub )?(?:ghost )?use (.*?)(?:\.\{([^}]*)\})?(?: as \S+)?;?$")
-# Names that say a type and begin with a small letter, and two whose parts are no words.
+# Names that say a type and begin with a small letter, two whose parts are no words, and a field: a definition has its name too, but
+# never in the same file.
 BY_HAND = {
     "markedUnlessBad": "MarkedUnlessBad",
     "marksIf": "MarksIf",
@@ -25,6 +26,7 @@ BY_HAND = {
     "visitedBy": "VisitedBy",
     "The-row": "TheRow",
     "not-Free": "not_free",
+    "is-file": "is_file",
 }
 
 
@@ -112,11 +114,11 @@ def renaming(root):
     for t, n in new.items():
         by[n].append(t)
     for n, olds in by.items():
-        lemmas = [t for t in olds if "-" in t]
+        lemmas = [t for t in olds if "-" in t and t not in BY_HAND]
         if len(olds) > 1:
             for t in lemmas:
                 new[t] = n + "_lem"
-        elif n in declared and n not in new:
+        elif n in declared and n not in new and not set(olds) & set(BY_HAND):
             # a lemma that has the name already gives it up to a definition, and keeps it before another lemma
             if lemmas:
                 new[lemmas[0]] = n + "_lem"

@@ -17,7 +17,7 @@ file name attr bytes = record { name = name; attr = attr; bytes = bytes }
 
 -- slot s of the volume holds this file
 pub record Holds (k : Kind) (l : List ℕ) (s : ℕ) (f : File) : Type 0 where
-  pub is_file_lem : IsFile k l s
+  pub is_file : IsFile k l s
   pub name : name_of l (slot_at k s) ≡ f.name
   pub attr : attr_of l (slot_at k s) ≡ f.attr
   -- some list of clusters is its chain, and its bytes are the first of these, as many as its size says

@@ -13,7 +13,7 @@ use Rattle.history.specs.World.{World, Call, look, open_file, create, read, writ
 
 -- slot s holds a plain file, whose 11 name bytes are those that the name means
 pub record HasName (k : Kind) (l name : List ℕ) (s : ℕ) : Type 0 where
-  pub is_file_lem : IsFile k l s
+  pub is_file : IsFile k l s
   pub meant : Means name (name_of l (slot_at k s))
 
 -- place h is live, and its slot is s

@@ -11,7 +11,7 @@ use Rattle.history.specs.World.{World, Call, Library, step_by, run_by, mode}
 
 -- when the run begins, a plain file stands in slot s, it is read-only, and no used place names its slot
 pub record Tare (k : Kind) (w : World) (s : ℕ) : Type 0 where
-  pub is_file_lem : IsFile k w.image s
+  pub is_file : IsFile k w.image s
   pub marked : read_only w.image s ≡ true
   pub closed : is_open w.table s ≡ false
 

@@ -174,7 +174,7 @@ module _ (k : Kind) (l : List ℕ) (v : OnVolume l k) where
 
       pub other_holds : (f : File) → Holds k l t f → Holds k m t f
       other_holds f x = record {
-        is_file_lem = other_file;
+        is_file = other_file;
         name = (same_slot t i.below n).name ∙ x.name;
         attr = (same_slot t i.below n).attr ∙ x.attr;
         bytes = (

@@ -115,7 +115,7 @@ module _ (k : Kind) (l : List ℕ) (v : OnVolume l k) (b : Bytes l) (given : Lis
     made_holds : Holds k m s (file name attr [])
     unfolding content
     made_holds = record {
-      is_file_lem = record { below = within; plain = plain };
+      is_file = record { below = within; plain = plain };
       name = fields.name;
       attr = fields.attr;
       bytes = ([], none_of_it fields.size fields.start refl, rw fields.size refl);

@@ -238,7 +238,7 @@ module _ (k : Kind) (l : List ℕ) (v : OnVolume l k) (s : ℕ) (i : IsFile k l 
 
     pub entry_holds : (g : File) → Holds k l s g → (name : List ℕ) (attr : ℕ) → name_of m a ≡ name → attr_of m a ≡ attr → Holds k m s (file name attr g.bytes)
     entry_holds g h name attr e d = record {
-      is_file_lem = record { below = i.below; plain = f.plain };
+      is_file = record { below = i.below; plain = f.plain };
       name = e;
       attr = d;
       bytes = (h.bytes.0, chain_stays h.bytes.0 h.bytes.1, same_content h.bytes.0 h.bytes.1 ∙ h.bytes.2);

@@ -41,5 +41,5 @@ module _ (k : Kind) (l : List ℕ) (v : OnVolume l k) (fs : Files) (shows : Show
         (h, inr never),
         λ q i y.
             let x = subst (ShowsAt k l q) (below q (ltb-true q n i)).1 (shows q) in
-            elim y.1 [ inl e ↦ x.is_file_lem.plain.0.1 e | inr e ↦ x.is_file_lem.plain.0.0 e ],
+            elim y.1 [ inl e ↦ x.is_file.plain.0.1 e | inr e ↦ x.is_file.plain.0.0 e ],
       ))

@@ -224,7 +224,7 @@ module _ (k : Kind) (l : List ℕ) (s pointer : ℕ) (bs : List ℕ) (i : IsFile
 
     pub wrote_holds : Holds k m s (file f.name f.attr (written f.bytes pointer bs))
     wrote_holds = record {
-      is_file_lem = record { below = i.below; plain = wrote_plain };
+      is_file = record { below = i.below; plain = wrote_plain };
       name = wrote_name ∙ x.name;
       attr = wrote_attr ∙ x.attr;
       bytes = (ds, chain_after_lem, ap (content base cb m ds) wrote_size ∙ wrote_content ∙ ap (λ (xs : List ℕ). written xs pointer bs) held);

@@ -71,7 +71,7 @@ module _ (k : Kind) (w : World) (c : Call) (b : Begins k w) where
 
   other_shows : (s : ℕ) (ds : List ℕ) → Changes k w c s ds → (t : ℕ) → t ≢ s → (o : Option File) → ShowsAt k w.image t o → ShowsAt k m t o
   other_shows s ds x t n none h = other_none k w.image (on b) m s ds x.changed t n h
-  other_shows s ds x t n (some f) h = other_holds k w.image (on b) m s ds x.changed t n h.is_file_lem f h
+  other_shows s ds x t n (some f) h = other_holds k w.image (on b) m s ds x.changed t n h.is_file f h
 
   pub came_shows : Came k w c → (fs gs : Files) → After ours k w c fs gs → Shows k w.image fs → Shows k m gs
   came_shows (idle q e) fs gs a y t = rw e (subst (ShowsAt k w.image t) (sym (kept q)) (y t))

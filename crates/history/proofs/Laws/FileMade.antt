@@ -82,7 +82,7 @@ module _ (k : Kind) (w : World) (fs : Files) (n free : ℕ) (x : HasFiles k w fs
   elsewhere a c bytes more t d = put_other fs n (some (file name a bytes)) t d ∙ sym (put_other fs n (some (file name c more)) t d)
 
   file_there : (u : World) (a : ℕ) (bytes : List ℕ) → Stands k u (put_file a bytes) n → IsFile k u.image n
-  file_there u a bytes y = (subst (ShowsAt k u.image n) (there a bytes) (y.shows n)).is_file_lem
+  file_there u a bytes y = (subst (ShowsAt k u.image n) (there a bytes) (y.shows n)).is_file
 
   -- a handle that was taken for the file reaches it
   reached : (u : World) (a : ℕ) (bytes : List ℕ) → Stands k u (put_file a bytes) n → (pointer : ℕ) (written : Bool)
@@ -181,7 +181,7 @@ module _ (k : Kind) (w : World) (fs : Files) (n free : ℕ) (x : HasFiles k w fs
   empty_size =
       let v = on stands_created.begins in
       let y = subst (ShowsAt k world_created.image n) (there attr []) (stands_created.shows n) in
-      sym (bytes_long k world_created.image v n y.is_file_lem) ∙ ap length (holds_bytes k world_created.image v n _ y)
+      sym (bytes_long k world_created.image v n y.is_file) ∙ ap length (holds_bytes k world_created.image v n _ y)
 
   can_put : CanPut k world_created.image (slot_at k n) 0 (length (take (length bs) bs))
   can_put =

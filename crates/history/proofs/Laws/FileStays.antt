@@ -37,7 +37,7 @@ module _ (k : Kind) (l : List ℕ) (s : ℕ) where
   some_shown (some f) y i = (f, refl)
 
   shown_file : (o : Option File) → ShowsAt k l s o → Some o → IsFile k l s
-  shown_file o y x = (subst (ShowsAt k l s) x.1 y).is_file_lem
+  shown_file o y x = (subst (ShowsAt k l s) x.1 y).is_file
 
 -- ---- what becomes of a file
 

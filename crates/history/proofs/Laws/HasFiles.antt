@@ -42,7 +42,7 @@ pub verdict_of : (k : Kind) (w : World) (fs : Files) (n free : ℕ) → HasFiles
     → check_of w.image ≡ Sound (record { files = n; free = free; held = clusters k - free; bad = 0; reserved = 0 })
 verdict_of k w fs n free x h =
     let files : file_count k w.image ≡ n = first_count k w.image n (omega arith)
-    (λ t i. (subst (ShowsAt k w.image t) (x.below t i).1 (x.stands.shows t)).is_file_lem)
+    (λ t i. (subst (ShowsAt k w.image t) (x.below t i).1 (x.stands.shows t)).is_file)
     (λ t i f. f.plain.0.0 (elim (ℕ_discrete t n) as (λ _. NeverUsedAt w.image (slot_at k t)) [
       | yes e ↦ rw e x.never
       | no d ↦ x.stands.above t (omega arith) f.below

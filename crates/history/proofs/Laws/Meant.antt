@@ -51,11 +51,11 @@ module _ (k : Kind) (l : List ℕ) (v : OnVolume l k) (name : List ℕ) (fits : 
   pub has_name : no_file l name ≡ false → HasName k l name (file_slot l name)
   has_name there =
       let x = searched (At (file_slot l name)) (file_found_lem k l v name there) in
-      record { is_file_lem = record { below = x.0.0; plain = x.0.1.0 }; meant = rw x.0.1.1 (means name fits) }
+      record { is_file = record { below = x.0.0; plain = x.0.1.0 }; meant = rw x.0.1.1 (means name fits) }
 
   -- and where it finds none
   pub no_name : no_file l name ≡ true → (s : ℕ) → ¬ HasName k l name s
-  no_name none s x = searched Nothing (no_file_found k l v name none) s (x.is_file_lem.below, (x.is_file_lem.plain, sym (meant_is x.meant)))
+  no_name none s x = searched Nothing (no_file_found k l v name none) s (x.is_file.below, (x.is_file.plain, sym (meant_is x.meant)))
 
   pub for_new : no_file l name ≡ true → not (is_found (slot_for_new l)) ≡ false → IsForNew k l name (place_found (slot_for_new l))
   for_new none room = record { good = ((name_given name).name, means name fits); new = no_name none; lowest = new_slot_lem k l v room }

@@ -16,7 +16,7 @@ module _ (k : Kind) (w : World) (v : OnVolume w.image k) (s t : ℕ) where
   name_one x y = elim (ℕ_discrete s t) [
     | yes e ↦ e
     | no d ↦
-        absurd (name_once k w.image v t y.is_file_lem s x.is_file_lem.below d x.is_file_lem.plain (sym (meant_is x.meant) ∙ meant_is y.meant))
+        absurd (name_once k w.image v t y.is_file s x.is_file.below d x.is_file.plain (sym (meant_is x.meant) ∙ meant_is y.meant))
   ]
 
   reached_one : {h : ℕ} → Reaches k w h s → Reaches k w h t → s ≡ t

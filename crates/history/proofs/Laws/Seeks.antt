@@ -36,7 +36,7 @@ seeks_are_of_history k v c cs g h method offset s f e n x =
     let b = begins_run k cs v c g in
     let l = w.image in
     let t = w.table in
-    let i : IsFile k l s = x.is_file_lem in
+    let i : IsFile k l s = x.is_file in
     let size : size_of l (slot_at k s) ≡ length f.bytes = sym (bytes_long k l (on b) s i) ∙ ap length (holds_bytes k l (on b) s f x) in
     let base : seek_base l t h method
     ≡ cond (eqb method 0) 0 (cond (eqb method 1) (pointer_of t h) (length f.bytes)) = rw (on_kind_lem l k (on b), n.slot, size) in

@@ -49,7 +49,7 @@ module _ (k : Kind) (l : List ℕ) (v : OnVolume l k) where
   unfolding shown
   shows s (yes h) true e =
       let i : IsFile k l s = record { below = h; plain = (plain_is l (slot_at k s)).0 e } in
-      record { is_file_lem = i; name = refl; attr = refl; bytes = ((on_sound k l v).0 s, (on_sound k l v).1.chains s i, refl) }
+      record { is_file = i; name = refl; attr = refl; bytes = ((on_sound k l v).0 s, (on_sound k l v).1.chains s i, refl) }
   shows s (yes h) false e = λ i. clash (sym ((plain_is l (slot_at k s)).1 i.plain) ∙ e)
     where
       clash : true ≡ false → ⊥
@@ -83,7 +83,7 @@ module _ (k : Kind) (l : List ℕ) (v : OnVolume l k) where
   pub holds_bytes : (s : ℕ) (f : File) → Holds k l s f → file_bytes k l (slot_at k s) ≡ f.bytes
   unfolding file_bytes
   holds_bytes s f x =
-      let i = x.is_file_lem in
+      let i = x.is_file in
       ap (λ (cs : List ℕ). content (512 * first_data k) (cluster_bytes k) l cs (size_of l (slot_at k s)))
       (sym (list_is s i x.bytes.0 x.bytes.1))
       ∙ x.bytes.2
@@ -98,7 +98,7 @@ reads_are_of_history k v c cs g h buffer s f e n x =
     let b = begins_run k cs v c g in
     let l = w.image in
     let t = w.table in
-    let i = x.is_file_lem in
+    let i = x.is_file in
     let bytes : file_bytes k l (slot_at k s) ≡ f.bytes = holds_bytes k l (on b) s f x in
     let size : size_of l (slot_at k s) ≡ length f.bytes = sym (bytes_long k l (on b) s i) ∙ ap length bytes in
     elim (decided_cases (read_rows l t h) (read_effect l t h buffer) l t buffer) [

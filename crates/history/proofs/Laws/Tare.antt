@@ -25,7 +25,7 @@ use Rattle.history.proofs.Laws.TareCalls.{read_spares, seek_spares, write_spares
 use Rattle.history.proofs.Laws.TarePlaces.{Watched, closed_watched}
 
 pub tare_guarded : (k : Kind) (w : World) (s : ℕ) → Tare k w s → Guarded k w s
-tare_guarded k w s x = record { is_file_lem = x.is_file_lem; marked = x.marked; places = closed_watched w.table s x.closed }
+tare_guarded k w s x = record { is_file = x.is_file; marked = x.marked; places = closed_watched w.table s x.closed }
 
 -- ---- one call
 
@@ -54,7 +54,7 @@ module _ (k : Kind) (w : World) (b : Begins k w) (s : ℕ) (g : Guarded k w s) w
     same_entry : SameBytes (step w c).image (slot_at k s) w.image (slot_at k s)
     same_entry = elim (spared c u).image [
       | inl e ↦ λ j h. ap (λ (l : List ℕ). get_or l (slot_at k s + j) 0) e
-      | inr n ↦ came_entries k w c b (came k w c b given) s g.is_file_lem.below n
+      | inr n ↦ came_entries k w c b (came k w c b given) s g.is_file.below n
     ]
 
     same_shows : (o : Option File) → ShowsAt k w.image s o → ShowsAt k (step w c).image s o
@@ -76,11 +76,11 @@ module _ (k : Kind) (w : World) (b : Begins k w) (s : ℕ) (g : Guarded k w s) w
 
     pub guarded_still : Guarded k (step w c) s
     guarded_still =
-        let live = g.is_file_lem.plain.0 in
+        let live = g.is_file.plain.0 in
         record {
-          is_file_lem = record {
-            below = g.is_file_lem.below;
-            plain = ((λ z. live.0 (sym same_first ∙ z), λ z. live.1 (sym same_first ∙ z)), rw same_attr g.is_file_lem.plain.1);
+          is_file = record {
+            below = g.is_file.below;
+            plain = ((λ z. live.0 (sym same_first ∙ z), λ z. live.1 (sym same_first ∙ z)), rw same_attr g.is_file.plain.1);
           };
           marked = marked_still;
           places = (spared c u).places;

@@ -45,7 +45,7 @@ use Rattle.history.proofs.Laws.TarePlaces.{Watched, ReadsOnly, record_watched, p
 
 -- a read-only file whose places, where it has any, only read
 pub record Guarded (k : Kind) (w : World) (s : ℕ) : Type 0 where
-  pub is_file_lem : IsFile k w.image s
+  pub is_file : IsFile k w.image s
   pub marked : read_only w.image s ≡ true
   pub places : Watched w.table s
 
@@ -203,8 +203,8 @@ module _ (k : Kind) (w : World) (v : OnVolume w.image k) (s : ℕ) (g : Guarded 
 
     new_other : not (is_found (slot_for_new l)) ≡ false → ¬ (s ≡ place_found (slot_for_new l))
     new_other e q = elim (subst (λ (n : ℕ). VacantAt l (slot_at k n)) (sym q) (new_slot_lem k l v e).0.1) [
-      | inl z ↦ g.is_file_lem.plain.0.1 z
-      | inr z ↦ g.is_file_lem.plain.0.0 z
+      | inl z ↦ g.is_file.plain.0.1 z
+      | inr z ↦ g.is_file.plain.0.0 z
     ]
 
     pub create_spares : Spared (create name attr stamp)

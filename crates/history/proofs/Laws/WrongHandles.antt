@@ -48,7 +48,7 @@ module _ (k : Kind) (w : World) (fs : Files) (m free : ℕ) (x : HasFiles k w fs
   has : HasName k w.image name n
   has =
       let y = subst (ShowsAt k w.image n) here (x.stands.shows n) in
-      record { is_file_lem = y.is_file_lem; meant = rw (y.name, named) (means name fits) }
+      record { is_file = y.is_file; meant = rw (y.name, named) (means name fits) }
 
   opens_first_strays : ¬ HandsOutItsFile opens_first
   opens_first_strays keeps =

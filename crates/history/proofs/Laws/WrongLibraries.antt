@@ -87,7 +87,7 @@ module _ {k : Kind} {w : World} {fs : Files} {f : File} {name : List ℕ} {attr 
   first_holds = subst (ShowsAt k l 0) x.here (shown 0)
 
   first_file : IsFile k l 0
-  first_file = first_holds.is_file_lem
+  first_file = first_holds.is_file
 
   file_in_lem : file_in l 0 ≡ true
   file_in_lem = rw (on_kind_lem l k v, lt-ltb 0 (root_entries k) first_file.below, (plain_is l (slot_at k 0)).1 first_file.plain)
@@ -121,7 +121,7 @@ module _ {k : Kind} {w : World} {fs : Files} {f : File} {name : List ℕ} {attr 
 
   pub erases_first_spoils : Spoils erases_first
   erases_first_spoils = spoils erases_first (delete name) (erased_in k l 0) (given_delete name) (no_file_lem 0) erased
-      (λ y. delete_ends k l v begins.bytes 0 first_file y.is_file_lem)
+      (λ y. delete_ends k l v begins.bytes 0 first_file y.is_file)
 
   -- it names no file, and ends well all the same
   pub erases_first_strays : ¬ NamesAFile erases_first

@@ -31,7 +31,7 @@ module _ (k : Kind) (w : World) (b : Begins k w) (s : ℕ) (cs : List Call) (g :
 
   brought : (f : File) → Holds k w.image s f → Rescued ours m f
   brought f h =
-      let x = stands h.is_file_lem in
+      let x = stands h.is_file in
       rescued_by_name m k (torn_kind k w.image (run w cs).image m (on b) (on saving) t) s f (x.file f h) x.alone
 
 pub others_through_reset : OthersThroughReset ours

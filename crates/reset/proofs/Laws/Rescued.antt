@@ -53,7 +53,7 @@ module _ (m : List ℕ) (k : Kind) (e : kind_of_image m ≡ Known k) (s : ℕ) (
       let n = (name_given name).name in
       rw is_kind (only_answer Named (slot_named m (slot_at k) (root_entries k) n) (At s)
       (slot_named_answers m (slot_at k) (root_entries k) slots_in n (proper name ((accepted name f.name).1 means).0).long) (
-        (h.is_file_lem.below, (h.is_file_lem.plain, spelled)),
+        (h.is_file.below, (h.is_file.plain, spelled)),
         λ q l x.
             let z : q ≡ s = alone q (record { below = x.0; plain = x.1.0 }) (x.1.1 ∙ sym spelled) in
             omega (arith, ltb-true q s l),

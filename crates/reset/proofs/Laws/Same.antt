@@ -126,7 +126,7 @@ module _ (k : Kind) (l : List ℕ) (v : OnVolume l k) (s : ℕ) (i : IsFile k l 
 
     pub same_holds : (f : File) → Holds k l s f → Holds k m s f
     same_holds f h = record {
-      is_file_lem = same_file;
+      is_file = same_file;
       name = fields.name ∙ h.name;
       attr = fields.attr ∙ h.attr;
       bytes =

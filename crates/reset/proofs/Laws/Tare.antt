@@ -61,7 +61,7 @@ module _ (k : Kind) (w : World) (b : Begins k w) (s : ℕ) (x : Tare k w s) (cs 
 
   stands : Stands k s w.image m
   stands =
-      let i = x.is_file_lem in
+      let i = x.is_file in
       let own = b.sound.1.chains s i in
       let safe : Safe k s w cs = (tare_guarded k w s x, left.no_mode.0) in
       let still : Safe k s v ds = (guarded_run k s es cs w b left.given.0 safe, left.no_mode.1) in

@@ -83,7 +83,7 @@ table = record_bytes true 2 0 10 false
 
 live : LivePlace table 0 image (slot_at kind_fe) (root_entries kind_fe)
 unfolding used_of access_of slot_of record_bytes number digits
-live = record { counted = omega arith; used = refl; access = omega arith; slot = omega arith; plain = made.is_file_lem.plain }
+live = record { counted = omega arith; used = refl; access = omega arith; slot = omega arith; plain = made.is_file.plain }
 
 pub scene : Scene
 unfolding pointer_of record_bytes number digits
