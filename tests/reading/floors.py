@@ -4,6 +4,8 @@ import re
 
 from papers import quoted
 
+# A crate's line: its name, what it is if not a library of Rattle alone, and the crates that it uses.
+LINE = re.compile(r"(\w+)(?: staticlib)?:(.*)")
 HEADS = ("Floor", "What it is", "Its crates")
 
 
@@ -14,15 +16,21 @@ def listed(text):
         if found := re.fullmatch(r"# (.*?): (.*)\.", line):
             floors.append((found[1], found[2], []))
         elif line and floors:
-            floors[-1][2].append(line.split(":")[0])
+            floors[-1][2].append(named(line))
     return floors
+
+
+def named(line):
+    """The crate that a line is for; the line itself where it is none."""
+    found = LINE.fullmatch(line)
+    return found[1] if found else line
 
 
 def check(text, readme, tally):
     above = set()
-    crates = {line.split(":")[0] for line in text.split("\n") if re.match(r"\w+:", line)}
+    crates = {found[1] for line in text.split("\n") if (found := LINE.fullmatch(line))}
     for line in text.split("\n"):
-        if found := re.match(r"(\w+):(.*)", line):
+        if found := LINE.fullmatch(line):
             later = sorted(set(found[2].split()) & crates - above)
             tally.check(not later, f"crates.txt: {found[1]} stands above {', '.join(later)}, which it uses")
             above.add(found[1])

@@ -1,4 +1,4 @@
-"""What the names in specs/ and src/ mean, and what is reached by following them."""
+"""What the names in definitions, laws and contracts mean, and what is reached by following them."""
 
 import re
 
@@ -6,15 +6,18 @@ import source
 import specs
 from words import NotRead
 
-# The language's own words and the prelude's names; an operator's by its sign. In contracts: what a slice holds now.
-OWN = set("→ × ¬ ⊥ Type Unit Dec in as elim _ now ⌜ ⌝".split())
+# The language's own words and names.
+OWN = set("→ × ¬ ⊥ Type Unit Dec in as elim _".split())
+# Where the files with definitions and with laws are.
+SPECS = ("crates/*/specs/*.antt", "crates/*/proofs/Laws/*.antt")
 
 
 class Definitions:
-    """All files of specs/ and src/, and what the names in them mean."""
+    """All files of specs/, of proofs/Laws/ and of src/, and what the names in them mean."""
 
     def __init__(self, tree):
-        self.modules = {path: specs.parsed(path, tree.text(path)) for path in tree.below("crates/*/specs/*.antt")}
+        paths = [path for pattern in SPECS for path in tree.below(pattern)]
+        self.modules = {path: specs.parsed(path, tree.text(path)) for path in paths}
         self.files = {path: source.parsed(path, tree.text(path)) for path in tree.below("crates/*/src/*.rt")}
         self.types = {}
         for path, file in self.files.items():
@@ -27,15 +30,17 @@ class Definitions:
     def located(self, module, name):
         """What a name of a module is: an item or a declared type, and whether it is a constructor of it; (None, ..)
         where the module is the library's."""
-        found = re.fullmatch(r"Rattle·(\w+)(?:·specs)?\.specs\.(.*)", module)
-        if not found:
+        found = re.fullmatch(r"Rattle\.(\w+)\.(specs|proofs)\.(.*)", module)
+        if not found and module.startswith("Rattle."):
+            raise NotRead(f"the module '{module}' has another form than Rattle.CRATE.specs.FILE")
+        if not found or found[1] == "std":
             return None, False
-        crate, below = found.groups()
-        if below.startswith("declared."):
-            kind = below.removesuffix(".the-variants").split(".")[-1]
+        crate, room, below = found.groups()
+        if room == "specs" and below.startswith("declared."):
+            kind = below.removesuffix(".TheVariants").split(".")[-1]
             if (crate, kind) in self.types:
-                return self.types[crate, kind], below.endswith(".the-variants")
-        path = f"crates/{crate}/specs/{below.replace('.', '/')}.antt"
+                return self.types[crate, kind], below.endswith(".TheVariants")
+        path = f"crates/{crate}/{room}/{below.replace('.', '/')}.antt"
         if path in self.modules:
             item, constructs = own(self.modules[path], name)
             if item:
@@ -48,7 +53,7 @@ class Definitions:
         if rest and head in module.modules:
             return self.located(module.modules[head], rest.split(".")[0])
         known = head in module.imported or head in module.items
-        name = head if known else operators(module).get(head.strip("_"), head)
+        name = head if known else operators(module).get(head.strip("◌"), head)
         item, constructs = own(module, name)
         if item:
             return item, constructs
@@ -95,13 +100,13 @@ def own(module, name):
 
 def operators(module):
     """The signs of the operators that a file imports or declares."""
-    names = [name for name in (*module.imported, *module.items) if "_" in name]
-    return {sign: name for name in names for sign in name.split("_") if sign}
+    names = [name for name in (*module.imported, *module.items) if "◌" in name]
+    return {sign: name for name in names for sign in specs.signs(name)}
 
 
 def is_apart(thing):
     """Whether it stands among the laws or the aids of the proofs."""
-    return bool(re.search(r"/specs/(Laws|Aids)/", thing.path))
+    return bool(re.search(r"/(specs/Aids|proofs/Laws)/", thing.path))
 
 
 def reached(definitions, roots, unread):

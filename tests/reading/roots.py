@@ -9,7 +9,8 @@ from specs import Item
 from words import nested
 
 # The files of the calls in Rattle, over a table of bytes and over lent records: each public function there is a call.
-# The calls for C are found by their mark.
+# The calls for C are found by their mark. Each exports the function of its name in the crate below its own: of scale, where
+# it stands in scale_c.
 CALLS = [
     *("formatting/src/format.rt", "sound/src/lib.rt", "freespace/src/free_space.rt", "entries/src/entry.rt", "matching/src/find.rt"),
     *("opening/src/open.rt", "creating/src/create.rt", "reading/src/read.rt", "writing/src/write.rt"),
@@ -29,12 +30,24 @@ def public_in(definitions, file):
     return [function for function in found.functions if function.public] if found else []
 
 
+def exported_by(definitions, function, tally):
+    """The function that one for C exports, which has the same contract, word for word."""
+    crate = function.path.split("/")[1].removesuffix("_c")
+    below = [path for path in definitions.files if path.startswith(f"crates/{crate}/src/") and path != function.path]
+    found = [other for path in below for other in definitions.files[path].functions if other.public and other.name == function.name]
+    one = tally.check(len(found) == 1, f"{function.where()}: {len(found)} public functions of crates/{crate} have this name")
+    same = one and function.says(definitions) == found[0].says(definitions)
+    tally.check(same, f"{function.where()} is not that of the function of crates/{crate} that it exports")
+    return found
+
+
 def calls(definitions, header, listed, tally):
     """The public calls. header is the text of the header for C, listed has (path, name) of each call in
     UNIQUENESS.md."""
-    found = [function for file in definitions.files.values() for function in file.functions if function.for_c]
+    for_c = [function for file in definitions.files.values() for function in file.functions if function.for_c]
+    found = [call for function in for_c for call in (function, *exported_by(definitions, function, tally))]
     declared = set(re.findall(r"\b(bm_\w+)\(", header))
-    missing = declared - {function.name for function in found}
+    missing = declared - {function.name for function in for_c}
     tally.check(declared and not missing, f"the header declares {sorted(missing)}, which no function for C is")
     for file in CALLS:
         public = public_in(definitions, file)
@@ -57,9 +70,10 @@ def statements(definitions, tally):
     found = [item for item in items if "≡" in nested(item.statement)]
     tally.check(found, f"{EQUATIONS} has no equation over worked numbers")
     for folder in PROMISES:
-        laws = [(module, law) for module in modules_in(definitions, f"{folder}/Laws/") for law in module.items.values()]
+        rooms = folder.replace("/specs", "/proofs/Laws/")
+        laws = [(module, law) for module in modules_in(definitions, rooms) for law in module.items.values()]
         proved = {proved_by(definitions, module, law, folder) for module, law in laws} - {None}
-        tally.check(proved, f"no law in {folder}/Laws proves a promise")
+        tally.check(proved, f"no law in {rooms} proves a promise")
         found += sorted(proved, key=lambda item: (item.path, item.name))
     return found
 
@@ -88,7 +102,7 @@ def theorems(definitions, paper, tally):
         here, said = f"{paper.path}, line {row.line}", {}
         for path, name in row.cites():
             law = definitions.modules[path].items.get(name) if path in definitions.modules else None
-            if tally.check(law and "/Laws/" in path, f"{here}: '{name}' is no theorem in {path}"):
+            if tally.check(law and "/proofs/Laws/" in path, f"{here}: '{name}' is no theorem in {path}"):
                 found.append(law)
                 said |= {thing.name: thing for thing in definitions.uses(law, statement_only=True)}
         test, _, meaning = row.cells[TESTS].partition(":")

@@ -4,20 +4,22 @@ import functools
 import re
 
 from specs import Module, add_import
-from words import Names, nested
+from words import Names, NotRead, nested
 
 FUNCTION = re.compile(r'^ *(pub )?(extern "C" )?fn (\w+)(?:<[^>]*>)?\(', re.MULTILINE)
 TYPE = re.compile(r"^pub (struct|enum) (\w+)", re.MULTILINE)
-CLAUSE = re.compile(r"\s*(requires|ensures)\s*(?=\{)")
+CLAUSE = re.compile(r"\s*(requires|ensures)(?: \w+)?\s*(?=\{)")
 CLOSING = {"(": ")", "{": "}"}
 
 
 class Function:
-    def __init__(self, name, public, for_c, parameters, types, clauses, path):
+    def __init__(self, name, public, for_c, given, answered, types, clauses, path):
         self.name = name
+        self.given = given  # what comes in, as it is written
+        self.answered = answered
         self.public = public
         self.for_c = for_c
-        self.parameters = parameters
+        self.parameters = {"self", "result"} | set(re.findall(r"(\w+)\s*:", given))
         self.types = types  # of what comes in and what is answered: names with a capital letter
         self.clauses = clauses  # (requires or ensures, text)
         self.path = path
@@ -27,6 +29,11 @@ class Function:
 
     def asks(self):
         return any(what == "requires" for what, _ in self.clauses)
+
+    def says(self, definitions):
+        """What comes in, what is answered and what is asked and promised, by the word; and what these words mean."""
+        words = [self.given, self.answered, *(word for clause in self.clauses for word in clause)]
+        return [word.split() for word in words], definitions.uses(self)
 
     def where(self):
         return f"the contract of '{self.name}' in {self.path}"
@@ -78,14 +85,23 @@ def parsed(path, text):
         if found[1]:
             add_import(file.ghosts, f"use {found[2]}")
         else:
-            crate, *_, name = found[2].split("::")
-            file.crates[name] = path.split("/")[1] if crate == "crate" else crate
+            crate, names = imported(found[2])
+            file.crates |= dict.fromkeys(names, path.split("/")[1] if crate == "crate" else crate)
     file.functions = [function_at(text, found, path) for found in FUNCTION.finditer(text)]
     for found in TYPE.finditer(text):
         at = text.index("{", found.end())
         file.types[found[2]] = Type(found[1], found[2], text[found.start() : closed(text, at)], path)
     file.constants = re.findall(r"^ *(?:pub )?const (\w+)", text, re.MULTILINE)
     return file
+
+
+def imported(text):
+    """The crate that an import names, and the names that stand in it: `CRATE::NAME`, `CRATE::{NAME, MODULE::NAME}`."""
+    crate, _, rest = "".join(text.split()).partition("::")
+    names = rest.removeprefix("{").removesuffix("}").split(",") if rest.startswith("{") else [rest]
+    if any(re.search(r"[^\w:]", name) for name in names):
+        raise NotRead(f"the import '{text}'")
+    return crate, [name.split("::")[-1] for name in names]
 
 
 def function_at(text, found, path):
@@ -97,9 +113,8 @@ def function_at(text, found, path):
     while clause := CLAUSE.match(text, end):
         end = closed(text, clause.end())
         clauses.append((clause[1], text[clause.end() + 1 : end - 1]))
-    parameters = {"self"} | set(re.findall(r"(\w+)\s*:", given))
     types = capitals(given + answered[0])
-    return Function(found[3], bool(found[1]), bool(found[2]), parameters, types, clauses, path)
+    return Function(found[3], bool(found[1]), bool(found[2]), given, answered[0], types, clauses, path)
 
 
 def names_of(function, constructs):

@@ -1,4 +1,4 @@
-"""The definitions of specs/: what each file declares and imports, and the names that each declaration uses."""
+"""The definitions of specs/ and the laws: what each file declares and imports, and the names that each declaration uses."""
 
 import functools
 import re
@@ -11,7 +11,7 @@ OTHER = {"mod", "infix", "infixl", "infixr", "unfolding", "ruleset", "open"}
 
 
 class Item:
-    """A definition, a record or a data type; in specs/Laws also a theorem."""
+    """A definition, a record or a data type; among the laws a theorem."""
 
     def __init__(self, name, kind, sections, statement):
         self.name = name
@@ -56,6 +56,11 @@ def parsed(path, text):
     return module
 
 
+def signs(name):
+    """The parts of a name between its arguments: of an operator its signs, of any other name itself."""
+    return [sign for sign in name.split("◌") if sign]
+
+
 def indent(line):
     return len(line) - len(line.lstrip())
 
@@ -94,7 +99,7 @@ def add(module, sections, block, last):
         return last
     item = declared(sections, text)
     if item is None:
-        if last is None or not set(last.name.strip("_").split("_")) & set(text.split()):
+        if last is None or not set(signs(last.name)) & set(text.split()):
             raise NotRead("neither a declaration nor a clause of the one above")
         last.clauses.append(text)
         last.lines += len(block)

@@ -13,7 +13,7 @@ from tree import Tree
 # A crate with a definition for each way in which a name is bound.
 CRATE = {
     "crates/a/specs/Used.antt": """
-use Prim.Native.Nat.{ℕ}
+use Rattle.std.specs.Prelude.{ℕ}
 
 -- what the other file imports
 abbrev pub used : ℕ
@@ -23,58 +23,58 @@ pub data Used : Type 0 where
   one : ℕ → Used
   «in» : Used
 
-infix 4 _or_
-abbrev pub _or_ : ℕ → ℕ → ℕ
+infix 4 ◌or◌
+abbrev pub ◌or◌ : ℕ → ℕ → ℕ
 x or y = x
 """,
     "crates/a/specs/Uses.antt": """
-use Prim.Native.Nat.{ℕ, _+_}
-use Rattle·a·specs.specs.Used.{used, Used, one, _or_}
-use Rattle·a·specs.specs.Used as words
-use Rattle·a·specs.specs.declared.Found.the-variants.{At}
-use Rattle·a·specs.specs.Used.{used as alias}
+use Rattle.std.specs.Prelude.{ℕ, ◌+◌}
+use Rattle.a.specs.Used.{used, Used, one, ◌or◌}
+use Rattle.a.specs.Used as words
+use Rattle.a.specs.declared.Found.TheVariants.{At}
+use Rattle.a.specs.Used.{used as alias}
 
 abbrev pub plainly : ℕ
 plainly = used + 1 -- not «in» a comment: Used
 
-abbrev pub byAlias : ℕ
-byAlias = alias
+abbrev pub by_alias : ℕ
+by_alias = alias
 
-abbrev pub byModule : ℕ
-byModule = words.used
+abbrev pub by_module : ℕ
+by_module = words.used
 
-abbrev pub byOperator : ℕ
-byOperator = 0 or 1
+abbrev pub by_operator : ℕ
+by_operator = 0 or 1
 
-abbrev pub inPattern : ℕ → ℕ
-inPattern used = used
+abbrev pub in_pattern : ℕ → ℕ
+in_pattern used = used
 
-abbrev pub inLambda : ℕ → ℕ
-inLambda = λ used. used
+abbrev pub in_lambda : ℕ → ℕ
+in_lambda = λ used. used
 
-abbrev pub afterLambda : ℕ × ℕ
-afterLambda = (λ used. used, used)
+abbrev pub after_lambda : ℕ × ℕ
+after_lambda = (λ used. used, used)
 
-abbrev pub inLet : ℕ
-inLet = let used = 0 in used
+abbrev pub in_let : ℕ
+in_let = let used = 0 in used
 
-abbrev pub beforeLet : ℕ
-beforeLet = let used = used in used
+abbrev pub before_let : ℕ
+before_let = let used = used in used
 
-abbrev pub inType : (used : ℕ) → used + used
-inType x = x
+abbrev pub in_type : (used : ℕ) → used + used
+in_type x = x
 
-abbrev pub inCase : ℕ
-inCase = elim 0 [ used ↦ used | x ↦ 1 ]
+abbrev pub in_case : ℕ
+in_case = elim 0 [ used ↦ used | x ↦ 1 ]
 
-abbrev pub afterCase : ℕ
-afterCase = elim 0 [ used ↦ used | x ↦ used ]
+abbrev pub after_case : ℕ
+after_case = elim 0 [ used ↦ used | x ↦ used ]
 
-abbrev pub asField : ℕ
-asField = record { used = 0 } .used
+abbrev pub as_field : ℕ
+as_field = record { used = 0 } .used
 
-abbrev pub byArgument : ℕ
-byArgument = plainly {used = 0}
+abbrev pub by_argument : ℕ
+by_argument = plainly {used = 0}
 
 pub record InRecord (used : ℕ) : Type 0 where
   pub first : used
@@ -92,8 +92,8 @@ variant = At 0
 """,
     "crates/a/src/lib.rt": """
 use crate::Kind;
-ghost use mathlib.Core.Path.{_≡_};
-ghost use Rattle·a·specs.specs.Used.{used, Used};
+ghost use Rattle.std.specs.Prelude.{◌≡◌};
+ghost use Rattle.a.specs.Used.{used, Used};
 
 // What a search found: used
 pub enum Found {
@@ -106,26 +106,26 @@ pub struct Kind {
 }
 
 pub fn given<'a>(used: &'a [u8]) -> Kind
-    ensures { λ r. ⌜ r ≡ used ⌝ }
+    ensures { result ≡ used }
 {
     used
 }
 
 pub fn found(k: Kind) -> Found
-    requires { ⌜ used ≡ k ⌝ }
-    ensures { λ r. ⌜ {x = r} used ⌝ }
+    requires { used ≡ k }
+    ensures { {x = result} used }
 {
     Used
 }
 """,
 }
 # The law that proves the worked numbers.
-WORKED = "crates/worked/specs/Laws/Worked.antt"
+WORKED = "crates/worked/proofs/Laws/Worked.antt"
 # What each of its definitions, types and contracts names.
 USES = {
-    **{"plainly": "used", "byAlias": "used", "byModule": "used", "byOperator": "_or_", "byArgument": "plainly"},
-    **{"inPattern": "", "inLambda": "", "inLet": "", "inType": "", "inCase": "", "asField": "", "InRecord": ""},
-    **{"afterLambda": "used", "beforeLet": "used", "afterCase": "used"},
+    **{"plainly": "used", "by_alias": "used", "by_module": "used", "by_operator": "◌or◌", "by_argument": "plainly"},
+    **{"in_pattern": "", "in_lambda": "", "in_let": "", "in_type": "", "in_case": "", "as_field": "", "InRecord": ""},
+    **{"after_lambda": "used", "before_let": "used", "after_case": "used"},
     **{"constructed": "Used", "taken": "Used", "variant": "Found"},
     **{"Found": "Kind", "given": "Kind", "found": "Found Kind used"},
 }
@@ -178,11 +178,11 @@ def edits_of_code(found):
     call = found.calls[0]
     text = found.tree.text(call.path)
     aid = next(item for item in found.definitions.items() if is_apart(item) and item.name not in text)
-    crate, _, *module = aid.path.removesuffix(".antt").split("/")[1:]
-    used = f"ghost use Rattle·{crate}.specs.{'.'.join(module)}.{{{aid.name}}};\n{text}"
-    yield "an aid in a contract", call.path, in_contract(used, call, "⌜", f"⌜ {aid.name}"), f"{aid.where()}, so that"
+    module = ".".join(aid.path.removesuffix(".antt").split("/")[1:])
+    used = f"ghost use Rattle.{module}.{{{aid.name}}};\n{text}"
+    yield "an aid in a contract", call.path, in_contract(used, call, r"ensures \{", f"ensures {{ {aid.name}"), f"{aid.where()}, so that"
     yield "no promise", call.path, in_contract(text, call, r"ensures \{.*?\}\n", ""), "promises nothing"
-    asking = "requires { ⌜ 0 ⌝ }\n    ensures"
+    asking = "requires { 0 }\n    ensures"
     yield "a condition", call.path, in_contract(text, call, "ensures", asking), "asks for something"
     text = found.tree.text(WORKED).replace(" : WorkedNumbers", " : Scene → WorkedNumbers")
     yield "worked numbers that nothing proves", WORKED, text, "'WorkedNumbers' in"
