@@ -7,7 +7,7 @@ import specs
 from words import NotRead
 
 # The language's own words and names.
-OWN = set("→ × ¬ ⊥ Type Unit Dec in as elim _".split())
+OWN = set("→ × ¬ ⊥ Type Unit elim _".split())
 # Where the files with definitions and with laws are.
 SPECS = ("crates/*/specs/*.antt", "crates/*/proofs/Laws/*.antt")
 

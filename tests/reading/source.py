@@ -9,6 +9,8 @@ from words import Names, NotRead, nested
 FUNCTION = re.compile(r'^ *(pub )?(extern "C" )?fn (\w+)(?:<[^>]*>)?\(', re.MULTILINE)
 TYPE = re.compile(r"^pub (struct|enum) (\w+)", re.MULTILINE)
 CLAUSE = re.compile(r"\s*(requires|ensures)(?: \w+)?\s*(?=\{)")
+# What else can say something by definitions; no file here has any.
+OTHER = re.compile(r"^ *(?:pub )?(?:ghost (?!use )|trait |impl[^{]* for )[^\n]*", re.MULTILINE)
 CLOSING = {"(": ")", "{": "}"}
 
 
@@ -87,6 +89,8 @@ def parsed(path, text):
         else:
             crate, names = imported(found[2])
             file.crates |= dict.fromkeys(names, path.split("/")[1] if crate == "crate" else crate)
+    if other := OTHER.search(text):
+        raise NotRead(f"{path}: '{other[0].strip()}'")
     file.functions = [function_at(text, found, path) for found in FUNCTION.finditer(text)]
     for found in TYPE.finditer(text):
         at = text.index("{", found.end())

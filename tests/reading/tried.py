@@ -91,7 +91,7 @@ abbrev pub variant : ℕ
 variant = At 0
 """,
     "crates/a/src/lib.rt": """
-use crate::Kind;
+use crate::{Kind, words};
 ghost use Rattle.std.specs.Prelude.{◌≡◌};
 ghost use Rattle.a.specs.Used.{used, Used};
 
@@ -112,8 +112,8 @@ pub fn given<'a>(used: &'a [u8]) -> Kind
 }
 
 pub fn found(k: Kind) -> Found
-    requires { used ≡ k }
-    ensures { {x = result} used }
+    requires first_of { used ≡ k }
+    ensures taken { {x = result} used }
 {
     Used
 }
@@ -184,6 +184,10 @@ def edits_of_code(found):
     yield "no promise", call.path, in_contract(text, call, r"ensures \{.*?\}\n", ""), "promises nothing"
     asking = "requires { 0 }\n    ensures"
     yield "a condition", call.path, in_contract(text, call, "ensures", asking), "asks for something"
+    export = next(call for call in found.calls if call.for_c and len(call.clauses) == 1)
+    text = found.tree.text(export.path)
+    yield "another promise for C", export.path, in_contract(text, export, r" result", " 0"), "that it exports"
+    yield "an export of nothing", export.path, text.replace(f"fn {export.name}(", "fn bm_format_twice("), "0 public functions"
     text = found.tree.text(WORKED).replace(" : WorkedNumbers", " : Scene → WorkedNumbers")
     yield "worked numbers that nothing proves", WORKED, text, "'WorkedNumbers' in"
     floors = found.tree.text("crates.txt") + "\n# Cellar: nothing.\n"
