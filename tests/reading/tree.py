@@ -22,9 +22,12 @@ class Tree:
         return path in self.changed or os.path.exists(os.path.join(self.root, path))
 
     def below(self, pattern):
-        """The files of crates/ whose path fits the pattern, in order."""
+        """The files of crates/ whose path fits the pattern, in order; without crates/NAME/out/, which the checker makes."""
         found = set(self.changed)
-        for folder, _, names in os.walk(os.path.join(self.root, "crates")):
+        crates = os.path.join(self.root, "crates")
+        for folder, below, names in os.walk(crates):
+            if os.path.dirname(folder) == crates and "out" in below:
+                below.remove("out")
             found.update(os.path.relpath(os.path.join(folder, name), self.root) for name in names)
         return sorted(fnmatch.filter(found, pattern))
 
