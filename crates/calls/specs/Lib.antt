@@ -1,5 +1,4 @@
--- What the calls have in common. Read Outcome, Numbers and Refusals; Ready is what every call does first. The laws are for the
--- proofs.
+-- What the calls have in common. Read Outcome, Numbers and Refusals; Ready, an aid, is what every call does first.
 pub mod Outcome
 pub mod Numbers
 pub mod Refusals

@@ -1,4 +1,4 @@
--- The laws of the definitions beside this folder, in the same order.
+-- The laws of the definitions in specs/, in the same order.
 pub mod Tests
 pub mod Put
 pub mod Lists

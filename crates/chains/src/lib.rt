@@ -1,2 +1,2 @@
-// Chains of clusters, as pure mathematics: there is no code here. The definitions stand in specs/, their laws in specs/Laws/.
+// Chains of clusters, as pure mathematics: there is no code here. The definitions stand in specs/, their laws in proofs/Laws/.
 #![tactic(auto)]

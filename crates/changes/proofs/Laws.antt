@@ -1,4 +1,4 @@
--- The laws of the definitions beside this folder.
+-- The laws of the definitions in specs/.
 pub mod Changed
 pub mod Frames
 pub mod Given

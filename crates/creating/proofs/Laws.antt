@@ -1,2 +1,2 @@
--- The laws of the definitions beside this folder.
+-- The laws of the definitions in specs/.
 pub mod Create

@@ -1,4 +1,4 @@
--- The kinds of diskette. Read Kinds, Places and Images; the laws are for the proofs.
+-- The kinds of diskette. Read Kinds, Places and Images.
 pub mod Kinds
 pub mod Places
 pub mod Images

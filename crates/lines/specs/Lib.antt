@@ -1,4 +1,4 @@
--- The listing's lines. Read Lines; Worked has the paper's own case, the laws are for the proofs.
+-- The listing's lines. Read Lines; Worked has the paper's own case.
 pub mod Lines
 pub mod Worked
 pub mod Aids

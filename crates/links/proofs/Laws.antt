@@ -1,4 +1,4 @@
--- The laws of the definitions beside this folder. Turns and Extent: what the loops ask. The others: what their results mean.
+-- The laws of the definitions in specs/. Turns and Extent: what the loops ask. The others: what their results mean.
 pub mod Turns
 pub mod Table
 pub mod Freed

@@ -1,2 +1,2 @@
--- What the listing program prints. Read Listing; the laws are for the proofs.
+-- What the listing program prints. Read Listing.
 pub mod Listing

@@ -1,4 +1,4 @@
--- Names given by callers. Read Alphabet, Spelling and Reading; the laws are for the proofs.
+-- Names given by callers. Read Alphabet, Spelling and Reading.
 pub mod Alphabet
 pub mod Spelling
 pub mod Reading

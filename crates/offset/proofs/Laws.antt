@@ -1,2 +1,2 @@
--- The laws of the definition beside this folder.
+-- The laws of the definition in specs/.
 pub mod Offset

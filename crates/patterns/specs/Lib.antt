@@ -1,3 +1,3 @@
--- Patterns given by callers. Read Patterns; aids and laws are for the proofs.
+-- Patterns given by callers. Read Patterns.
 pub mod Patterns
 pub mod Aids

@@ -1,3 +1,3 @@
--- The laws of the definitions beside this folder.
+-- The laws of the definitions in specs/.
 pub mod Held
 pub mod OpenAt

@@ -1,4 +1,4 @@
--- How the listing writes numbers, names and stamps. Read Ascii, Digits, Names, Stamps and Puts in this order; the laws are for the proofs.
+-- How the listing writes numbers, names and stamps. Read Ascii, Digits, Names and Stamps in this order.
 pub mod Ascii
 pub mod Digits
 pub mod Names

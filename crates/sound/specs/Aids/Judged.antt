@@ -1,4 +1,4 @@
--- The answer as the code computes it, by searches, walks and marks. That it is what Answer says is proved in Laws.
+-- The answer as the code computes it, by searches, walks and marks. That it is what Answer says is proved in proofs/Laws.
 use Rattle.std.specs.Prelude.{ℕ, ◌-◌, ◌*◌, Bool, true, false, List}
 use Rattle.chains.specs.Aids.Check.{chain_marks, in_two, lost, no_value, check_chains}
 use Rattle.chains.specs.Aids.Findings.{Voice}
