@@ -117,6 +117,8 @@ def function_at(text, found, path):
     while clause := CLAUSE.match(text, end):
         end = closed(text, clause.end())
         clauses.append((clause[1], text[clause.end() + 1 : end - 1]))
+    if not re.fullmatch(r"\s*(->[^\n]*)?", answered[0]) or not re.match(r"\s*\{", text[end:]):
+        raise NotRead(f"{path}: what stands between the head of '{found[3]}' and its body")
     types = capitals(given + answered[0])
     return Function(found[3], bool(found[1]), bool(found[2]), given, answered[0], types, clauses, path)
 
