@@ -103,7 +103,7 @@ def imported(text):
     """The crate that an import names, and the names that stand in it: `CRATE::NAME`, `CRATE::{NAME, MODULE::NAME}`."""
     crate, _, rest = "".join(text.split()).partition("::")
     names = rest.removeprefix("{").removesuffix("}").split(",") if rest.startswith("{") else [rest]
-    if any(re.search(r"[^\w:]", name) for name in names):
+    if " as " in text or any(re.search(r"[^\w:]", name) for name in names):
         raise NotRead(f"the import '{text}'")
     return crate, [name.split("::")[-1] for name in names]
 
