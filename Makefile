@@ -1,5 +1,5 @@
 # make             proves every crate, builds the programs, shows the worked numbers and lists the sample volume
-# make test        the gate: everything from nothing, with the must-fail edits and all tests
+# make test        the gate: everything, with the must-fail edits and all tests
 # make compare     the archive against the independent implementation; N=1000000 volumes and 2,000,000 calls, SEED=5
 #                  from this seed on
 # make bench       the archive's speed against the independent implementation's
@@ -12,9 +12,11 @@
 # make clean       removes what was made
 
 all:
-	rt check
+	rt all check
+	tests/product.sh worked
 	tests/x86.sh target/bin/worked
 	$(MAKE) listing
+	tests/product.sh sample
 	tests/x86.sh target/bin/sample | tests/x86.sh $(OUT)/listing
 
 test:
@@ -97,6 +99,6 @@ dist: listing
 		-cf $(DIST)/$(RELEASE).tar.gz $(RELEASE)
 
 clean:
-	rm -rf target tests/compare/target
+	rm -rf target tests/compare/target crates/*/out
 
 .PHONY: all test compare bench archive member balladmoor listing example install uninstall dist clean
