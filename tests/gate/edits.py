@@ -21,7 +21,7 @@ UNPROVED = re.compile(r"note: (?:\./)?(src/\S+?\.rt):(\d+):\d+: it is not proved
 FUNCTION = re.compile(r"(\s*)(?:pub(?:\([^)]*\))? )?(?:(?:const|unsafe|extern \"C\") )*fn (\w+)")
 METHODS = re.compile(r"impl\b.*?(\w+)(?:<[^{]*>)?\s*\{")
 # A law or a proof names what the edit took away: nothing was asked of the prover.
-TAKEN_AWAY = re.compile(r"`[^`]+` is not (?:in scope|a field of|a constructor)|.*\bhas no (?:field )?`|.*\bnames no constructor\b")
+TAKEN_AWAY = re.compile(r"`[^`]+` is not (?:in scope|a field of|a constructor)|.*\b(?:has no (?:field )?`|names no constructor\b)")
 
 
 class NoFact(Exception):
@@ -120,7 +120,8 @@ def main():
     files = {f"{file.parts[-3]}/{file.stem}": file for file in crates.glob("*/must-fail/*.edit")}
     tried = [line.groups() for line in map(TRIED.fullmatch, log.read_text(errors="replace").splitlines()) if line]
     failed = see_table(text, rows, files)
-    seen = [see(edit, named, files[edit], [said for name, said in tried if name == edit]) for edit, named in sorted(rows) if edit in files]
+    told = {edit: [said for name, said in tried if name == edit] for edit in files}
+    seen = [see(edit, named, files[edit], told[edit]) for edit, named in sorted(rows) if edit in files]
     failed += seen.count(False)
     print(f"{seen.count(True)} passed, {failed} failed")
     return 0 if failed == 0 else 1
