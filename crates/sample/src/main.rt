@@ -1,13 +1,12 @@
 // Makes the volume of document 01's listing case by the calls, and writes its system area to standard output.
 #![tactic(auto)]
 
-use std::io;
-use std::io::Write;
-
 use closing::close::close;
 use creating::create::create;
 use formatting::format::format;
 use stamps::Stamp;
+use std::io;
+use std::io::Write;
 use writing::write::write;
 
 // That time of 1983-09-01, in two-second steps.

@@ -3,13 +3,12 @@ ghost use Rattle.std.specs.Prelude.{◌≤◌, ◌≡◌};
 ghost use Rattle.diskette.specs.Aids.Usable.{Usable};
 ghost use Rattle.diskette.specs.Places.{last_cluster, sector_of};
 
-use std::io;
-use std::io::Write;
-
 use crate::print;
 use calls::numbers;
 use diskette::{Kind, WhichKind};
 use stamps::{Packed, Stamp};
+use std::io;
+use std::io::Write;
 
 // P1 and P2: entries of a table that starts at byte 0.
 pub fn table_entries(out: &mut impl Write) -> io::Result<()> {
@@ -85,7 +84,11 @@ pub fn stamps(out: &mut impl Write) -> io::Result<()> {
             print::four_digits(out, time)?;
             print::line_end(out)
         }
-        Packed::OutOfRange => print::decimal(out, b"P6 is refused by ", numbers::OUT_OF_RANGE as u64),
+        Packed::OutOfRange => print::decimal(
+            out,
+            b"P6 is refused by ",
+            numbers::OUT_OF_RANGE as u64,
+        ),
     }
 }
 

@@ -1,13 +1,12 @@
 // P8 to P10: what close and seek answer on a volume with an open file.
-use std::io;
-use std::io::Write;
-
 use crate::{print, run};
 use calls::Answer;
 use closing::close::close;
 use creating::create::create;
 use formatting::format::format;
 use seeking::seek::seek;
+use std::io;
+use std::io::Write;
 
 // Prints what a call answered: its value behind the first label, or the number that refused it behind the second.
 fn answer(out: &mut impl Write, well: &[u8], refused: &[u8], a: Answer) -> io::Result<()> {

@@ -1,13 +1,12 @@
 // The worked numbers that need a volume: a full disk, a full root, a table without places.
-use std::io;
-use std::io::Write;
-
 use crate::print;
 use closing::close::close;
 use creating::create::create;
 use formatting::format::format;
 use freespace::free_space::free_space;
 use stamps::Stamp;
+use std::io;
+use std::io::Write;
 use writing::write::write;
 
 // Any time does: 1983-09-01 06:40:00.
