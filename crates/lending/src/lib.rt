@@ -16,8 +16,7 @@ use records::OpenRecord;
 use single::{held, place};
 use stamps::Stamp;
 
-// That the numbers of each record fit their types, which a proof learns of a record where it is read. It costs nothing: only
-// prove! calls it.
+// That the numbers of each record fit their types, which a proof learns of a record where it is read. Only prove! calls it.
 fn all_fit(row: &[OpenRecord]) -> bool
     ensures fit { AllFit row.now }
     ensures told { result ≡ true }
