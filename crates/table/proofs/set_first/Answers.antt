@@ -5,6 +5,9 @@ use lib.ListN.{length-set}
 use Rattle.std.proofs.Common.{rules}
 use Rattle.table.proofs.set_first.Goals as goal
 
+pub bounds-img-at : goal.bounds-img-at
+bounds-img-at c = omega arith
+
 pub bounds-img-at-3 : goal.bounds-img-at-3
 bounds-img-at-3 c = simp length-set (omega arith)
 
