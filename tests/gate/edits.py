@@ -29,8 +29,11 @@ class NoFact(Exception):
 
 
 def function_at(crate, path, number):
-    """The function whose source has this line, as the checker names it within its crate."""
-    lines = (crate / path).read_text().splitlines()[:number]
+    """The function whose source has this line, as the checker names it within its crate. An attribute is of the function below it."""
+    lines = (crate / path).read_text().splitlines()
+    while number < len(lines) and lines[number - 1].lstrip().startswith("#["):
+        number += 1
+    lines = lines[:number]
     found = [(at, line) for at, line in enumerate(map(FUNCTION.match, lines)) if line]
     if not found:
         raise NoFact(f"no function stands at {path}:{number}")

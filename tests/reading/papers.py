@@ -3,14 +3,15 @@
 - In a table with the columns Crate, File and Name, each name must be declared in crates/CRATE/FILE.
 - In a table with the column Open, `CRATE/FILE` is crates/CRATE/specs/FILE.antt, and `CRATE/src/FILE.rt` itself.
 - `NAME`, `crates/PATH` (or `NAME` of `crates/PATH`, `NAME` in `crates/PATH`): the name must be declared in that file.
-- `crate::module::name`: the name must be declared in crates/CRATE/src/MODULE.rt, without a module in src/lib.rt.
+- `crate::module::name`: the name must be declared in crates/CRATE/src/MODULE.rt, without a module in src/lib.rt;
+  `crate::module::Type::name` too, which is a function of the type.
 - Anything else must be a file or a folder here, or a name that the same paper cites in one of these ways.
 """
 
 import re
 
 IN_FILE = re.compile(r"`([^` /]+)`(?:,| of|, in| in) `(crates/[^`]+)`")
-IN_CODE = re.compile(r"[a-z_]+(::[a-z_]+)+")
+IN_CODE = re.compile(r"[a-z_]+(::[a-z_]+)*(::[A-Z]\w*)?::[a-z_]+")
 
 
 class Row:
@@ -80,6 +81,7 @@ def named_in(text):
     for other in quoted(IN_FILE.sub("", text)):
         if IN_CODE.fullmatch(other):
             crate, *modules, name = other.split("::")
+            modules = [module for module in modules if module.islower()]
             found.append((f"crates/{crate}/src/{modules[0] if modules else 'lib'}.rt", name))
     return found
 

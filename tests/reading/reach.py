@@ -7,7 +7,10 @@ import specs
 from words import NotRead
 
 # The language's own words and names.
-OWN = set("→ × ¬ ⊥ Type Unit elim _".split())
+OWN = set("→ × ¬ ⊥ Type Unit tt absurd elim _".split())
+# A clause of the code names these without an import.
+VARIANTS = {"Some", "None", "Ok", "Err"}
+LIMIT = re.compile(r"[iu](8|16|32|64|128|size)\.(MIN|MAX|BITS)")
 # Where the files with definitions and with laws are.
 SPECS = ("crates/*/specs/*.antt", "crates/*/proofs/Laws/*.antt")
 
@@ -22,7 +25,33 @@ class Definitions:
         self.types = {}
         for path, file in self.files.items():
             for name, kind in file.types.items():
+                if (path.split("/")[1], name) in self.types:
+                    raise NotRead(f"{kind.where()}: a second type of this name in the crate")
                 self.types[path.split("/")[1], name] = kind
+        self.impls = self.spoken()  # of a trait or a type
+
+    def spoken(self):
+        """The impls that say something, by their trait, or, where the trait is the library's, by their type; and by
+        both where both are ours."""
+        impls = {}
+        for file in self.files.values():
+            for impl in file.impls:
+                for thing in self.declared(impl, (impl.trait or set()) | impl.target):
+                    if impl.speaks():
+                        impls.setdefault(thing, set()).add(impl)
+        return impls
+
+    def declared(self, thing, names):
+        """The types and traits that these names of the code mean; names of the library's mean none of ours."""
+        file, crate = self.files[thing.path], thing.path.split("/")[1]
+        found = set()
+        for name in names:
+            *path, last = name.split("::")
+            home = file.crates.get(path[0] if path else last, crate)
+            if path and (path[0], last) in self.types:
+                home = path[0]
+            found.add(self.types.get((home, last)))
+        return found - {None}
 
     def items(self):
         return [item for module in self.modules.values() for item in module.items.values()]
@@ -63,10 +92,30 @@ class Definitions:
             return None, False
         raise NotRead(f"'{word}' is bound, declared and imported nowhere")
 
-    def constructs(self, module):
+    def meaning_in(self, thing):
+        """The meaning of the words of a declaration, or of a contract: there also of variants, which need no import."""
+        if isinstance(thing, specs.Item):
+            return lambda word: self.meaning(self.modules[thing.path], word)
+        file = self.files[thing.path]
+        near = self.declared(thing, {*thing.types, *file.types, *file.crates})
+
+        def meaning(word):
+            try:
+                return self.meaning(file.ghosts, word)
+            except NotRead:
+                kinds = [kind for kind in near if kind.kind == "enum" and word in kind.members]
+                if len(kinds) > 1 or not (kinds or word in VARIANTS or LIMIT.fullmatch(word)):
+                    raise
+                return (kinds or [None])[0], not LIMIT.fullmatch(word)
+
+        return meaning
+
+    def constructs(self, thing):
+        meaning = self.meaning_in(thing)
+
         def test(word):
             try:
-                return self.meaning(module, word)[1]
+                return meaning(word)[1]
             except NotRead:
                 return False
 
@@ -76,19 +125,29 @@ class Definitions:
         """The items and types that a declaration or a contract names."""
         try:
             if isinstance(thing, specs.Item):
-                module = self.modules[thing.path]
-                words = specs.names_of(thing, self.constructs(module), statement_only)
-                return self.named(module, words) - {thing}
-            file, crate = self.files[thing.path], thing.path.split("/")[1]
-            found = {self.types.get((file.crates.get(name, crate), name)) for name in thing.types}
-            if isinstance(thing, source.Function):
-                found |= self.named(file.ghosts, source.names_of(thing, self.constructs(file.ghosts)))
-            return found - {None}
+                words = specs.names_of(thing, self.constructs(thing), statement_only)
+                return self.named(thing, words) - {thing}
+            found = self.declared(thing, thing.types) | self.impls.get(thing, set())
+            words = source.names_of(thing, self.constructs(thing), self.proved(thing))
+            return (found | self.named(thing, words)) - {thing}
         except NotRead as why:
             raise NotRead(f"{thing.where()}: {why}") from None
 
-    def named(self, module, words):
-        return {self.meaning(module, word)[0] for word in words} - {None}
+    def proved(self, thing):
+        """The ghost members of an impl that are its trait's laws: their text is a proof."""
+        if not isinstance(thing, source.Impl):
+            return set()
+        traits = self.declared(thing, thing.trait or set())
+        return {law for trait in traits if isinstance(trait, source.Trait) for law in trait.laws()}
+
+    def library(self, item):
+        """The library's and the language's names that a declaration uses."""
+        words = specs.names_of(item, self.constructs(item))
+        return {word for word in words if self.meaning_in(item)(word)[0] is None}
+
+    def named(self, thing, words):
+        meaning = self.meaning_in(thing)
+        return {meaning(word)[0] for word in words} - {None}
 
 
 def own(module, name):

@@ -1,7 +1,8 @@
 """Whether docs/READING.md has all that a reader must read, and whether the papers cite what there is.
 
 What must be read is what the contracts of the public calls, the promises, the worked numbers and the theorems about
-tests reach (roots.py says which). A definition that none of these reaches belongs in specs/Aids/.
+tests reach (roots.py says which). A definition that none of these reaches belongs in specs/Aids/. Who reads a trait reads its impls
+too: what its ghost members are at each type.
 """
 
 import floors
@@ -16,8 +17,9 @@ READING = "docs/READING.md"
 UNIQUENESS = "docs/UNIQUENESS.md"
 PAPERS = [READING, UNIQUENESS, "docs/TARE.md"]
 HEADER = "include/balladmoor.h"
-# The head of the column of enums in READING.md.
+# The head of the column of enums in READING.md; and the library's enums, which stand in it too.
 ENUMS = "Enum: its cases"
+LIBRARY = {"Option", "Result"}
 
 
 class Reading:
@@ -70,19 +72,27 @@ class Reading:
             self.tally.check(is_cited, f"{thing.where()} must be read, and no row of {READING} cites it")
 
     def check_enums(self):
-        """Each enum that must be read stands in the table of enums, with definitions that go by its cases."""
+        """Each enum that must be read, or that is the library's and is named in what must be read, stands in the table of
+        enums, with definitions that go by its cases."""
         paper, of_row, said = self.papers[READING], [], set()
         for row in paper.table(ENUMS):
             of_row = quoted(row.cells[ENUMS]) or of_row
             for path, name in row.cites():
                 items = self.definitions.modules[path].items if path in self.definitions.modules else {}
-                used = {thing.name for thing in self.definitions.uses(items[name])} if name in items else set()
+                used = self.spoken_of(items[name]) if name in items else set()
                 said |= used & set(of_row)
                 speaks = f"{paper.path}, line {row.line}: '{name}' of {path} does not speak of {' and '.join(of_row)}"
                 self.tally.check(used & set(of_row) or not items, speaks)
         for thing in self.reached:
             if thing.path.endswith(".rt") and thing.kind == "enum":
                 self.tally.check(thing.name in said, f"{thing.where()} is an enum that {READING} has in no row of '{ENUMS}'")
+        read = [thing for thing in self.reached if not thing.path.endswith(".rt") and not reach.is_apart(thing)]
+        for name in sorted(LIBRARY & {word for thing in read for word in self.definitions.library(thing)}):
+            self.tally.check(name in said, f"'{name}' of the library is an enum that {READING} has in no row of '{ENUMS}'")
+
+    def spoken_of(self, item):
+        """The names of our types and of the library's enums that a definition uses."""
+        return {thing.name for thing in self.definitions.uses(item)} | LIBRARY & self.definitions.library(item)
 
     def check_citations(self):
         for paper in self.papers.values():
@@ -93,7 +103,7 @@ class Reading:
                 self.tally.check(self.declares(path, name), f"{here}: '{name}' is not declared in {path}")
             for line, what in paper.others:
                 here = f"{paper.path}, line {line}"
-                known = what in names or self.tree.has(what)
+                known = what in names or what in LIBRARY or self.tree.has(what)
                 self.tally.check(known, f"{here}: '{what}' is no file here, and no row cites it with its file")
             for row in paper.rows:
                 empty = "Name" in row.cells and not quoted(row.cells["Name"])
@@ -106,6 +116,7 @@ class Reading:
             return any(name == item.name or name in dict(item.members) for item in items)
         if path in self.definitions.files:
             file = self.definitions.files[path]
-            members = [member for kind in file.types.values() for member in kind.members]
-            return name in [function.name for function in file.functions] + [*file.types, *members, *file.constants]
+            things = [*file.types.values(), *file.impls]
+            members = [member for thing in things for member in (thing.name, *thing.members)]
+            return name in [function.name for function in file.functions] + [*members, *file.constants]
         return False

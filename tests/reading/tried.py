@@ -1,15 +1,18 @@
-"""Tests of these checks: the scopes of names in a small crate; and edits of this repository, made in memory, that must
-be found."""
+"""Tests of these checks: the scopes of names in a small crate; forms of code that are not read; and edits of this
+repository, made in memory, that must be found."""
 
 import re
 
 import page
+import source
 from papers import quoted
 from reach import Definitions, is_apart
 from reading import ENUMS, HEADER, READING, UNIQUENESS, Reading
 from roots import TESTS
 from tree import Tree
+from words import NotRead
 
+RULES = "crates/a/src/rules.rt"
 # A crate with a definition for each way in which a name is bound.
 CRATE = {
     "crates/a/specs/Used.antt": """
@@ -118,7 +121,113 @@ pub fn found(k: Kind) -> Found
     Used
 }
 """,
+    RULES: """
+use crate::{Found, Kind};
+use std::array;
+ghost use Rattle.std.specs.Prelude.{◌≡◌, ForSome};
+ghost use Rattle.a.specs.Used.{used, Used};
+ghost use Rattle.a.specs.Uses.{plainly, by_alias, by_module, by_operator, by_argument, taken};
+
+pub struct Plain;
+
+pub struct Pair(pub u8, pub Kind);
+
+#[derive(Clone, Copy)]
+pub struct Part<'a> {
+    pub core: &'a [u8],
+    pub of: Kind,
 }
+
+impl Part<'_> {
+    const OPEN: u8 = b'{';
+
+    #[tactic(auto, unfolding(crate::specs::Used::used))]
+    pub fn byte(&self, i: usize) -> u8
+        ensures { result ≡ plainly }
+    {
+        self.core.get(i).map_or(b'\\'', |&c| if c == b'{' { b'"' } else { c })
+    }
+}
+
+// How parts are read: { Kind }
+pub trait Rule {
+    ghost good: { Used → Self → Type 0 };
+
+    ghost filler: { Type 0 };
+
+    // The part of t
+    fn part(t: &[u8]) -> Option<Part<'_>>
+        ensures good { good by_alias t.now }
+        ensures filler { result ≡ filler };
+
+    ghost as_said: { filler ≡ by_module };
+}
+
+impl Rule for Plain {
+    ghost good = { λ used. taken };
+
+    ghost filler = { used };
+
+    fn part(t: &[u8]) -> Option<Part<'_>> {
+        t.strip_suffix(b"}").map(|core| Part { core, of: Kind { byte: 0 } })
+    }
+
+    ghost as_said = { by_operator };
+}
+
+impl TryFrom<u8> for Kind {
+    type Error = Found;
+
+    ghost try_from_gives = { by_argument };
+
+    fn try_from(byte: u8) -> Result<Self, Found> {
+        Ok(Kind { byte })
+    }
+}
+
+pub fn spelled<R: Rule, F: Fn(u8, used) -> u8, const N: usize>(s: &[u8; N], by: used::F) -> Result<[u8; 11], Pair>
+    ensures { result ≡ R.good s.now N used }
+{
+    array::from_fn(|i| f(s[i]))
+}
+
+fn limited(n: usize) -> Option<usize>
+    ensures { ForSome result (elim [ Some n ↦ n ≡ usize.MAX | At k ↦ Ok used ]) }
+{
+    Some(n)
+}
+
+fn hidden() -> (&[u8], Plain) {
+    (b"", Plain)
+}
+""",
+    "crates/b/src/lib.rt": """
+use a::rules::{Part, Rule};
+
+pub mod below;
+
+pub fn afar<'a, R: Rule>(p: Part<'a>, k: a::Kind) -> Option<(u8, [u8; 11])> {
+    None
+}
+""",
+}
+# Forms of code that are not read.
+STRANGE = [
+    *("pub union Odd {\n    a: u8,\n}", "macro_rules! odd {}", "static ODD: u8 = 0;", "pub(crate) fn odd() {}"),
+    *("const fn odd() -> u8 {\n    0\n}", "unsafe fn odd() {}", "async fn odd() {}", "/* a comment */"),
+    *("use a::*;", "use a as b;", "use a::{b::{c}};", "pub fn odd() -> u8\nwhere\n    u8: Copy,\n{\n    0\n}"),
+    *("pub struct Odd {\n    pub n: u8,\n    ghost is: { n ≡ 0 },\n}", "pub struct Odd;\npub enum Odd {}"),
+    *("impl Kind {\n    ghost good = { 0 };\n}", "impl Rule for Kind {\n    ghost good: { Type 0 };\n}"),
+    *("pub trait Odd {\n    ghost good = { 0 };\n}", "pub trait Odd {\n    law good: { 0 };\n}", "ghost good = { 0 };"),
+    *("fn odd() {\n    ghost let x = { 0 };\n}", "fn odd() {\n    fn inner() {}\n}", "fn odd() {\n    impl Rule for Kind {}\n}"),
+    *("fn odd() {", "pub trait Odd", "fn odd()\n    promises { 0 }\n{\n}", "fn odd()\n    ensures { 0 };"),
+    *("impl Rule for Kind {\n    struct Odd;\n}", "pub type Odd = u8;"),
+]
+# A name in a clause or a ghost member, and what is not read where it is declared nowhere.
+NOWHERE = {"≡ plainly": "byte", "usize.MAX": "limited", "Ok used": "limited", "good by_alias": "Rule", "λ used. taken": "Rule for Plain"}
+# A trait with ghost members, and a call's file that does not name it.
+RULE = ("crates/names/src/lib.rt", "names::Rule")
+OPEN = "crates/opening/src/open.rt"
 # The law that proves the worked numbers.
 WORKED = "crates/worked/proofs/Laws/Worked.antt"
 # What each of its definitions, types and contracts names.
@@ -128,21 +237,50 @@ USES = {
     **{"after_lambda": "used", "before_let": "used", "after_case": "used"},
     **{"constructed": "Used", "taken": "Used", "variant": "Found"},
     **{"Found": "Kind", "given": "Kind", "found": "Found Kind used"},
+    **{"Pair": "Kind", "Part": "Kind", "byte": "Part plainly", "hidden": "Plain", "Plain": "Rule for Plain"},
+    **{"Rule": "Part Rule for Plain Used by_alias by_module", "Rule for Plain": "Plain Rule taken used"},
+    **{"Kind": "TryFrom<u8> for Kind", "TryFrom<u8> for Kind": "Found Kind by_argument"},
+    **{"limited": "Found used", "spelled": "Pair Rule used", "afar": "Kind Part Rule"},
 }
 
 
 def try_all(found):
     """Adds what is tried to the tally of what was found in the repository."""
     definitions = Definitions(Tree("nowhere", CRATE))
-    code = definitions.files["crates/a/src/lib.rt"]
-    things = {thing.name: thing for thing in [*definitions.items(), *code.functions, *code.types.values()]}
+    code = definitions.files.values()
+    declared = [thing for file in code for thing in [*file.functions, *file.types.values(), *file.impls]]
+    things = {thing.name: thing for thing in [*definitions.items(), *declared]}
     for name, uses in USES.items():
-        got = sorted(thing.name for thing in definitions.uses(things[name]))
-        found.tally.check(got == uses.split(), f"tests/reading/tried.py: '{name}' names {got}, and not {uses.split()}")
+        got = " ".join(sorted(thing.name for thing in definitions.uses(things[name])))
+        found.tally.check(got == uses, f"tests/reading/tried.py: '{name}' names '{got}', and not '{uses}'")
+    for name, of in NOWHERE.items():
+        text = CRATE[RULES].replace(name, "nowhere")
+        found.tally.check(not is_known(text, of), f"tests/reading/tried.py: '{of}' names what is nowhere")
+    for text in STRANGE:
+        found.tally.check(not is_read(text), f"tests/reading/tried.py: this form is read: {text}")
     for what, path, text, expected in edits(found):
         tally = Reading(found.tree.with_text(path, text)).tally
         new = set(tally.wrong) - set(found.tally.wrong)
         found.tally.check(any(expected in wrong for wrong in new), f"tests/reading/tried.py: {what} is not found")
+
+
+def is_read(text):
+    try:
+        source.parsed("crates/a/src/lib.rt", f"{text}\n")
+        return True
+    except NotRead:
+        return False
+
+
+def is_known(text, of):
+    """Whether every name in what is declared is known, if a file of the small crate has this text."""
+    definitions = Definitions(Tree("nowhere", {**CRATE, RULES: text}))
+    file = definitions.files[RULES]
+    things = [thing for thing in [*file.functions, *file.types.values(), *file.impls] if thing.name == of]
+    try:
+        return [definitions.uses(thing) for thing in things] != []
+    except NotRead:
+        return False
 
 
 def edits(found):
@@ -184,6 +322,10 @@ def edits_of_code(found):
     yield "no promise", call.path, in_contract(text, call, r"ensures \{.*?\}\n", ""), "promises nothing"
     asking = "requires { 0 }\n    ensures"
     yield "a condition", call.path, in_contract(text, call, "ensures", asking), "asks for something"
+    generic = f"pub fn needless<R: {RULE[1]}>(s: &[u8]) -> bool\n    ensures {{ R.good s.now }}\n{{\n    true\n}}\n"
+    generic = f"{found.tree.text(OPEN)}\n{generic}"
+    yield "a trait in a contract", OPEN, generic, f"'Rule' in {RULE[0]} must be read, and no row"
+    yield "what its ghost members are at a type", OPEN, generic, f"'Rule for Plain' in {RULE[0]} must be read, and no row"
     export = next(call for call in found.calls if call.for_c and len(call.clauses) == 1)
     text = found.tree.text(export.path)
     yield "another promise for C", export.path, in_contract(text, export, r" result", " 0"), "that it exports"

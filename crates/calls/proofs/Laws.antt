@@ -1,4 +1,5 @@
 -- The laws of the definitions in specs/.
+pub mod Exits
 pub mod Rows
 pub mod Ready
 pub mod Files

@@ -1,3 +1,2 @@
 -- Aids to the proofs. No definition beside this folder rests on them.
-pub mod Answers
 pub mod Ready

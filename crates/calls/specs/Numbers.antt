@@ -1,5 +1,7 @@
 -- The refusal numbers of documents 01 and 02: each once, by a name that the rows of the calls use. The rows have the order of test.
 use Rattle.std.specs.Prelude.{ℕ}
+use Rattle.calls.specs.declared.refusal.Refusal.{Refusal}
+use Rattle.calls.specs.declared.refusal.Refusal.TheVariants.{InvalidFunction, FileNotFound, TooManyOpen, AccessDenied, InvalidHandle, InvalidAccess, NoMoreFiles, OfNoKind, Unsound, BreaksRules, OutOfRange}
 
 -- ---- "Numbers 1 to 12 have the meaning of its Error Return Table"
 
@@ -50,3 +52,18 @@ breaks_rules = 42
 -- a stamp out of its ranges
 abbrev pub out_of_range : ℕ
 out_of_range = 43
+
+-- ---- the number of each refusal of the code
+
+abbrev pub refusal_number : Refusal → ℕ
+refusal_number InvalidFunction = invalid_function
+refusal_number FileNotFound = file_not_found
+refusal_number TooManyOpen = too_many_open
+refusal_number AccessDenied = access_denied
+refusal_number InvalidHandle = invalid_handle
+refusal_number InvalidAccess = invalid_access
+refusal_number NoMoreFiles = no_more_files
+refusal_number OfNoKind = of_no_kind
+refusal_number Unsound = unsound
+refusal_number BreaksRules = breaks_rules
+refusal_number OutOfRange = out_of_range

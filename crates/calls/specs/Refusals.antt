@@ -1,42 +1,36 @@
 -- Document 01, "Refusal numbers, in order of test": each row's "when" as a test of what came in.
-use Rattle.std.specs.Prelude.{ℕ, ◌+◌, ◌*◌, ◌/◌, ◌%◌, Bool, true, false, not, List, eqb}
+use Rattle.std.specs.Prelude.{ℕ, ◌+◌, ◌*◌, ◌/◌, ◌%◌, Bool, true, false, not, List, eqb, Option, Some, None, is_none}
 use Rattle.diskette.specs.Images.{kind_of_image}
 use Rattle.diskette.specs.Kinds.{kind_fe}
 use Rattle.diskette.specs.Places.{root_entries, slot_at}
 use Rattle.diskette.specs.declared.Kind.{Kind}
-use Rattle.diskette.specs.declared.WhichKind.{WhichKind}
-use Rattle.diskette.specs.declared.WhichKind.TheVariants.{Known, Unknown}
 use Rattle.search.specs.Search.{is_found}
-use Rattle.search.specs.declared.Found.{Found}
-use Rattle.search.specs.declared.Found.TheVariants.{At, Nothing}
 use Rattle.fields.specs.Fields.{attr_of}
 use Rattle.directory.specs.Slots.{has_bit}
 use Rattle.directory.specs.Search.{lowest_vacant, slot_named}
-use Rattle.names.specs.Reading.{name_given}
+use Rattle.names.specs.Reading.{name_given, name_bytes}
 use Rattle.stamps.specs.Stamps.{packed}
 use Rattle.stamps.specs.declared.Stamp.{Stamp}
-use Rattle.stamps.specs.declared.Packed.{Packed}
-use Rattle.stamps.specs.declared.Packed.TheVariants.{Words, OutOfRange}
 use Rattle.opened.specs.Places.{is_live, lowest_unused}
 use Rattle.sound.specs.Judged.{is_sound}
 use Rattle.calls.specs.Numbers.{out_of_range}
 
 -- ---- what a search found, as a number (0 where there is nothing; no rule rests on it then)
 
-abbrev pub place_found : Found → ℕ
-place_found (At i) = i
-place_found Nothing = 0
+abbrev pub place_found : Option ℕ → ℕ
+place_found (Some i) = i
+place_found None = 0
 
 -- ---- the volume
 
-abbrev pub is_unknown : WhichKind → Bool
-is_unknown (Known k) = false
-is_unknown Unknown = true
+abbrev pub is_unknown : Option Kind → Bool
+is_unknown (Some k) = false
+is_unknown None = true
 
 -- the kind, where there is one
-abbrev pub kind_found : WhichKind → Kind
-kind_found (Known k) = k
-kind_found Unknown = kind_fe
+abbrev pub kind_found : Option Kind → Kind
+kind_found (Some k) = k
+kind_found None = kind_fe
 
 abbrev pub the_kind : List ℕ → Kind
 the_kind img = kind_found (kind_of_image img)
@@ -53,12 +47,12 @@ not_sound img = not (is_sound img)
 
 -- 42: a name breaks the rules
 abbrev pub bad_name : List ℕ → Bool
-bad_name s = not (name_given s).fits
+bad_name s = is_none (name_given s)
 
 -- a stamp's words by this paper's number: 43, or 0 where they are no refusal
-abbrev pub stamp_number : Packed → ℕ
-stamp_number (Words time date) = 0
-stamp_number OutOfRange = out_of_range
+abbrev pub stamp_number : Option (ℕ × ℕ) → ℕ
+stamp_number (Some (time, date)) = 0
+stamp_number None = out_of_range
 
 -- 43: a stamp out of its ranges
 abbrev pub bad_stamp : Stamp → Bool
@@ -71,8 +65,8 @@ bad_attr a = not (eqb a (a % 8 + a / 32 % 2 * 32))
 -- ---- files and places
 
 -- the slot of the plain file that a caller's name means
-unfoldable pub file_found : List ℕ → List ℕ → Found
-file_found img s = slot_named img (slot_at (the_kind img)) (root_entries (the_kind img)) (name_given s).name
+unfoldable pub file_found : List ℕ → List ℕ → Option ℕ
+file_found img s = slot_named img (slot_at (the_kind img)) (root_entries (the_kind img)) (name_bytes (name_given s))
 
 -- 2: no such plain file
 abbrev pub no_file : List ℕ → List ℕ → Bool
@@ -101,5 +95,5 @@ abbrev pub free_place : List ℕ → ℕ
 free_place t = place_found (lowest_unused t)
 
 -- the lowest erased or never-used slot
-unfoldable pub slot_for_new : List ℕ → Found
+unfoldable pub slot_for_new : List ℕ → Option ℕ
 slot_for_new img = lowest_vacant img (slot_at (the_kind img)) (root_entries (the_kind img))

@@ -7,10 +7,9 @@ ghost use Rattle.calls.specs.Aids.Ready.{OnVolume};
 ghost use Rattle.calls.specs.Refusals.{read_only};
 
 use diskette::Kind;
-use search::Found;
 
 // The slot of the plain file of that name.
-pub fn file_named(img: &[u8], k: Kind, name: [u8; 11]) -> Found
+pub fn file_named(img: &[u8], k: Kind, name: [u8; 11]) -> Option<usize>
     requires { OnVolume img.now k }
     ensures { result ≡ slot_named img.now (slot_at k) (root_entries k) name }
 {
@@ -27,7 +26,7 @@ pub fn is_read_only(img: &[u8], k: Kind, slot: usize) -> bool
 }
 
 // The slot of the file that the handle reaches.
-pub fn file_open(img: &[u8], k: Kind, t: &[u8], handle: u32) -> Found
+pub fn file_open(img: &[u8], k: Kind, t: &[u8], handle: u32) -> Option<usize>
     requires { OnVolume img.now k }
     ensures { result ≡ live_slot t.now handle img.now (slot_at k) (root_entries k) }
 {

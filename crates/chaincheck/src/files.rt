@@ -6,8 +6,7 @@ ghost use Rattle.table.specs.Entries.{word_at, table_of};
 ghost use Rattle.walks.specs.Aids.Walks.{Tails};
 ghost use Rattle.chaincheck.specs.Aids.Visits.{SlotVisited, FilesVisited};
 
-use crate::{Chains, Slot};
-use walks::Length;
+use crate::{BadChain, Chains};
 
 // Whether n clusters have room for size bytes. (This product costs less than the quotient that says how many are needed.)
 fn has_room(n: usize, size: usize, cb: usize) -> bool
@@ -18,8 +17,8 @@ fn has_room(n: usize, size: usize, cb: usize) -> bool
     size <= n * cb
 }
 
-// Visits the chain of the entry at byte a, if it is a plain file, and holds its length against the size. A cluster has cb
-// bytes.
+// Visits the chain of the entry at byte a, if it is a plain file, and holds its length against the size: how many clusters the
+// file has. A cluster has cb bytes.
 fn visit_slot(
     img: &[u8],
     marks: &mut [u8],
@@ -27,7 +26,7 @@ fn visit_slot(
     a: usize,
     last: usize,
     cb: usize,
-) -> Slot
+) -> Result<Option<usize>, BadChain>
     requires last_bound { last ≤ 4079 }
     requires last_in_bounds { word_at 512 last + 2 ≤ length img.now }
     requires last_in_bounds_2 { (last < length marks.old) × (last < length left.old) }
@@ -37,22 +36,22 @@ fn visit_slot(
     ensures { SlotVisited last cb img.now a marks.old result marks.new left.new }
 {
     if !directory::plain_at(img, a) {
-        return Slot::NoFile;
+        return Ok(None);
     }
     let size = fields::size_at(img, a) as usize;
-    match walks::chain::visit(img, marks, left, last, fields::start_at(img, a) as usize) {
-        Length::Of(n) => {
-            if has_room(n, size, cb) {
-                Slot::Clusters(n)
-            } else {
-                Slot::Bad
-            }
-        }
-        Length::NoEnd => Slot::Bad,
+    let start = fields::start_at(img, a) as usize;
+    let Some(n) = walks::chain::visit(img, marks, left, last, start) else {
+        return Err(BadChain);
+    };
+    if has_room(n, size, cb) {
+        Ok(Some(n))
+    } else {
+        Err(BadChain)
     }
 }
 
-// Visits the files of a directory with count slots that stands at byte root, in slot order, up to the first bad one.
+// Visits the files of a directory with count slots that stands at byte root, in slot order, up to the lowest slot of a file
+// with a bad chain: that is the error.
 pub fn visit_files(
     img: &[u8],
     marks: &mut [u8],
@@ -61,7 +60,7 @@ pub fn visit_files(
     count: usize,
     last: usize,
     cb: usize,
-) -> Chains
+) -> Result<Chains, usize>
     requires last_bound { last ≤ 4079 }
     requires last_in_bounds { word_at 512 last + 2 ≤ length img.now }
     requires last_in_bounds_2 { (last < length marks.old) × (last < length left.old) }
@@ -72,17 +71,12 @@ pub fn visit_files(
 {
     let mut files: usize = 0;
     let mut held: usize = 0;
-    let mut s: usize = 0;
-    while s < count {
-        match visit_slot(img, marks, left, root + 32 * s, last, cb) {
-            Slot::NoFile => (),
-            Slot::Bad => return Chains::BadChain(s),
-            Slot::Clusters(n) => {
-                files += 1;
-                held += n;
-            }
+    for s in 0..count {
+        let visited = visit_slot(img, marks, left, root + 32 * s, last, cb);
+        if let Some(n) = visited.map_err(|_| s)? {
+            files += 1;
+            held += n;
         }
-        s += 1;
     }
-    Chains::Held(files, held)
+    Ok(Chains { files, held })
 }

@@ -4,17 +4,13 @@
 pub mod files;
 pub mod marks;
 
-// The lowest slot of a file with a bad chain; or how many files there are and how many clusters they hold.
+// How many files there are, and how many clusters they hold.
 #[derive(Clone, Copy)]
-pub enum Chains {
-    BadChain(usize),
-    Held(usize, usize),
+pub struct Chains {
+    pub files: usize,
+    pub held: usize,
 }
 
-// What a slot of a directory holds: no file, one with a bad chain, or one with that many clusters.
+// The chain of a file is bad.
 #[derive(Clone, Copy)]
-pub enum Slot {
-    NoFile,
-    Bad,
-    Clusters(usize),
-}
+pub struct BadChain;

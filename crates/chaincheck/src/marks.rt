@@ -4,7 +4,6 @@ ghost use Rattle.chains.specs.Aids.Check.{in_two, lost};
 ghost use Rattle.search.specs.Search.{lowest, is_found};
 ghost use Rattle.table.specs.Entries.{word_at, table_of};
 
-use search::Found;
 use values::Meaning;
 
 // Whether no cluster was met twice. All are looked at: without an early way out the compiler takes many at a time.
@@ -13,36 +12,19 @@ fn none_in_two(marks: &[u8], last: usize) -> bool
     requires last_in_bounds { last < length marks.now }
     ensures { result ≡ not (is_found (lowest (in_two marks.now) 2 (last - 1))) }
 {
-    let after = last + 1;
-    let mut none = true;
-    let mut c: usize = 2;
-    while c < after {
-        if marks[c] == 2 {
-            none = false;
-        }
-        c += 1;
-    }
-    none
+    (2..last + 1).fold(true, |none, c| none & (marks[c] != 2))
 }
 
 // The lowest cluster that was met twice. As a rule there is none, and nothing is searched.
-pub fn first_in_two(marks: &[u8], last: usize) -> Found
+pub fn first_in_two(marks: &[u8], last: usize) -> Option<usize>
     requires last_bound { last ≤ 4079 }
     requires last_in_bounds { last < length marks.now }
     ensures { result ≡ lowest (in_two marks.now) 2 (last - 1) }
 {
     if none_in_two(marks, last) {
-        return Found::Nothing;
+        return None;
     }
-    let after = last + 1;
-    let mut twice: usize = 2;
-    while twice < after {
-        if marks[twice] == 2 {
-            return Found::At(twice);
-        }
-        twice += 1;
-    }
-    Found::Nothing
+    (2..last + 1).find(|&c| marks[c] == 2)
 }
 
 // Whether cluster c was not met and its value is a link or an end.
@@ -56,30 +38,19 @@ fn is_lost(img: &[u8], marks: &[u8], last: usize, c: usize) -> bool
     if marks[c] != 0 {
         return false;
     }
-    match values::meaning_of(walks::chain::value_of(img, last, c), last) {
-        Meaning::Free => false,
-        Meaning::Next(_) => true,
-        Meaning::Bad => false,
-        Meaning::Reserved => false,
-        Meaning::End => true,
-        Meaning::NoneOfThese => false,
-    }
+    let value = walks::chain::value_of(img, last, c);
+    matches!(
+        values::meaning_of(value, last),
+        Meaning::Next(_) | Meaning::End
+    )
 }
 
 // The lowest such cluster.
-pub fn first_lost(img: &[u8], marks: &[u8], last: usize) -> Found
+pub fn first_lost(img: &[u8], marks: &[u8], last: usize) -> Option<usize>
     requires last_bound { last ≤ 4079 }
     requires last_in_bounds { word_at 512 last + 2 ≤ length img.now }
     requires last_in_bounds_2 { last < length marks.now }
     ensures { result ≡ lowest (lost last (table_of last img.now) marks.now) 2 (last - 1) }
 {
-    let after = last + 1;
-    let mut c: usize = 2;
-    while c < after {
-        if is_lost(img, marks, last, c) {
-            return Found::At(c);
-        }
-        c += 1;
-    }
-    Found::Nothing
+    (2..last + 1).find(|&c| is_lost(img, marks, last, c))
 }

@@ -1,6 +1,5 @@
 -- The files of a volume: a file is a name, an attribute and bytes. Nothing above this knows of clusters.
-use Rattle.std.specs.Prelude.{ℕ, ◌*◌, List, ◌≡◌}
-use Rattle.std.proofs.Math.Option.{Option, none, some}
+use Rattle.std.specs.Prelude.{ℕ, ◌*◌, List, ◌≡◌, Option, Some, None}
 use Rattle.chains.specs.Content.{content}
 use Rattle.diskette.specs.Places.{first_data, cluster_bytes, slot_at}
 use Rattle.diskette.specs.declared.Kind.{Kind}
@@ -28,8 +27,8 @@ abbrev pub Files : Type 0
 Files = ℕ → Option File
 
 abbrev pub ShowsAt : Kind → List ℕ → ℕ → Option File → Type 0
-ShowsAt k l s none = ¬ IsFile k l s
-ShowsAt k l s (some f) = Holds k l s f
+ShowsAt k l s None = ¬ IsFile k l s
+ShowsAt k l s (Some f) = Holds k l s f
 
 -- the volume has these files and no others
 abbrev pub Shows : Kind → List ℕ → Files → Type 0

@@ -1,13 +1,13 @@
 // The bytes of a file along its chain: put, zeroed, fetched, and where they lie. Each loop goes cluster by cluster.
 #![tactic(auto)]
 
-ghost use Rattle.std.specs.Prelude.{◌≡◌, ◌+◌, ◌*◌, ◌/◌, ◌%◌, ◌≤◌, ◌<◌, length};
+ghost use Rattle.std.specs.Prelude.{◌≡◌, ◌+◌, ◌*◌, ◌/◌, ◌%◌, ◌≤◌, ◌<◌, length, MatchOption};
 ghost use Rattle.image.specs.Store.{stored, part};
 ghost use Rattle.chains.specs.Aids.Steps.{followed};
 ghost use Rattle.chains.specs.Content.{cluster_begin};
 ghost use Rattle.table.specs.Entries.{word_at, table_of};
 ghost use Rattle.contents.specs.Aids.Contents.{chain_from, Area, fetched, bytes_put, zeros_put, place_of};
-ghost use Rattle.contents.specs.Aids.Loops.{run_of};
+ghost use Rattle.contents.specs.Aids.Loops.{run_of, runs_at, Ready, Ran};
 
 use image::{copy_in, fill};
 
@@ -19,10 +19,8 @@ fn cluster_holding(img: &[u8], cb: usize, last: usize, start: usize, pos: usize)
     ensures { result ≡ followed (table_of last img.now) (pos / cb) start }
 {
     let mut cluster = start;
-    let mut links = pos / cb;
-    while 0 < links {
+    for _ in 0..pos / cb {
         cluster = links::value_of(img, last, cluster);
-        links -= 1;
     }
     cluster
 }
@@ -32,8 +30,7 @@ fn run_of(cb: usize, p: usize, left: usize) -> usize
     requires { 0 < cb }
     ensures { result ≡ run_of cb p left }
 {
-    let behind = cb - 1 - p % cb;
-    if behind < left { behind + 1 } else { left }
+    (cb - p % cb).min(left)
 }
 
 // Where byte p of a chain lies, if it is in that cluster.
@@ -64,6 +61,73 @@ fn copy_part(s: &mut [u8], at: usize, src: &[u8], from: usize, n: usize)
     copy_in(s, at, &src[from..from + n]);
 }
 
+// The runs of n bytes of a chain, from its byte pos on: done of the bytes are dealt with, and cluster holds the next one.
+#[derive(Clone, Copy)]
+struct Runs {
+    base: usize,
+    cb: usize,
+    last: usize,
+    pos: usize,
+    n: usize,
+    cluster: usize,
+    done: usize,
+}
+
+// One run, the bytes that lie in one cluster: len of them from byte at of the image on, done others before them.
+#[derive(Clone, Copy)]
+struct Run {
+    done: usize,
+    at: usize,
+    len: usize,
+}
+
+impl Runs {
+    fn new(
+        img: &[u8],
+        base: usize,
+        cb: usize,
+        last: usize,
+        start: usize,
+        pos: usize,
+        n: usize,
+    ) -> Runs
+        requires cb_nonzero { 0 < cb }
+        requires last_bound { last ≤ 4079 }
+        requires last_in_bounds { word_at 512 last + 2 ≤ length img.now }
+        ensures { result ≡ runs_at base cb last pos n (followed (table_of last img.now) (pos / cb) start) 0 }
+    {
+        let cluster = cluster_holding(img, cb, last, start, pos);
+        Runs {
+            base,
+            cb,
+            last,
+            pos,
+            n,
+            cluster,
+            done: 0,
+        }
+    }
+
+    // The next run, where there is one.
+    fn next_run(&mut self, img: &[u8]) -> Option<Run>
+        requires { Ready self.old (length img.now) }
+        ensures { MatchOption result (self.old.n ≤ self.old.done) (λ r. Ran self.old img.now r self.new) }
+    {
+        if self.n <= self.done {
+            return None;
+        }
+        let next = self.pos + self.done;
+        let run = Run {
+            done: self.done,
+            at: byte_in(self.base, self.cb, self.cluster, next),
+            len: run_of(self.cb, next, self.n - self.done),
+        };
+        self.cluster = links::value_of(img, self.last, self.cluster);
+        self.done += run.len;
+        Some(run)
+    }
+}
+
 // Puts the bytes of src into the chain, from its byte pos on.
 pub fn pour(
     img: &mut [u8],
@@ -78,14 +142,9 @@ pub fn pour(
     requires src_in_bounds { pos + length src.now ≤ length (chain_from last img.old start) * cb }
     ensures { img.new ≡ bytes_put base cb last img.old start pos src.now }
 {
-    let mut cluster = cluster_holding(img, cb, last, start, pos);
-    let mut done: usize = 0;
-    while done < src.len() {
-        let run = run_of(cb, pos + done, src.len() - done);
-        let at = byte_in(base, cb, cluster, pos + done);
-        cluster = links::value_of(img, last, cluster);
-        copy_part(img, at, src, done, run);
-        done += run;
+    let mut runs = Runs::new(img, base, cb, last, start, pos, src.len());
+    while let Some(run) = runs.next_run(img) {
+        copy_part(img, run.at, src, run.done, run.len);
     }
 }
 
@@ -103,14 +162,9 @@ pub fn pour_zeros(
     requires n_in_bounds { pos + n ≤ length (chain_from last img.old start) * cb }
     ensures { img.new ≡ zeros_put base cb last img.old start pos n }
 {
-    let mut cluster = cluster_holding(img, cb, last, start, pos);
-    let mut done: usize = 0;
-    while done < n {
-        let run = run_of(cb, pos + done, n - done);
-        let at = byte_in(base, cb, cluster, pos + done);
-        cluster = links::value_of(img, last, cluster);
-        fill(img, at, run, 0);
-        done += run;
+    let mut runs = Runs::new(img, base, cb, last, start, pos, n);
+    while let Some(run) = runs.next_run(img) {
+        fill(img, run.at, run.len, 0);
     }
 }
 
@@ -130,13 +184,8 @@ pub fn fetch(
     requires n_in_bounds_2 { n ≤ length out.old }
     ensures { out.new ≡ stored out.old 0 (fetched base cb last img.now start pos n) }
 {
-    let mut cluster = cluster_holding(img, cb, last, start, pos);
-    let mut done: usize = 0;
-    while done < n {
-        let run = run_of(cb, pos + done, n - done);
-        let at = byte_in(base, cb, cluster, pos + done);
-        cluster = links::value_of(img, last, cluster);
-        copy_part(out, done, img, at, run);
-        done += run;
+    let mut runs = Runs::new(img, base, cb, last, start, pos, n);
+    while let Some(run) = runs.next_run(img) {
+        copy_part(out, run.done, img, run.at, run.len);
     }
 }

@@ -7,14 +7,14 @@ ghost use Rattle.sound.specs.Files.{IsFile};
 ghost use Rattle.creating.specs.Create.{Creates};
 ghost use Rattle.creating.specs.Aids.Create.{Empties, MakesNew};
 
-use calls::{Answer, Ready, attribute, files, make_ready, numbers};
+use calls::refusal::Refusal;
+use calls::{attribute, files, make_ready};
 use diskette::Kind;
 use freeing::freed;
-use search::Found;
-use stamps::{Packed, Stamp};
+use stamps::Stamp;
 
 // The lowest slot that a new file may take.
-fn slot_for_new(img: &[u8], k: Kind) -> Found
+fn slot_for_new(img: &[u8], k: Kind) -> Option<usize>
     requires { OnVolume img.now k }
     ensures { result ≡ lowest_vacant img.now (slot_at k) (root_entries k) }
 {
@@ -31,27 +31,23 @@ fn empty_old(
     attr: u8,
     time: u16,
     date: u16,
-) -> Answer
+) -> Result<u32, Refusal>
     requires on_volume { OnVolume img.old k }
     requires file { IsFile k img.old slot }
     ensures { Empties img.old t.old k slot name attr time date result img.new t.new }
 {
     if opened::is_open(t, slot) {
-        return Answer::refused(numbers::ACCESS_DENIED);
+        return Err(Refusal::AccessDenied);
     }
     if files::is_read_only(img, k, slot) {
-        return Answer::refused(numbers::ACCESS_DENIED);
+        return Err(Refusal::AccessDenied);
     }
-    match opened::lowest_unused(t) {
-        Found::Nothing => Answer::refused(numbers::TOO_MANY_OPEN),
-        Found::At(place) => {
-            opened::put_record(t, place, 2, slot as u32, 0);
-            let a = k.slot_at(slot);
-            freed::free_file(img, k, a);
-            fields::write_entry(img, a, name, attr, time, date, 0, 0);
-            Answer::well(place as u32)
-        }
-    }
+    let place = opened::lowest_unused(t).ok_or(Refusal::TooManyOpen)?;
+    let a = k.slot_at(slot);
+    freed::free_file(img, k, a);
+    fields::write_entry(img, a, name, attr, time, date, 0, 0);
+    opened::put_record(t, place, 2, slot as u32, 0);
+    Ok(place as u32)
 }
 
 // Makes a new file, where a slot is open and a place unused.
@@ -63,52 +59,50 @@ fn make_new(
     attr: u8,
     time: u16,
     date: u16,
-) -> Answer
+) -> Result<u32, Refusal>
     requires { OnVolume img.old k }
     ensures { MakesNew img.old t.old k name attr time date result img.new t.new }
 {
-    match slot_for_new(img, k) {
-        Found::Nothing => Answer::refused(numbers::ACCESS_DENIED),
-        Found::At(slot) => match opened::lowest_unused(t) {
-            Found::Nothing => Answer::refused(numbers::TOO_MANY_OPEN),
-            Found::At(place) => {
-                fields::write_entry(img, k.slot_at(slot), name, attr, time, date, 0, 0);
-                opened::put_record(t, place, 2, slot as u32, 0);
-                Answer::well(place as u32)
-            }
-        },
-    }
+    let slot = slot_for_new(img, k).ok_or(Refusal::AccessDenied)?;
+    let place = opened::lowest_unused(t).ok_or(Refusal::TooManyOpen)?;
+    fields::write_entry(img, k.slot_at(slot), name, attr, time, date, 0, 0);
+    opened::put_record(t, place, 2, slot as u32, 0);
+    Ok(place as u32)
 }
 
 // Creates a file on a volume that is ready.
-fn create_on(img: &mut [u8], k: Kind, t: &mut [u8], s: &[u8], attr: u32, stamp: Stamp) -> Answer
+fn create_on(
+    img: &mut [u8],
+    k: Kind,
+    t: &mut [u8],
+    s: &[u8],
+    attr: u32,
+    stamp: Stamp,
+) -> Result<u32, Refusal>
     requires { OnVolume img.old k }
     ensures { Creates img.old t.old s.now attr stamp result img.new t.new }
 {
-    let given = names::name_given(s);
-    if !given.fits {
-        return Answer::refused(numbers::BREAKS_RULES);
+    let name = names::name_given(s).ok_or(Refusal::BreaksRules)?;
+    let (time, date) = stamp.pack().ok_or(Refusal::OutOfRange)?;
+    if attribute::is_bad_attr(attr) {
+        return Err(Refusal::AccessDenied);
     }
-    match stamp.pack() {
-        Packed::OutOfRange => Answer::refused(numbers::OUT_OF_RANGE),
-        Packed::Words(time, date) => {
-            if attribute::is_bad_attr(attr) {
-                return Answer::refused(numbers::ACCESS_DENIED);
-            }
-            let name = given.name;
-            match files::file_named(img, k, name) {
-                Found::Nothing => make_new(img, k, t, name, attr as u8, time, date),
-                Found::At(slot) => empty_old(img, k, t, slot, name, attr as u8, time, date),
-            }
-        }
+    let attr = attr as u8;
+    match files::file_named(img, k, name) {
+        None => make_new(img, k, t, name, attr, time, date),
+        Some(slot) => empty_old(img, k, t, slot, name, attr, time, date),
     }
 }
 
-pub fn create(img: &mut [u8], t: &mut [u8], s: &[u8], attr: u32, stamp: Stamp) -> Answer
+pub fn create(
+    img: &mut [u8],
+    t: &mut [u8],
+    s: &[u8],
+    attr: u32,
+    stamp: Stamp,
+) -> Result<u32, Refusal>
     ensures { Creates img.old t.old s.now attr stamp result img.new t.new }
 {
-    match make_ready(img) {
-        Ready::Refused(number) => Answer::refused(number),
-        Ready::Volume(k, _) => create_on(img, k, t, s, attr, stamp),
-    }
+    let (k, _) = make_ready(img)?;
+    create_on(img, k, t, s, attr, stamp)
 }

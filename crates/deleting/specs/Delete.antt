@@ -8,7 +8,7 @@ use Rattle.calls.specs.Outcome.{Row, Outcome, outcome, decided}
 use Rattle.calls.specs.Numbers.{of_no_kind, unsound, breaks_rules, file_not_found, access_denied}
 use Rattle.calls.specs.Refusals.{the_kind, not_of_kind, not_sound, bad_name, no_file, file_slot, read_only}
 use Rattle.freeing.specs.Freed.{chain_freed}
-use Rattle.calls.specs.declared.Answer.{Answer}
+use Rattle.calls.specs.Answers.{Answer, number_told, value_told}
 
 -- s is the file's name
 abbrev pub delete_rows : List ℕ → List ℕ → List ℕ → List Row
@@ -33,4 +33,4 @@ delete_outcome img t s = decided (delete_rows img t s) (delete_effect img t s) i
 
 -- what the call promises: its answer r, and the image after
 pub record Deletes (img t s : List ℕ) (r : Answer) (after : List ℕ) : Type 0 where
-  pub is : outcome r.number r.value after t [] ≡ delete_outcome img t s
+  pub is : outcome (number_told r) (value_told r) after t [] ≡ delete_outcome img t s

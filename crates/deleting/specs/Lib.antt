@@ -1,3 +1,2 @@
 -- Files ended: delete.
 pub mod Delete
-pub mod Aids

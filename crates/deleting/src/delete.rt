@@ -3,12 +3,11 @@ ghost use Rattle.std.specs.Prelude.{◌≡◌};
 ghost use Rattle.calls.specs.Aids.Ready.{OnVolume};
 ghost use Rattle.sound.specs.Files.{IsFile};
 ghost use Rattle.deleting.specs.Delete.{erased_in, Deletes};
-ghost use Rattle.deleting.specs.Aids.Delete.{DeletesSlot};
 
-use calls::{Answer, Ready, files, make_ready, numbers};
+use calls::refusal::Refusal;
+use calls::{files, make_ready};
 use diskette::Kind;
 use freeing::freed;
-use search::Found;
 
 // Frees the chain of the file in the slot and erases its entry.
 fn erase_in(img: &mut [u8], k: Kind, slot: usize)
@@ -21,43 +20,23 @@ fn erase_in(img: &mut [u8], k: Kind, slot: usize)
     fields::put_first(img, a, 0xE5);
 }
 
-// Deletes the file in the slot, where it is not open nor read-only.
-fn delete_in(img: &mut [u8], k: Kind, t: &[u8], slot: usize) -> Answer
-    requires on_volume { OnVolume img.old k }
-    requires file { IsFile k img.old slot }
-    ensures { DeletesSlot img.old t.now k slot result img.new }
-{
-    if opened::is_open(t, slot) {
-        return Answer::refused(numbers::ACCESS_DENIED);
-    }
-    if files::is_read_only(img, k, slot) {
-        return Answer::refused(numbers::ACCESS_DENIED);
-    }
-    erase_in(img, k, slot);
-    Answer::well(0)
-}
-
 // Deletes a file of a volume that is ready.
-fn delete_on(img: &mut [u8], k: Kind, t: &[u8], s: &[u8]) -> Answer
+fn delete_on(img: &mut [u8], k: Kind, t: &[u8], s: &[u8]) -> Result<u32, Refusal>
     requires { OnVolume img.old k }
     ensures { Deletes img.old t.now s.now result img.new }
 {
-    let given = names::name_given(s);
-    if !given.fits {
-        return Answer::refused(numbers::BREAKS_RULES);
+    let name = names::name_given(s).ok_or(Refusal::BreaksRules)?;
+    let slot = files::file_named(img, k, name).ok_or(Refusal::FileNotFound)?;
+    if opened::is_open(t, slot) || files::is_read_only(img, k, slot) {
+        return Err(Refusal::AccessDenied);
     }
-    let name = given.name;
-    match files::file_named(img, k, name) {
-        Found::Nothing => Answer::refused(numbers::FILE_NOT_FOUND),
-        Found::At(slot) => delete_in(img, k, t, slot),
-    }
+    erase_in(img, k, slot);
+    Ok(0)
 }
 
-pub fn delete(img: &mut [u8], t: &[u8], s: &[u8]) -> Answer
+pub fn delete(img: &mut [u8], t: &[u8], s: &[u8]) -> Result<u32, Refusal>
     ensures { Deletes img.old t.now s.now result img.new }
 {
-    match make_ready(img) {
-        Ready::Refused(number) => Answer::refused(number),
-        Ready::Volume(k, _) => delete_on(img, k, t, s),
-    }
+    let (k, _) = make_ready(img)?;
+    delete_on(img, k, t, s)
 }

@@ -1,7 +1,6 @@
 -- A slot found in a directory of count slots; way takes a slot to the byte at which its entry starts.
-use Rattle.std.specs.Prelude.{ℕ, zero, suc, ◌+◌, Bool, true, ◌&&◌, List, eqb, get_or}
+use Rattle.std.specs.Prelude.{ℕ, zero, suc, ◌+◌, Bool, true, ◌&&◌, List, eqb, get_or, Option}
 use Rattle.search.specs.Search.{lowest}
-use Rattle.search.specs.declared.Found.{Found}
 use Rattle.fields.specs.Fields.{name_of}
 use Rattle.directory.specs.Slots.{standing_of, is_vacant, is_plain}
 
@@ -15,9 +14,9 @@ abbrev pub is_named : List ℕ → ℕ → List ℕ → Bool
 is_named l a name = is_plain (standing_of l a) && same_from (name_of l a) name 0 11
 
 -- the lowest erased or never-used slot
-unfoldable pub lowest_vacant : List ℕ → (ℕ → ℕ) → ℕ → Found
+unfoldable pub lowest_vacant : List ℕ → (ℕ → ℕ) → ℕ → Option ℕ
 lowest_vacant l way count = lowest (λ s. is_vacant (standing_of l (way s))) 0 count
 
 -- the slot of the plain file with these 11 name bytes
-unfoldable pub slot_named : List ℕ → (ℕ → ℕ) → ℕ → List ℕ → Found
+unfoldable pub slot_named : List ℕ → (ℕ → ℕ) → ℕ → List ℕ → Option ℕ
 slot_named l way count name = lowest (λ s. is_named l (way s) name) 0 count

@@ -7,8 +7,6 @@ ghost use Rattle.fields.specs.Fields.{name_of};
 ghost use Rattle.directory.specs.Slots.{has_bit, standing_by, standing_of, is_vacant, is_plain};
 ghost use Rattle.directory.specs.Search.{same_from, is_named, lowest_vacant, slot_named};
 
-use search::Found;
-
 #[derive(Clone, Copy)]
 pub enum Standing {
     NeverUsed,
@@ -21,23 +19,13 @@ impl Standing {
     fn is_vacant(self) -> bool
         ensures { result ≡ is_vacant self }
     {
-        match self {
-            Standing::NeverUsed => true,
-            Standing::Erased => true,
-            Standing::Label => false,
-            Standing::Plain => false,
-        }
+        matches!(self, Standing::NeverUsed | Standing::Erased)
     }
 
     fn is_plain(self) -> bool
         ensures { result ≡ is_plain self }
     {
-        match self {
-            Standing::NeverUsed => false,
-            Standing::Erased => false,
-            Standing::Label => false,
-            Standing::Plain => true,
-        }
+        matches!(self, Standing::Plain)
     }
 }
 
@@ -50,19 +38,15 @@ pub fn has_bit(v: u8, b: u8) -> bool
 }
 
 // What an entry stands for, by its first byte and its attribute.
+#[tactic(auto, unfolding(crate::specs::Slots::standing_by))]
 fn standing_by(first: u8, attr: u8) -> Standing
     ensures { result ≡ standing_by first attr }
 {
-    if first == 0x00 {
-        return Standing::NeverUsed;
-    }
-    if first == 0xE5 {
-        return Standing::Erased;
-    }
-    if has_bit(attr, 0x08) {
-        Standing::Label
-    } else {
-        Standing::Plain
+    match first {
+        0x00 => Standing::NeverUsed,
+        0xE5 => Standing::Erased,
+        _ if has_bit(attr, 0x08) => Standing::Label,
+        _ => Standing::Plain,
     }
 }
 
@@ -90,18 +74,12 @@ pub fn plain_at(img: &[u8], a: usize) -> bool
 }
 
 // Whether the entry has that name, on all 11 bytes.
+#[tactic(auto, using(crate::proofs::Laws::Names::same_by_eq))]
 fn same_name(img: &[u8], a: usize, name: [u8; 11]) -> bool
     requires { a + 32 ≤ length img.now }
     ensures { result ≡ same_from (name_of img.now a) name 0 11 }
 {
-    let mut i: usize = 0;
-    while i < 11 {
-        if img[a + i] != name[i] {
-            return false;
-        }
-        i += 1;
-    }
-    true
+    fields::name_at(img, a) == name
 }
 
 // Whether the entry is the plain file of that name.
@@ -109,39 +87,21 @@ pub fn named_at(img: &[u8], a: usize, name: [u8; 11]) -> bool
     requires { a + 32 ≤ length img.now }
     ensures { result ≡ is_named img.now a name }
 {
-    if plain_at(img, a) {
-        same_name(img, a, name)
-    } else {
-        false
-    }
+    plain_at(img, a) && same_name(img, a, name)
 }
 
 // The lowest slot that is erased or never used.
-pub fn lowest_vacant(img: &[u8], root: usize, count: usize) -> Found
+pub fn lowest_vacant(img: &[u8], root: usize, count: usize) -> Option<usize>
     requires { root + 32 * count ≤ length img.now }
     ensures { result ≡ lowest_vacant img.now (slot_from root) count }
 {
-    let mut slot: usize = 0;
-    while slot < count {
-        if vacant_at(img, root + 32 * slot) {
-            return Found::At(slot);
-        }
-        slot += 1;
-    }
-    Found::Nothing
+    (0..count).find(|&slot| vacant_at(img, root + 32 * slot))
 }
 
 // The slot of the plain file of that name.
-pub fn slot_named(img: &[u8], root: usize, count: usize, name: [u8; 11]) -> Found
+pub fn slot_named(img: &[u8], root: usize, count: usize, name: [u8; 11]) -> Option<usize>
     requires { root + 32 * count ≤ length img.now }
     ensures { result ≡ slot_named img.now (slot_from root) count name }
 {
-    let mut slot: usize = 0;
-    while slot < count {
-        if named_at(img, root + 32 * slot, name) {
-            return Found::At(slot);
-        }
-        slot += 1;
-    }
-    Found::Nothing
+    (0..count).find(|&slot| named_at(img, root + 32 * slot, name))
 }

@@ -1,8 +1,6 @@
 -- The four kinds: document 01's table.
-use Rattle.std.specs.Prelude.{ℕ, cond, eqb}
+use Rattle.std.specs.Prelude.{ℕ, cond, eqb, Option, Some, None}
 use Rattle.diskette.specs.declared.Kind.{Kind}
-use Rattle.diskette.specs.declared.WhichKind.{WhichKind}
-use Rattle.diskette.specs.declared.WhichKind.TheVariants.{Known, Unknown}
 
 -- kind byte, sectors, FAT sectors, root sectors, sectors per cluster
 abbrev pub kind : ℕ → ℕ → ℕ → ℕ → ℕ → Kind
@@ -21,10 +19,10 @@ abbrev pub kind_fd : Kind
 kind_fd = kind 0xFD 720 2 7 2
 
 -- the kind that a byte names
-unfoldable pub named : ℕ → WhichKind
+unfoldable pub named : ℕ → Option Kind
 named b =
-    cond (eqb b 0xFE) (Known kind_fe)
-    (cond (eqb b 0xFF) (Known kind_ff)
-    (cond (eqb b 0xFC) (Known kind_fc)
-    (cond (eqb b 0xFD) (Known kind_fd)
-    Unknown)))
+    cond (eqb b 0xFE) (Some kind_fe)
+    (cond (eqb b 0xFF) (Some kind_ff)
+    (cond (eqb b 0xFC) (Some kind_fc)
+    (cond (eqb b 0xFD) (Some kind_fd)
+    None)))

@@ -18,12 +18,6 @@ pub struct Kind {
     pub per: usize,
 }
 
-#[derive(Clone, Copy)]
-pub enum WhichKind {
-    Known(Kind),
-    Unknown,
-}
-
 impl Kind {
     pub const FE: u8 = 0xFE;
 
@@ -34,39 +28,40 @@ impl Kind {
     pub const FD: u8 = 0xFD;
 
     // The kind that a byte names.
-    pub fn named(byte: u8) -> WhichKind
+    #[tactic(auto, unfolding(crate::specs::Kinds::named))]
+    pub fn named(byte: u8) -> Option<Kind>
         ensures { result ≡ named byte }
     {
         match byte {
-            Kind::FE => WhichKind::Known(Kind {
+            Kind::FE => Some(Kind {
                 byte,
                 sectors: 320,
                 fat: 1,
                 root: 4,
                 per: 1,
             }),
-            Kind::FF => WhichKind::Known(Kind {
+            Kind::FF => Some(Kind {
                 byte,
                 sectors: 640,
                 fat: 1,
                 root: 7,
                 per: 2,
             }),
-            Kind::FC => WhichKind::Known(Kind {
+            Kind::FC => Some(Kind {
                 byte,
                 sectors: 360,
                 fat: 2,
                 root: 4,
                 per: 1,
             }),
-            Kind::FD => WhichKind::Known(Kind {
+            Kind::FD => Some(Kind {
                 byte,
                 sectors: 720,
                 fat: 2,
                 root: 7,
                 per: 2,
             }),
-            _ => WhichKind::Unknown,
+            _ => None,
         }
     }
 
@@ -87,6 +82,7 @@ impl Kind {
     }
 
     // How many clusters there are.
+    #[tactic(auto, unfolding(crate::specs::Places::clusters))]
     pub fn clusters(self) -> usize
         requires { Usable self }
         ensures { result ≡ clusters self }
@@ -140,45 +136,24 @@ impl Kind {
         requires { Usable self }
         ensures { result ≡ clusters_for (cluster_bytes self) size }
     {
-        let bytes = self.cluster_bytes();
-        (size as usize + (bytes - 1)) / bytes
+        (size as usize).div_ceil(self.cluster_bytes())
     }
 }
 
 // The kind of which an image is: by its length and its byte 512.
-pub fn kind_of_image(img: &[u8]) -> WhichKind
+#[tactic(auto, using(crate::proofs::Laws::Images::image_short), unfolding(crate::specs::Images::kind_of_image))]
+pub fn kind_of_image(img: &[u8]) -> Option<Kind>
     ensures { result ≡ kind_of_image img.now }
 {
-    if img.len() <= 512 {
-        return WhichKind::Unknown;
-    }
-    match Kind::named(img[512]) {
-        WhichKind::Known(k) => {
-            if img.len() == 512 * k.sectors {
-                WhichKind::Known(k)
-            } else {
-                WhichKind::Unknown
-            }
-        }
-        WhichKind::Unknown => WhichKind::Unknown,
-    }
+    let byte = *img.get(512)?;
+    Kind::named(byte).filter(|k| img.len() == 512 * k.sectors)
 }
 
 // The kind of which a system area is: by its byte 512, where it reaches the first data sector.
-pub fn kind_of_area(area: &[u8]) -> WhichKind
+#[tactic(auto, using(crate::proofs::Laws::Images::area_short), unfolding(crate::specs::Images::kind_of_area))]
+pub fn kind_of_area(area: &[u8]) -> Option<Kind>
     ensures { result ≡ kind_of_area area.now }
 {
-    if area.len() <= 512 {
-        return WhichKind::Unknown;
-    }
-    match Kind::named(area[512]) {
-        WhichKind::Known(k) => {
-            if 512 * k.first_data() <= area.len() {
-                WhichKind::Known(k)
-            } else {
-                WhichKind::Unknown
-            }
-        }
-        WhichKind::Unknown => WhichKind::Unknown,
-    }
+    let byte = *area.get(512)?;
+    Kind::named(byte).filter(|k| 512 * k.first_data() <= area.len())
 }

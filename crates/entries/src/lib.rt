@@ -3,12 +3,9 @@
 
 pub mod entry;
 
-// What entry at a slot answers: a refusal number or 0, whether an entry was found, and its fields as stored. Where none was
-// found, the fields are zero.
+// The fields of a directory entry, as stored.
 #[derive(Clone, Copy)]
-pub struct EntryAnswer {
-    pub number: u32,
-    pub found: bool,
+pub struct EntryFields {
     pub name: [u8; 11],
     pub attr: u8,
     pub time: u16,

@@ -10,9 +10,7 @@ pub fn name_at(img: &[u8], a: usize) -> [u8; 11]
     requires { a + 32 ≤ length img.now }
     ensures { result ≡ name_of img.now a }
 {
-    let mut name: [u8; 11] = [0; 11];
-    image::copy_in(&mut name, 0, &img[a..a + 11]);
-    name
+    img[a..a + 11].try_into().unwrap()
 }
 
 pub fn attr_at(img: &[u8], a: usize) -> u8

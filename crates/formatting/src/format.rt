@@ -5,17 +5,17 @@ ghost use Rattle.diskette.specs.Kinds.{named};
 ghost use Rattle.diskette.specs.Aids.Usable.{Usable};
 ghost use Rattle.formatting.specs.Format.{table_head, blank, Formatted};
 
-use calls::numbers;
-use diskette::{Kind, WhichKind};
+use calls::refusal::Refusal;
+use diskette::Kind;
 
 // The kind that a number names. No number above 255 names one.
-fn kind_numbered(kind: u32) -> WhichKind
+fn kind_numbered(kind: u32) -> Option<Kind>
     ensures { result ≡ named kind }
 {
-    if 255 < kind {
-        return WhichKind::Unknown;
+    match u8::try_from(kind) {
+        Ok(byte) => Kind::named(byte),
+        Err(_) => None,
     }
-    Kind::named(kind as u8)
 }
 
 // Stores the three bytes with which a copy of the table begins.
@@ -43,18 +43,14 @@ fn make_blank(img: &mut [u8], k: Kind)
     put_table_head(img, second, k.byte);
 }
 
-// Formats the image as a volume of the kind. Answers 0, or 40 where the number names no kind or the image has not its length.
-pub fn format(img: &mut [u8], kind: u32) -> u32
+// Formats the image as a volume of the kind. Refused by 40 where the number names no kind or the image has not its length.
+pub fn format(img: &mut [u8], kind: u32) -> Result<(), Refusal>
     ensures { Formatted img.old kind result img.new }
 {
-    match kind_numbered(kind) {
-        WhichKind::Known(k) => {
-            if img.len() != 512 * k.sectors {
-                return numbers::OF_NO_KIND;
-            }
-            make_blank(img, k);
-            0
-        }
-        WhichKind::Unknown => numbers::OF_NO_KIND,
+    let k = kind_numbered(kind).ok_or(Refusal::OfNoKind)?;
+    if img.len() != 512 * k.sectors {
+        return Err(Refusal::OfNoKind);
     }
+    make_blank(img, k);
+    Ok(())
 }

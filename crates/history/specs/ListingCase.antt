@@ -1,8 +1,7 @@
 -- Document 01's listing case, from format to the last close. "Case: format FE; create TARE.KEY attribute 01, write 40 bytes,
 -- close; create DAY001.LOG attribute 00, write 1,025, close; stamps, for create and close alike, 1983-09-01 06:40:00 for the
 -- first file and 18:05:58 for the second." The bytes written may be any.
-use Rattle.std.specs.Prelude.{ℕ, zero, suc, List, [], ◌∷◌, ◌++◌, ◌≡◌, length, replicate}
-use Rattle.std.proofs.Math.Option.{none, some}
+use Rattle.std.specs.Prelude.{ℕ, zero, suc, List, [], ◌∷◌, ◌++◌, ◌≡◌, length, replicate, Some, None, Ok}
 use Rattle.image.specs.Bytes.{Bytes}
 use Rattle.diskette.specs.Kinds.{kind_fe}
 use Rattle.diskette.specs.Places.{slot_at}
@@ -10,9 +9,7 @@ use Rattle.diskette.specs.declared.Kind.{Kind}
 use Rattle.fields.specs.Fields.{time_of, date_of}
 use Rattle.stamps.specs.Stamps.{packed}
 use Rattle.stamps.specs.declared.Stamp.{Stamp}
-use Rattle.stamps.specs.declared.Packed.TheVariants.{Words}
 use Rattle.sound.specs.Judged.{check_of}
-use Rattle.sound.specs.declared.Verdict.TheVariants.{Sound}
 use Rattle.formatting.specs.Format.{formatted}
 use Rattle.changes.specs.Files.{file, Files, Shows}
 use Rattle.history.specs.World.{World, Call, world, step_by, run_by, ours, create, write, close}
@@ -50,13 +47,13 @@ listing_calls tare day = file_calls tare_given 0x01 tare (time_then 6 40 0) ++ f
 
 -- slots 0 and 1 hold the two files, with attributes 21 and 20; no other slot holds one
 abbrev pub listing_files : List ℕ → List ℕ → Files
-listing_files tare day zero = some (file tare_name 0x21 tare)
-listing_files tare day (suc zero) = some (file day_name 0x20 day)
-listing_files tare day (suc (suc s)) = none
+listing_files tare day zero = Some (file tare_name 0x21 tare)
+listing_files tare day (suc zero) = Some (file day_name 0x20 day)
+listing_files tare day (suc (suc s)) = None
 
 -- the entry in slot s has the words of this stamp
 abbrev pub HasStamp : Kind → List ℕ → ℕ → Stamp → Type 0
-HasStamp k l s stamp = Words (time_of l (slot_at k s)) (date_of l (slot_at k s)) ≡ packed stamp
+HasStamp k l s stamp = Some (time_of l (slot_at k s), date_of l (slot_at k s)) ≡ packed stamp
 
 -- number and value of each answer of a run
 abbrev pub answered : World → List Call → List (ℕ × ℕ)
@@ -66,7 +63,7 @@ answered w (c ∷ cs) = ((ours c w).number, (ours c w).value) ∷ answered (step
 -- w is the world at first, u the one after the last close
 pub record ListingEnds (w u : World) (tare day : List ℕ) : Type 0 where
   -- sound, with 2 files, 309 clusters free, 4 held, "0 and 0" bad and reserved
-  pub verdict : check_of u.image ≡ Sound (record { files = 2; free = 309; held = 4; bad = 0; reserved = 0 })
+  pub verdict : check_of u.image ≡ Ok (record { files = 2; free = 309; held = 4; bad = 0; reserved = 0 })
   pub files : Shows kind_fe u.image (listing_files tare day)
   pub tare_stamp : HasStamp kind_fe u.image 0 (time_then 6 40 0)
   pub day_stamp : HasStamp kind_fe u.image 1 (time_then 18 5 29)

@@ -1,6 +1,5 @@
 -- Demand 3, sentence by sentence: what a library must keep, from any sound volume, any bytes as open table, and after any run of calls.
-use Rattle.std.specs.Prelude.{ℕ, ◌+◌, ◌*◌, ◌≤◌, ◌<◌, cond, List, [], ◌∷◌, ◌≢◌, ◌≡◌, eqb, ℤ, pos, ◌+ℤ◌, length, get_or}
-use Rattle.std.proofs.Math.Option.{Option}
+use Rattle.std.specs.Prelude.{ℕ, ◌+◌, ◌*◌, ◌≤◌, ◌<◌, cond, List, [], ◌∷◌, ◌≢◌, ◌≡◌, eqb, ℤ, pos, ◌+ℤ◌, length, get_or, Option}
 use Rattle.image.specs.Bytes.{Bytes}
 use Rattle.image.specs.Store.{stored, part}
 use Rattle.diskette.specs.Images.{OfKind}

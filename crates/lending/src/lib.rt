@@ -11,7 +11,7 @@ ghost use Rattle.writing.specs.Write.{write_outcome};
 ghost use Rattle.single.specs.Rows.{bytes_of, LeavesRow};
 ghost use Rattle.lending.specs.Aids.Fits.{AllFit};
 
-use calls::Answer;
+use calls::refusal::Refusal;
 use records::OpenRecord;
 use single::{held, place};
 use stamps::Stamp;
@@ -29,7 +29,14 @@ fn all_fit(row: &[OpenRecord]) -> bool
     true
 }
 
-pub fn seek(img: &[u8], row: &mut [OpenRecord], handle: u32, method: u32, offset: i32) -> Answer
+// Each call is written out: of what a closure changes behind a reference that it holds, the function that passed it learns nothing.
+pub fn seek(
+    img: &[u8],
+    row: &mut [OpenRecord],
+    handle: u32,
+    method: u32,
+    offset: i32,
+) -> Result<u32, Refusal>
     ensures { LeavesRow (seek_outcome img.now (bytes_of row.old) handle method offset) result img.now row.new [] }
 {
     prove!(all_fit(row));
@@ -40,7 +47,7 @@ pub fn seek(img: &[u8], row: &mut [OpenRecord], handle: u32, method: u32, offset
     done.answer
 }
 
-pub fn read(img: &[u8], row: &mut [OpenRecord], handle: u32, buf: &mut [u8]) -> Answer
+pub fn read(img: &[u8], row: &mut [OpenRecord], handle: u32, buf: &mut [u8]) -> Result<u32, Refusal>
     ensures { LeavesRow (read_outcome img.now (bytes_of row.old) handle buf.old) result img.now row.new buf.new }
 {
     prove!(all_fit(row));
@@ -51,7 +58,12 @@ pub fn read(img: &[u8], row: &mut [OpenRecord], handle: u32, buf: &mut [u8]) -> 
     done.answer
 }
 
-pub fn write(img: &mut [u8], row: &mut [OpenRecord], handle: u32, bytes: &[u8]) -> Answer
+pub fn write(
+    img: &mut [u8],
+    row: &mut [OpenRecord],
+    handle: u32,
+    bytes: &[u8],
+) -> Result<u32, Refusal>
     ensures { LeavesRow (write_outcome img.old (bytes_of row.old) handle bytes.now) result img.new row.new [] }
 {
     prove!(all_fit(row));
@@ -62,7 +74,12 @@ pub fn write(img: &mut [u8], row: &mut [OpenRecord], handle: u32, bytes: &[u8]) 
     done.answer
 }
 
-pub fn close(img: &mut [u8], row: &mut [OpenRecord], handle: u32, stamp: Stamp) -> Answer
+pub fn close(
+    img: &mut [u8],
+    row: &mut [OpenRecord],
+    handle: u32,
+    stamp: Stamp,
+) -> Result<u32, Refusal>
     ensures { LeavesRow (close_outcome img.old (bytes_of row.old) handle stamp) result img.new row.new [] }
 {
     prove!(all_fit(row));
@@ -73,13 +90,13 @@ pub fn close(img: &mut [u8], row: &mut [OpenRecord], handle: u32, stamp: Stamp) 
     done.answer
 }
 
-// The place is found in the row first; a refusal stores past the places that count, so nothing.
-pub fn open(img: &[u8], row: &mut [OpenRecord], s: &[u8], access: u32) -> Answer
+// The place is found in the row first.
+pub fn open(img: &[u8], row: &mut [OpenRecord], s: &[u8], access: u32) -> Result<u32, Refusal>
     ensures { LeavesRow (open_outcome img.now (bytes_of row.old) s.now access) result img.now row.new [] }
 {
     prove!(all_fit(row));
     let free = lent::lowest_unused(row);
-    let done = place::open_at(img, free, s, access);
-    lent::put_record(row, done.place, done.held);
-    done.answer
+    let (place, held) = place::open_at(img, free, s, access)?;
+    lent::put_record(row, place, held);
+    Ok(place as u32)
 }

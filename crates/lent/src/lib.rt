@@ -3,13 +3,13 @@
 
 ghost use Rattle.std.specs.Prelude.{◌≡◌};
 ghost use Rattle.seeking.specs.Seek.{answer_of};
+ghost use Rattle.seeking.specs.Aids.Seek.{number_of};
 ghost use Rattle.records.specs.Seek.{base_from, seek_from, SeeksIn};
 ghost use Rattle.records.specs.Row.{row_of, in_bytes, record_at, with_record_at, lowest_unused_in, is_open_in};
 
-use calls::{Answer, numbers};
-use offset::Moved;
+use calls::refusal::Refusal;
 use records::OpenRecord;
-use search::Found;
+use seeking::seek::Method;
 
 // The record that a place of a table of bytes says; an unused one where the table has no such place.
 pub fn from_bytes(t: &[u8], place: usize) -> OpenRecord
@@ -24,13 +24,7 @@ pub fn from_bytes(t: &[u8], place: usize) -> OpenRecord
             written: opened::written_at(t, place),
         }
     } else {
-        OpenRecord {
-            used: false,
-            slot: 0,
-            access: 0,
-            pointer: 0,
-            written: false,
-        }
+        OpenRecord::default()
     }
 }
 
@@ -55,91 +49,62 @@ pub fn record_at(row: &[OpenRecord], place: usize) -> OpenRecord
     ensures { result ≡ record_at row.now place }
 {
     if place < 16 {
-        if place < row.len() {
-            return row[place];
-        }
-    }
-    OpenRecord {
-        used: false,
-        slot: 0,
-        access: 0,
-        pointer: 0,
-        written: false,
+        row.get(place).copied().unwrap_or_default()
+    } else {
+        OpenRecord::default()
     }
 }
 
 // Stores a record at a place among the first 16; the row stays as it is where it has no such place.
+#[tactic(auto, unfolding(records::specs::Row::with_record_at))]
 pub fn put_record(row: &mut [OpenRecord], place: usize, held: OpenRecord)
     ensures { row.new ≡ with_record_at row.old place held }
 {
-    if place < 16 {
-        if place < row.len() {
-            row[place] = held;
-        }
+    if place < 16 && place < row.len() {
+        row[place] = held;
     }
 }
 
 // The lowest unused place among the first 16.
-pub fn lowest_unused(row: &[OpenRecord]) -> Found
+pub fn lowest_unused(row: &[OpenRecord]) -> Option<usize>
     ensures { result ≡ lowest_unused_in row.now }
 {
-    let mut place: usize = 0;
-    while place < row.len() && place < 16 {
-        if !row[place].used {
-            return Found::At(place);
-        }
-        place += 1;
-    }
-    Found::Nothing
+    row.iter().take(16).position(|held| !held.used)
 }
 
 // Whether a file in the slot would be open: some used place among the first 16 names it, whatever its access.
 pub fn is_open(row: &[OpenRecord], slot: u32) -> bool
     ensures { result ≡ is_open_in row.now slot }
 {
-    let mut place: usize = 0;
-    while place < row.len() && place < 16 {
-        if row[place].used && row[place].slot == slot {
-            return true;
-        }
-        place += 1;
-    }
-    false
+    row.iter()
+        .take(16)
+        .any(|held| held.used && held.slot == slot)
 }
 
 // From where the offset counts: from 0, the pointer or the size.
-fn base_of(pointer: u32, size: u32, method: u32) -> u32
-    ensures { result ≡ base_from pointer size method }
+fn base_of(pointer: u32, size: u32, method: Method) -> u32
+    ensures { result ≡ base_from pointer size (number_of method) }
 {
-    if method == 0 {
-        return 0;
+    match method {
+        Method::Start => 0,
+        Method::Pointer => pointer,
+        Method::Size => size,
     }
-    if method == 1 {
-        return pointer;
-    }
-    size
 }
 
 // What a seek from this pointer answers, in a file of this size.
-fn sought(pointer: u32, size: u32, method: u32, offset: i32) -> Answer
+fn sought(pointer: u32, size: u32, method: u32, offset: i32) -> Result<u32, Refusal>
     ensures { result ≡ answer_of (seek_from pointer size method offset) }
 {
-    if 2 < method {
-        return Answer::refused(numbers::INVALID_FUNCTION);
-    }
-    match offset::moved_by(base_of(pointer, size, method), offset) {
-        Moved::Beyond => Answer::refused(numbers::INVALID_FUNCTION),
-        Moved::To(to) => Answer::well(to),
-    }
+    let base = base_of(pointer, size, Method::try_from(method)?);
+    offset::moved_by(base, offset).ok_or(Refusal::InvalidFunction)
 }
 
 // Moves the pointer of one open record, of a file of this size, and nothing else; a refusal leaves the record as it came.
-pub fn seek(lent: &mut OpenRecord, size: u32, method: u32, offset: i32) -> Answer
+pub fn seek(lent: &mut OpenRecord, size: u32, method: u32, offset: i32) -> Result<u32, Refusal>
     ensures { SeeksIn lent.old size method offset result lent.new }
 {
-    let answer = sought(lent.pointer, size, method, offset);
-    if answer.number == 0 {
-        lent.pointer = answer.value;
-    }
-    answer
+    let pointer = sought(lent.pointer, size, method, offset)?;
+    lent.pointer = pointer;
+    Ok(pointer)
 }

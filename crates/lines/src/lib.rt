@@ -1,150 +1,97 @@
-// The listing's lines, put into a buffer that the caller lends.
+// The listing's lines, put on a page.
 #![tactic(auto)]
 
-ghost use Rattle.std.specs.Prelude.{◌+◌, ◌≤◌, length};
-ghost use Rattle.text.specs.Ascii.{ascii};
-ghost use Rattle.text.specs.Digits.{decimal, hex};
-ghost use Rattle.text.specs.Names.{name_text};
-ghost use Rattle.text.specs.Aids.Puts.{PutsIn};
-ghost use Rattle.text.specs.Stamps.{date_text, time_text};
+ghost use Rattle.std.specs.Prelude.{◌+◌, length};
+ghost use Rattle.sound.specs.Numbers.{number_of, place_of};
+ghost use Rattle.text.specs.Aids.Pages.{AddsIn, has_room};
 ghost use Rattle.lines.specs.Lines.{line, stamp_text, file_text, out_of_use_text, counts_text, sound_text, unsound_text};
 ghost use Rattle.lines.specs.Aids.Rooms.{file_room, sound_room, unsound_room};
 
-// A line with a decimal number.
-fn put_decimal_line(out: &mut [u8], at: usize, key: &[u8], n: usize) -> usize
-    requires { at + (length key.now + 21) ≤ length out.old }
-    ensures { PutsIn (length key.now + 21) (line key.now (decimal n)) out.old at result out.new }
-{
-    let value = text::put_bytes(out, at, key);
-    let end = text::digits::put_decimal(out, value, n);
-    text::put_bytes(out, end, b"\n")
+use sound::{Counts, Finding};
+use text::digits::Hex;
+use text::name::Name;
+use text::page::{Page, Shown};
+use text::stamp::{DateWord, TimeWord};
+
+// A plain file, as its entry holds it.
+#[derive(Clone, Copy)]
+pub struct File {
+    pub name: [u8; 11],
+    pub attr: u8,
+    pub size: u32,
+    pub start: u16,
+    pub date: u16,
+    pub time: u16,
 }
 
-// A line with a byte in hex.
-fn put_hex_line(out: &mut [u8], at: usize, key: &[u8], n: u8) -> usize
-    requires { at + (length key.now + 3) ≤ length out.old }
-    ensures { PutsIn (length key.now + 3) (line key.now (hex n)) out.old at result out.new }
+// A line: a key with its equals sign, a value, and the line's end.
+fn put_line<T: Shown>(page: &mut Page, key: &[u8], value: T)
+    requires { has_room (length key.now + (T.room + 1)) page.old }
+    ensures { AddsIn (length key.now + (T.room + 1)) (line key.now (T.text value)) page.old page.new }
 {
-    let value = text::put_bytes(out, at, key);
-    let end = text::digits::put_hex(out, value, n);
-    text::put_bytes(out, end, b"\n")
-}
-
-// The line of a file's name.
-fn put_name_line(out: &mut [u8], at: usize, name: [u8; 11]) -> usize
-    requires { at + 18 ≤ length out.old }
-    ensures { PutsIn 18 (line (ascii "file=") (name_text name)) out.old at result out.new }
-{
-    let value = text::put_bytes(out, at, b"file=");
-    let end = text::name::put_name(out, value, name);
-    text::put_bytes(out, end, b"\n")
-}
-
-// The line of a date.
-fn put_date_line(out: &mut [u8], at: usize, word: u16) -> usize
-    requires { at + 16 ≤ length out.old }
-    ensures { PutsIn 16 (line (ascii "date=") (date_text word)) out.old at result out.new }
-{
-    let value = text::put_bytes(out, at, b"date=");
-    let end = text::stamp::put_date(out, value, word);
-    text::put_bytes(out, end, b"\n")
-}
-
-// The line of a time.
-fn put_time_line(out: &mut [u8], at: usize, word: u16) -> usize
-    requires { at + 14 ≤ length out.old }
-    ensures { PutsIn 14 (line (ascii "time=") (time_text word)) out.old at result out.new }
-{
-    let value = text::put_bytes(out, at, b"time=");
-    let end = text::stamp::put_time(out, value, word);
-    text::put_bytes(out, end, b"\n")
+    page.put_bytes(key);
+    value.put(page);
+    page.put_bytes(b"\n");
 }
 
 // The lines of a stamp.
-fn put_stamp(out: &mut [u8], at: usize, date: u16, time: u16) -> usize
-    requires { at + 30 ≤ length out.old }
-    ensures { PutsIn 30 (stamp_text date time) out.old at result out.new }
+fn put_stamp(page: &mut Page, date: u16, time: u16)
+    requires { has_room 30 page.old }
+    ensures { AddsIn 30 (stamp_text date time) page.old page.new }
 {
-    let next = put_date_line(out, at, date);
-    put_time_line(out, next, time)
+    put_line(page, b"date=", DateWord(date));
+    put_line(page, b"time=", TimeWord(time));
 }
 
 // The lines of a plain file.
-pub fn put_file(
-    out: &mut [u8],
-    at: usize,
-    name: [u8; 11],
-    attr: u8,
-    size: u32,
-    start: u16,
-    date: u16,
-    time: u16,
-) -> usize
-    requires { at + file_room ≤ length out.old }
-    ensures { PutsIn file_room (file_text name attr size start date time) out.old at result out.new }
+pub fn put_file(page: &mut Page, file: File)
+    requires { has_room file_room page.old }
+    ensures { AddsIn file_room (file_text file.name file.attr file.size file.start file.date file.time) page.old page.new }
 {
-    let attribute = put_name_line(out, at, name);
-    let bytes = put_hex_line(out, attribute, b"attr=", attr);
-    let first = put_decimal_line(out, bytes, b"size=", size as usize);
-    let stamp = put_decimal_line(out, first, b"start=", start as usize);
-    put_stamp(out, stamp, date, time)
+    put_line(page, b"file=", Name(file.name));
+    put_line(page, b"attr=", Hex(file.attr));
+    put_line(page, b"size=", file.size as usize);
+    put_line(page, b"start=", file.start as usize);
+    put_stamp(page, file.date, file.time);
 }
 
 // The lines of the clusters that no file may take.
-fn put_out_of_use(out: &mut [u8], at: usize, bad: usize, reserved: usize) -> usize
-    requires { at + 55 ≤ length out.old }
-    ensures { PutsIn 55 (out_of_use_text bad reserved) out.old at result out.new }
+fn put_out_of_use(page: &mut Page, bad: usize, reserved: usize)
+    requires { has_room 55 page.old }
+    ensures { AddsIn 55 (out_of_use_text bad reserved) page.old page.new }
 {
-    let next = put_decimal_line(out, at, b"bad=", bad);
-    put_decimal_line(out, next, b"reserved=", reserved)
+    put_line(page, b"bad=", bad);
+    put_line(page, b"reserved=", reserved);
 }
 
 // The lines of the five counts.
-fn put_counts(
-    out: &mut [u8],
-    at: usize,
-    free: usize,
-    held: usize,
-    bad: usize,
-    reserved: usize,
-    files: usize,
-) -> usize
-    requires { at + 134 ≤ length out.old }
-    ensures { PutsIn 134 (counts_text free held bad reserved files) out.old at result out.new }
+fn put_counts(page: &mut Page, n: Counts)
+    requires { has_room 134 page.old }
+    ensures { AddsIn 134 (counts_text n.free n.held n.bad n.reserved n.files) page.old page.new }
 {
-    let second = put_decimal_line(out, at, b"free=", free);
-    let third = put_decimal_line(out, second, b"held=", held);
-    let last = put_out_of_use(out, third, bad, reserved);
-    put_decimal_line(out, last, b"files=", files)
+    put_line(page, b"free=", n.free);
+    put_line(page, b"held=", n.held);
+    put_out_of_use(page, n.bad, n.reserved);
+    put_line(page, b"files=", n.files);
 }
 
 // The lines of a sound volume, before those of its files.
-pub fn put_sound(
-    out: &mut [u8],
-    at: usize,
-    kind: u8,
-    clusters: usize,
-    free: usize,
-    held: usize,
-    bad: usize,
-    reserved: usize,
-    files: usize,
-) -> usize
-    requires { at + sound_room ≤ length out.old }
-    ensures { PutsIn sound_room (sound_text kind clusters free held bad reserved files) out.old at result out.new }
+pub fn put_sound(page: &mut Page, kind: u8, clusters: usize, n: Counts)
+    requires { has_room sound_room page.old }
+    ensures { AddsIn sound_room (sound_text kind clusters n.free n.held n.bad n.reserved n.files) page.old page.new }
 {
-    let second = text::put_bytes(out, at, b"sound=yes\n");
-    let third = put_hex_line(out, second, b"kind=", kind);
-    let counts = put_decimal_line(out, third, b"clusters=", clusters);
-    put_counts(out, counts, free, held, bad, reserved, files)
+    page.put_bytes(b"sound=yes\n");
+    put_line(page, b"kind=", Hex(kind));
+    put_line(page, b"clusters=", clusters);
+    put_counts(page, n);
 }
 
 // The lines of a volume that is not sound: a finding and its place.
-pub fn put_unsound(out: &mut [u8], at: usize, finding: usize, place: usize) -> usize
-    requires { at + unsound_room ≤ length out.old }
-    ensures { PutsIn unsound_room (unsound_text finding place) out.old at result out.new }
+pub fn put_unsound(page: &mut Page, finding: Finding)
+    requires { has_room unsound_room page.old }
+    ensures { AddsIn unsound_room (unsound_text (number_of finding) (place_of finding)) page.old page.new }
 {
-    let second = text::put_bytes(out, at, b"sound=no\n");
-    let last = put_decimal_line(out, second, b"finding=", finding);
-    put_decimal_line(out, last, b"place=", place)
+    page.put_bytes(b"sound=no\n");
+    put_line(page, b"finding=", finding.number());
+    put_line(page, b"place=", finding.place());
 }

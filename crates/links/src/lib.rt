@@ -2,7 +2,7 @@
 // none needs a sound volume.
 #![tactic(auto)]
 
-ghost use Rattle.std.specs.Prelude.{◌≡◌, ◌+◌, ◌-◌, ◌≤◌, ◌<◌, length};
+ghost use Rattle.std.specs.Prelude.{◌≡◌, ◌+◌, ◌-◌, ◌≤◌, ◌<◌, length, unwrap_or, IfSome};
 ghost use Rattle.chains.specs.Chain.{clusters_from};
 ghost use Rattle.table.specs.Entries.{word_at, table_of};
 ghost use Rattle.table.specs.Aids.Copies.{Reaches};
@@ -27,18 +27,13 @@ pub fn free_chain(img: &mut [u8], second: usize, last: usize, start: usize, n: u
     ensures { img.new ≡ freed_from second last img.old n start }
 {
     let mut cluster = start;
-    let mut done: usize = 0;
-    while done < n {
-        if cluster < 2 {
+    for _ in 0..n {
+        if !(2..=last).contains(&cluster) {
             return;
         }
-        if last < cluster {
-            return;
-        }
-        let next = entry(img, cluster);
+        let next = usize::from(entry(img, cluster));
         set_entry(img, second, cluster, 0);
-        cluster = next as usize;
-        done += 1;
+        cluster = next;
     }
 }
 
@@ -48,13 +43,11 @@ pub fn value_of(img: &[u8], last: usize, cluster: usize) -> usize
     requires last_in_bounds { word_at 512 last + 2 ≤ length img.now }
     ensures { result ≡ table_of last img.now cluster }
 {
-    if cluster < 2 {
-        return 0;
+    if (2..=last).contains(&cluster) {
+        usize::from(entry(img, cluster))
+    } else {
+        0
     }
-    if last < cluster {
-        return 0;
-    }
-    entry(img, cluster) as usize
 }
 
 // How far the chain that starts at start goes, over no more clusters than the volume has.
@@ -63,39 +56,33 @@ pub fn extent_of(img: &[u8], last: usize, start: usize) -> Extent
     requires last_in_bounds { word_at 512 last + 2 ≤ length img.now }
     ensures { result ≡ extent_of (clusters_from last (table_of last img.now) (last - 1) start) }
 {
+    let mut extent = Extent {
+        clusters: 0,
+        end: 0,
+    };
     let mut cluster = start;
-    let mut clusters: usize = 0;
-    let mut end: usize = 0;
-    while clusters + 1 < last {
-        if cluster < 2 {
-            return Extent { clusters, end };
+    for clusters in 1..last {
+        if !(2..=last).contains(&cluster) {
+            break;
         }
-        if last < cluster {
-            return Extent { clusters, end };
-        }
-        end = cluster;
-        cluster = entry(img, cluster) as usize;
-        clusters += 1;
+        extent = Extent {
+            clusters,
+            end: cluster,
+        };
+        cluster = usize::from(entry(img, cluster));
     }
-    Extent { clusters, end }
+    extent
 }
 
-// The lowest free cluster from cluster from on, 0 where there is none.
-fn next_free(img: &[u8], last: usize, from: usize) -> usize
+// The lowest free cluster from cluster from on.
+fn next_free(img: &[u8], last: usize, from: usize) -> Option<usize>
     requires last_bound { last ≤ 4079 }
     requires last_in_bounds { word_at 512 last + 2 ≤ length img.now }
     requires le_from { 2 ≤ from }
-    ensures value { result ≡ next_free last img.now from }
-    ensures upper_bound { result ≤ last }
+    ensures value { unwrap_or result 0 ≡ next_free last img.now from }
+    ensures is_cluster { IfSome result (λ c. (2 ≤ c) × (c ≤ last)) }
 {
-    let mut cluster = from;
-    while cluster <= last {
-        if entry(img, cluster) == 0 {
-            return cluster;
-        }
-        cluster += 1;
-    }
-    0
+    (from..last + 1).find(|cluster| entry(img, *cluster) == 0)
 }
 
 // Makes new the cluster behind prev; where prev is 0 it is a chain's first.
@@ -107,10 +94,9 @@ fn link_to(img: &mut [u8], second: usize, prev: usize, new: usize)
     ensures { img.new ≡ linked_to second img.old prev new }
 {
     set_entry(img, second, new, 0xFFF);
-    if prev == 0 {
-        return;
+    if prev != 0 {
+        set_entry(img, second, prev, new as u16);
     }
-    set_entry(img, second, prev, new as u16);
 }
 
 // Adds n clusters behind prev, the lowest free one each time, and answers the first of them. The table is gone through once:
@@ -121,22 +107,20 @@ pub fn add_clusters(img: &mut [u8], second: usize, last: usize, prev: usize, n: 
     requires prev_le_last { prev ≤ last }
     ensures { Added second last img.old prev n result img.new }
 {
-    let mut first: usize = 0;
+    // 0 and not None where there is none yet: an Option was measured, and takes two instructions more for each cluster.
+    let mut first = 0;
     let mut end = prev;
-    let mut from: usize = 2;
-    let mut left = n;
-    while 0 < left {
-        let new = next_free(img, last, from);
-        if new == 0 {
-            return first;
-        }
+    let mut from = 2;
+    for _ in 0..n {
+        let Some(new) = next_free(img, last, from) else {
+            break;
+        };
         link_to(img, second, end, new);
         if first == 0 {
             first = new;
         }
         end = new;
         from = new + 1;
-        left -= 1;
     }
     first
 }

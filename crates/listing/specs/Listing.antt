@@ -1,16 +1,15 @@
 -- What the listing program prints of a system area.
-use Rattle.std.specs.Prelude.{ℕ, zero, suc, ◌+◌, cond, List, [], ◌++◌, ◌≡◌, leb, length}
+use Rattle.std.specs.Prelude.{ℕ, zero, suc, ◌+◌, cond, List, [], ◌++◌, ◌≡◌, leb, length, Option, Some, None, Result, Ok, Err}
 use Rattle.image.specs.Store.{stored}
 use Rattle.diskette.specs.Images.{kind_of_area}
 use Rattle.diskette.specs.Places.{clusters, root_entries, slot_at}
 use Rattle.diskette.specs.declared.Kind.{Kind}
-use Rattle.diskette.specs.declared.WhichKind.{WhichKind}
-use Rattle.diskette.specs.declared.WhichKind.TheVariants.{Known, Unknown}
 use Rattle.fields.specs.Fields.{name_of, attr_of, time_of, date_of, start_of, size_of}
 use Rattle.directory.specs.Slots.{standing_of, is_plain}
 use Rattle.sound.specs.Judged.{check_of_area}
-use Rattle.sound.specs.declared.Verdict.{Verdict}
-use Rattle.sound.specs.declared.Verdict.TheVariants.{Sound, Finding}
+use Rattle.sound.specs.Numbers.{number_of, place_of}
+use Rattle.sound.specs.declared.Counts.{Counts}
+use Rattle.sound.specs.declared.Finding.{Finding}
 use Rattle.lines.specs.Lines.{file_text, sound_text, unsound_text}
 
 -- ---- the files
@@ -31,15 +30,15 @@ files_text l way s (suc n) = slot_text l (way s) ++ files_text l way (s + 1) n
 -- ---- the whole
 
 -- of a volume of the kind k, by what check answers of it. If not sound: `sound=no`, `finding=`, `place=` only.
-unfoldable pub volume_text : Kind → List ℕ → Verdict → List ℕ
-volume_text k l (Sound n) =
+unfoldable pub volume_text : Kind → List ℕ → Result Counts Finding → List ℕ
+volume_text k l (Ok n) =
     sound_text k.byte (clusters k) n.free n.held n.bad n.reserved n.files ++ files_text l (slot_at k) 0 (root_entries k)
-volume_text k l (Finding number place) = unsound_text number place
+volume_text k l (Err finding) = unsound_text (number_of finding) (place_of finding)
 
 -- finding 1: Not of a kind, or a system area that ends before the first data sector; place 0.
-abbrev pub listing_by : WhichKind → List ℕ → List ℕ
-listing_by (Known k) l = volume_text k l (check_of_area l)
-listing_by Unknown l = unsound_text 1 0
+abbrev pub listing_by : Option Kind → List ℕ → List ℕ
+listing_by (Some k) l = volume_text k l (check_of_area l)
+listing_by None l = unsound_text 1 0
 
 unfoldable pub listing_of : List ℕ → List ℕ
 listing_of area = listing_by (kind_of_area area) area

@@ -1,86 +1,78 @@
 // The listing of a system area, put into a buffer that the caller lends; for C too (tools/listing.h).
 #![tactic(auto)]
 
-ghost use Rattle.std.specs.Prelude.{◌+◌, ◌*◌, ◌≤◌, length};
+ghost use Rattle.std.specs.Prelude.{◌+◌, ◌*◌, ◌≤◌, length, Ok};
 ghost use Rattle.diskette.specs.Images.{AreaOf};
 ghost use Rattle.diskette.specs.Places.{slot_from};
-ghost use Rattle.sound.specs.declared.Verdict.TheVariants.{Sound};
-ghost use Rattle.text.specs.Aids.Puts.{PutsIn};
+ghost use Rattle.text.specs.Aids.Pages.{AddsIn, has_room};
 ghost use Rattle.lines.specs.Aids.Rooms.{file_room};
 ghost use Rattle.listing.specs.Listing.{entry_text, slot_text, files_text, volume_text, listing_of, listing_room, Lists};
 
-use diskette::{Kind, WhichKind};
-use sound::{Counts, Verdict};
+use diskette::Kind;
+use lines::File;
+use sound::{Counts, Finding};
+use text::page::Page;
 
 // The lines of the plain file whose entry stands at byte a.
-fn put_entry(area: &[u8], a: usize, out: &mut [u8], at: usize) -> usize
+fn put_entry(page: &mut Page, area: &[u8], a: usize)
     requires a_in_bounds { a + 32 ≤ length area.now }
-    requires file_room_in_bounds { at + file_room ≤ length out.old }
-    ensures { PutsIn file_room (entry_text area.now a) out.old at result out.new }
+    requires file_room_in_bounds { has_room file_room page.old }
+    ensures { AddsIn file_room (entry_text area.now a) page.old page.new }
 {
-    let name = fields::name_at(area, a);
-    let attr = fields::attr_at(area, a);
-    let size = fields::size_at(area, a);
-    let start = fields::start_at(area, a);
-    let date = fields::date_at(area, a);
-    let time = fields::time_at(area, a);
-    lines::put_file(out, at, name, attr, size, start, date, time)
+    let file = File {
+        name: fields::name_at(area, a),
+        attr: fields::attr_at(area, a),
+        size: fields::size_at(area, a),
+        start: fields::start_at(area, a),
+        date: fields::date_at(area, a),
+        time: fields::time_at(area, a),
+    };
+    lines::put_file(page, file);
 }
 
 // The same of any entry: nothing where there is no plain file.
-fn put_slot(area: &[u8], a: usize, out: &mut [u8], at: usize) -> usize
+fn put_slot(page: &mut Page, area: &[u8], a: usize)
     requires a_in_bounds { a + 32 ≤ length area.now }
-    requires file_room_in_bounds { at + file_room ≤ length out.old }
-    ensures { PutsIn file_room (slot_text area.now a) out.old at result out.new }
+    requires file_room_in_bounds { has_room file_room page.old }
+    ensures { AddsIn file_room (slot_text area.now a) page.old page.new }
 {
     if directory::plain_at(area, a) {
-        put_entry(area, a, out, at)
-    } else {
-        at
+        put_entry(page, area, a);
     }
 }
 
 // The files of a directory with count slots that stands at byte root, in slot order.
-fn put_files(area: &[u8], root: usize, count: usize, out: &mut [u8], at: usize) -> usize
+fn put_files(page: &mut Page, area: &[u8], root: usize, count: usize)
     requires count_in_bounds { root + 32 * count ≤ length area.now }
-    requires count_in_bounds_2 { at + file_room * count ≤ length out.old }
-    ensures { PutsIn (file_room * count) (files_text area.now (slot_from root) 0 count) out.old at result out.new }
+    requires count_in_bounds_2 { has_room (file_room * count) page.old }
+    ensures { AddsIn (file_room * count) (files_text area.now (slot_from root) 0 count) page.old page.new }
 {
-    let mut next = at;
-    let mut slot: usize = 0;
-    while slot < count {
-        next = put_slot(area, root + 32 * slot, out, next);
-        slot += 1;
+    for slot in 0..count {
+        put_slot(page, area, root + 32 * slot);
     }
-    next
 }
 
 // The lines of a sound volume of the kind k, and of its files.
-fn put_volume(area: &[u8], k: Kind, n: Counts, out: &mut [u8]) -> usize
+fn put_volume(page: &mut Page, area: &[u8], k: Kind, n: Counts)
     requires area_of { AreaOf area.now k }
-    requires listing_room_in_bounds { listing_room ≤ length out.old }
-    ensures { PutsIn listing_room (volume_text k area.now (Sound n)) out.old 0 result out.new }
+    requires listing_room_in_bounds { has_room listing_room page.old }
+    ensures { AddsIn listing_room (volume_text k area.now (Ok n)) page.old page.new }
 {
-    let root = k.root_at();
-    let count = k.root_entries();
-    let all = k.clusters();
-    let first = lines::put_sound(
-        out, 0, k.byte, all, n.free, n.held, n.bad, n.reserved, n.files,
-    );
-    put_files(area, root, count, out, first)
+    lines::put_sound(page, k.byte, k.clusters(), n);
+    put_files(page, area, k.root_at(), k.root_entries());
 }
 
 // The whole listing.
-fn list(area: &[u8], out: &mut [u8]) -> usize
-    requires { listing_room ≤ length out.old }
-    ensures { PutsIn listing_room (listing_of area.now) out.old 0 result out.new }
+fn list(page: &mut Page, area: &[u8])
+    requires { has_room listing_room page.old }
+    ensures { AddsIn listing_room (listing_of area.now) page.old page.new }
 {
     match diskette::kind_of_area(area) {
-        WhichKind::Known(k) => match sound::check_system(area) {
-            Verdict::Sound(counts) => put_volume(area, k, counts, out),
-            Verdict::Finding(finding, place) => lines::put_unsound(out, 0, finding, place),
+        Some(k) => match sound::check_system(area) {
+            Ok(counts) => put_volume(page, area, k, counts),
+            Err(finding) => lines::put_unsound(page, finding),
         },
-        WhichKind::Unknown => lines::put_unsound(out, 0, 1, 0),
+        None => lines::put_unsound(page, Finding::OfNoKind),
     }
 }
 
@@ -91,5 +83,7 @@ pub fn listing_put(area: &[u8], out: &mut [u8]) -> usize
     if out.len() < 16384 {
         return 0;
     }
-    list(area, out)
+    let mut page = Page::new(out);
+    list(&mut page, area);
+    page.len()
 }

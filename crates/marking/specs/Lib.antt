@@ -1,2 +1,3 @@
 -- A file's attribute told and changed: file mode.
 pub mod Mode
+pub mod Aids

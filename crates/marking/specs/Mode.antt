@@ -5,7 +5,7 @@ use Rattle.opened.specs.Places.{is_open}
 use Rattle.calls.specs.Outcome.{Row, Outcome, outcome, decided}
 use Rattle.calls.specs.Numbers.{of_no_kind, unsound, invalid_function, breaks_rules, file_not_found, access_denied}
 use Rattle.calls.specs.Refusals.{not_of_kind, not_sound, bad_name, no_file, file_slot, address_of, bad_attr}
-use Rattle.calls.specs.declared.Answer.{Answer}
+use Rattle.calls.specs.Answers.{Answer, number_told, value_told}
 
 abbrev pub mode_rows : List ℕ → List ℕ → List ℕ → ℕ → ℕ → List Row
 mode_rows img t s function attr =
@@ -28,4 +28,4 @@ mode_outcome img t s function attr = decided (mode_rows img t s function attr) (
 
 -- what the call promises: its answer r, and the image after
 pub record Modes (img t s : List ℕ) (function attr : ℕ) (r : Answer) (after : List ℕ) : Type 0 where
-  pub is : outcome r.number r.value after t [] ≡ mode_outcome img t s function attr
+  pub is : outcome (number_told r) (value_told r) after t [] ≡ mode_outcome img t s function attr

@@ -1,8 +1,8 @@
 -- "A search takes a pattern, a slot to begin at and an attribute mask, and answers the slot of the first plain file at or after it
 -- that matches." It alters nothing.
-use Rattle.std.specs.Prelude.{ℕ, ◌-◌, Bool, true, not, ◌&&◌, ◌||◌, List, [], ◌∷◌, ◌≡◌}
+use Rattle.std.specs.Prelude.{ℕ, ◌-◌, Bool, true, not, ◌&&◌, ◌||◌, List, [], ◌∷◌, ◌≡◌, Option, is_some}
+use Rattle.names.specs.Reading.{name_bytes}
 use Rattle.search.specs.Search.{lowest, is_found}
-use Rattle.search.specs.declared.Found.{Found}
 use Rattle.diskette.specs.Places.{root_entries, slot_at}
 use Rattle.fields.specs.Fields.{name_of, attr_of}
 use Rattle.patterns.specs.Patterns.{pattern_given, matches}
@@ -10,7 +10,7 @@ use Rattle.directory.specs.Slots.{has_bit, PlainAt, standing_of, is_plain}
 use Rattle.calls.specs.Outcome.{Row, Outcome, outcome, decided}
 use Rattle.calls.specs.Numbers.{of_no_kind, unsound, breaks_rules, no_more_files}
 use Rattle.calls.specs.Refusals.{the_kind, not_of_kind, not_sound, place_found}
-use Rattle.calls.specs.declared.Answer.{Answer}
+use Rattle.calls.specs.Answers.{Answer, number_told, value_told}
 
 -- ---- an entry that matches
 
@@ -34,18 +34,18 @@ pub record MatchAt (l : List ℕ) (a : ℕ) (pattern : List ℕ) (mask : ℕ) : 
   pub name : matches pattern (name_of l a) ≡ true
 
 -- "the first .. at or after it": in a directory of count slots; its way takes a slot to the byte at which its entry starts
-unfoldable pub match_from : List ℕ → (ℕ → ℕ) → ℕ → List ℕ → ℕ → ℕ → Found
+unfoldable pub match_from : List ℕ → (ℕ → ℕ) → ℕ → List ℕ → ℕ → ℕ → Option ℕ
 match_from l way count pattern mask from = lowest (λ s. is_match l (way s) pattern mask) from (count - from)
 
 -- ---- the call
 
 -- "42 for a bad pattern"
 abbrev pub bad_pattern : List ℕ → Bool
-bad_pattern s = not (pattern_given s).fits
+bad_pattern s = not (is_some (pattern_given s))
 
 -- in the root, by the pattern that a caller gives
-unfoldable pub match_found : List ℕ → List ℕ → ℕ → ℕ → Found
-match_found img s from mask = match_from img (slot_at (the_kind img)) (root_entries (the_kind img)) (pattern_given s).name mask from
+unfoldable pub match_found : List ℕ → List ℕ → ℕ → ℕ → Option ℕ
+match_found img s from mask = match_from img (slot_at (the_kind img)) (root_entries (the_kind img)) (name_bytes (pattern_given s)) mask from
 
 -- "18 (no more files)"
 abbrev pub no_match : List ℕ → List ℕ → ℕ → ℕ → Bool
@@ -68,4 +68,4 @@ find_outcome img s from mask = decided (find_rows img s from mask) (find_effect 
 
 -- what the call promises: its answer r
 pub record Finds (img s : List ℕ) (from mask : ℕ) (r : Answer) : Type 0 where
-  pub is : outcome r.number r.value img [] [] ≡ find_outcome img s from mask
+  pub is : outcome (number_told r) (value_told r) img [] [] ≡ find_outcome img s from mask

@@ -1,13 +1,10 @@
 -- Clusters as the map shows them: what the value of one means, and which files' chains come to it. For any bytes, so that a
 -- broken volume has its map too.
-use Rattle.std.specs.Prelude.{ℕ, zero, suc, ◌+◌, ◌-◌, Bool, false, cond, ◌&&◌, ◌||◌, List, eqb}
+use Rattle.std.specs.Prelude.{ℕ, zero, suc, ◌+◌, ◌-◌, Bool, false, cond, ◌&&◌, ◌||◌, List, eqb, Option, Some, None}
 use Rattle.chains.specs.Values.{linkb}
 use Rattle.search.specs.Search.{lowest}
-use Rattle.search.specs.declared.Found.{Found}
-use Rattle.search.specs.declared.Found.TheVariants.{At, Nothing}
 use Rattle.diskette.specs.Places.{clusters, last_cluster, root_entries, slot_at}
-use Rattle.diskette.specs.declared.WhichKind.{WhichKind}
-use Rattle.diskette.specs.declared.WhichKind.TheVariants.{Known, Unknown}
+use Rattle.diskette.specs.declared.Kind.{Kind}
 use Rattle.values.specs.Values.{meaning_of}
 use Rattle.values.specs.declared.Meaning.{Meaning}
 use Rattle.values.specs.declared.Meaning.TheVariants.{Free, Next, Bad, Reserved, End, NoneOfThese}
@@ -29,9 +26,9 @@ meaning_told (Next n) = 5
 meaning_told End = 6
 
 -- 0: the kind has no such cluster; "40: image not of a kind"
-unfoldable pub cluster_told : WhichKind → List ℕ → ℕ → ℕ
-cluster_told (Known k) img c = cond (linkb (last_cluster k) c) (meaning_told (meaning_of (last_cluster k) (table_of (last_cluster k) img c))) 0
-cluster_told Unknown img c = refusal_answer of_no_kind
+unfoldable pub cluster_told : Option Kind → List ℕ → ℕ → ℕ
+cluster_told (Some k) img c = cond (linkb (last_cluster k) c) (meaning_told (meaning_of (last_cluster k) (table_of (last_cluster k) img c))) 0
+cluster_told None img c = refusal_answer of_no_kind
 
 -- ---- which files' chains come to it
 
@@ -50,11 +47,11 @@ abbrev pub slot_holds : ℕ → ℕ → List ℕ → (ℕ → ℕ) → ℕ → �
 slot_holds last n img way c s = holds_at last n img c (way s)
 
 -- a slot, and one more; 0: none
-unfoldable pub found_told : Found → ℕ
-found_told (At s) = s + 1
-found_told Nothing = 0
+unfoldable pub found_told : Option ℕ → ℕ
+found_told (Some s) = s + 1
+found_told None = 0
 
 -- the lowest slot from s on that holds cluster c; "40: image not of a kind"
-unfoldable pub holder_told : WhichKind → List ℕ → ℕ → ℕ → ℕ
-holder_told (Known k) img c s = found_told (lowest (slot_holds (last_cluster k) (clusters k) img (slot_at k) c) s (root_entries k - s))
-holder_told Unknown img c s = refusal_answer of_no_kind
+unfoldable pub holder_told : Option Kind → List ℕ → ℕ → ℕ → ℕ
+holder_told (Some k) img c s = found_told (lowest (slot_holds (last_cluster k) (clusters k) img (slot_at k) c) s (root_entries k - s))
+holder_told None img c s = refusal_answer of_no_kind

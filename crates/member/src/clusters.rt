@@ -4,16 +4,15 @@ ghost use Rattle.search.specs.Search.{lowest};
 ghost use Rattle.diskette.specs.Images.{kind_of_image};
 ghost use Rattle.diskette.specs.Aids.Usable.{Usable};
 ghost use Rattle.diskette.specs.Places.{first_data, slot_from};
-ghost use Rattle.diskette.specs.declared.WhichKind.TheVariants.{Known};
 ghost use Rattle.table.specs.Entries.{word_at, table_of};
 ghost use Rattle.member.specs.Clusters.{meaning_told, cluster_told, comes_to, holds_at, slot_holds, holder_told};
 
-use calls::numbers;
-use diskette::{Kind, WhichKind};
-use search::Found;
+use calls::refusal::Refusal;
+use diskette::Kind;
 use values::Meaning;
 
 // What a value means, as a number.
+#[tactic(auto, unfolding(crate::specs::Clusters::meaning_told))]
 fn meaning_told(meaning: Meaning) -> u64
     ensures { result ≡ meaning_told meaning }
 {
@@ -31,13 +30,10 @@ fn meaning_told(meaning: Meaning) -> u64
 fn value_told(img: &[u8], k: Kind, c: usize) -> u64
     requires usable { Usable k }
     requires k_in_bounds { 512 * first_data k ≤ length img.now }
-    ensures { result ≡ cluster_told (Known k) img.now c }
+    ensures { result ≡ cluster_told (Some k) img.now c }
 {
     let last = k.last_cluster();
-    if c < 2 {
-        return 0;
-    }
-    if last < c {
+    if c < 2 || last < c {
         return 0;
     }
     meaning_told(values::meaning_of(walks::chain::value_of(img, last, c), last))
@@ -48,8 +44,8 @@ pub fn member_cluster(img: &[u8], cluster: u32) -> u64
     ensures { result ≡ cluster_told (kind_of_image img.now) img.now cluster }
 {
     match diskette::kind_of_image(img) {
-        WhichKind::Known(k) => value_told(img, k, cluster as usize),
-        WhichKind::Unknown => super::refused(numbers::OF_NO_KIND),
+        Some(k) => value_told(img, k, cluster as usize),
+        None => super::refused(Refusal::OfNoKind),
     }
 }
 
@@ -60,19 +56,14 @@ fn comes_to(img: &[u8], last: usize, n: usize, start: usize, c: usize) -> bool
     ensures { result ≡ comes_to last (table_of last img.now) c n start }
 {
     let mut v = start;
-    let mut left = n;
-    while 0 < left {
-        if v < 2 {
-            return false;
-        }
-        if last < v {
+    for _ in 0..n {
+        if v < 2 || last < v {
             return false;
         }
         if v == c {
             return true;
         }
         v = walks::chain::value_of(img, last, v) as usize;
-        left -= 1;
     }
     false
 }
@@ -84,11 +75,7 @@ fn holds_at(img: &[u8], last: usize, n: usize, c: usize, a: usize) -> bool
     requires a_in_bounds { a + 32 ≤ length img.now }
     ensures { result ≡ holds_at last n img.now c a }
 {
-    if directory::plain_at(img, a) {
-        comes_to(img, last, n, fields::start_at(img, a) as usize, c)
-    } else {
-        false
-    }
+    directory::plain_at(img, a) && comes_to(img, last, n, fields::start_at(img, a) as usize, c)
 }
 
 // The lowest slot from this one on that holds cluster c, of a root with count slots that stands at byte root.
@@ -100,34 +87,27 @@ fn lowest_holder(
     count: usize,
     c: usize,
     from: usize,
-) -> Found
+) -> Option<usize>
     requires last_bound { last ≤ 4079 }
     requires last_in_bounds { word_at 512 last + 2 ≤ length img.now }
     requires count_in_bounds { root + 32 * count ≤ length img.now }
     ensures { result ≡ lowest (slot_holds last n img.now (slot_from root) c) from (count - from) }
 {
-    let mut slot = from;
-    while slot < count {
-        if holds_at(img, last, n, c, root + 32 * slot) {
-            return Found::At(slot);
-        }
-        slot += 1;
-    }
-    Found::Nothing
+    (from..count).find(|&slot| holds_at(img, last, n, c, root + 32 * slot))
 }
 
 // The same of a volume of the kind k, as a number: the slot and one more; 0 for none.
 fn holder_told(img: &[u8], k: Kind, c: usize, from: usize) -> u64
     requires usable { Usable k }
     requires k_in_bounds { 512 * first_data k ≤ length img.now }
-    ensures { result ≡ holder_told (Known k) img.now c from }
+    ensures { result ≡ holder_told (Some k) img.now c from }
 {
     let last = k.last_cluster();
     let root = k.root_at();
     let count = k.root_entries();
     match lowest_holder(img, last, k.clusters(), root, count, c, from) {
-        Found::At(slot) => slot as u64 + 1,
-        Found::Nothing => 0,
+        Some(slot) => slot as u64 + 1,
+        None => 0,
     }
 }
 
@@ -136,7 +116,7 @@ pub fn member_holder(img: &[u8], cluster: u32, slot: u32) -> u64
     ensures { result ≡ holder_told (kind_of_image img.now) img.now cluster slot }
 {
     match diskette::kind_of_image(img) {
-        WhichKind::Known(k) => holder_told(img, k, cluster as usize, slot as usize),
-        WhichKind::Unknown => super::refused(numbers::OF_NO_KIND),
+        Some(k) => holder_told(img, k, cluster as usize, slot as usize),
+        None => super::refused(Refusal::OfNoKind),
     }
 }

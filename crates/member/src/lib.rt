@@ -6,29 +6,30 @@ pub mod clusters;
 ghost use Rattle.std.specs.Prelude.{◌≡◌};
 ghost use Rattle.stamps.specs.Stamps.{time_read, date_read};
 ghost use Rattle.diskette.specs.Images.{kind_of_image};
+ghost use Rattle.calls.specs.Numbers.{refusal_number};
 ghost use Rattle.member.specs.Answers.{refusal_answer, standing_told, slot_told, date_told, time_told};
 
-use calls::numbers;
+use calls::refusal::Refusal;
 use directory::Standing;
-use diskette::WhichKind;
-use stamps::{DateRead, TimeRead};
 
 // A refusal: its number in the upper 32 bits, the value 0.
-pub fn refused(number: u32) -> u64
-    ensures { result ≡ refusal_answer number }
+pub fn refused(refusal: Refusal) -> u64
+    ensures { result ≡ refusal_answer (refusal_number refusal) }
 {
-    number as u64 * 4294967296
+    refusal.number() as u64 * 4294967296
 }
 
 // What an entry with that attribute stands for, as a number.
+#[tactic(auto, unfolding(crate::specs::Answers::standing_told))]
 fn standing_told(standing: Standing, attr: u8) -> u64
     ensures { result ≡ standing_told standing attr }
 {
     match standing {
-        Standing::NeverUsed => 1,
-        Standing::Erased => 1,
-        Standing::Plain => { if directory::has_bit(attr, 0x10) { 4 } else { 2 } }
-        Standing::Label => { if attr == 0x0F { 5 } else { 3 } }
+        Standing::NeverUsed | Standing::Erased => 1,
+        Standing::Plain if directory::has_bit(attr, 0x10) => 4,
+        Standing::Plain => 2,
+        Standing::Label if attr == 0x0F => 5,
+        Standing::Label => 3,
     }
 }
 
@@ -36,31 +37,29 @@ fn standing_told(standing: Standing, attr: u8) -> u64
 pub fn member_slot(img: &[u8], slot: u32) -> u64
     ensures { result ≡ slot_told (kind_of_image img.now) img.now slot }
 {
-    match diskette::kind_of_image(img) {
-        WhichKind::Known(k) => {
-            let s = slot as usize;
-            if k.root_entries() <= s {
-                return 0;
-            }
-            let a = k.slot_at(s);
-            standing_told(directory::standing_at(img, a), fields::attr_at(img, a))
-        }
-        WhichKind::Unknown => refused(numbers::OF_NO_KIND),
+    let Some(k) = diskette::kind_of_image(img) else {
+        return refused(Refusal::OfNoKind);
+    };
+    let s = slot as usize;
+    if k.root_entries() <= s {
+        return 0;
     }
+    let a = k.slot_at(s);
+    standing_told(directory::standing_at(img, a), fields::attr_at(img, a))
 }
 
 // Year, month and day of a stored date word. Refused by 43 where they are out of their ranges.
 pub fn member_date(word: u32) -> u64
     ensures { result ≡ date_told (date_read word) }
 {
-    if 65535 < word {
-        return refused(numbers::OUT_OF_RANGE);
-    }
-    match stamps::read_date(word as u16) {
-        DateRead::Date(year, month, day) => {
+    let Ok(word) = u16::try_from(word) else {
+        return refused(Refusal::OutOfRange);
+    };
+    match stamps::read_date(word) {
+        Some((year, month, day)) => {
             (1980 + year as u64) * 10000 + month as u64 * 100 + day as u64
         }
-        DateRead::NoDate => refused(numbers::OUT_OF_RANGE),
+        None => refused(Refusal::OutOfRange),
     }
 }
 
@@ -68,13 +67,13 @@ pub fn member_date(word: u32) -> u64
 pub fn member_time(word: u32) -> u64
     ensures { result ≡ time_told (time_read word) }
 {
-    if 65535 < word {
-        return refused(numbers::OUT_OF_RANGE);
-    }
-    match stamps::read_time(word as u16) {
-        TimeRead::Time(hour, minute, step) => {
+    let Ok(word) = u16::try_from(word) else {
+        return refused(Refusal::OutOfRange);
+    };
+    match stamps::read_time(word) {
+        Some((hour, minute, step)) => {
             hour as u64 * 10000 + minute as u64 * 100 + step as u64 * 2
         }
-        TimeRead::NoTime => refused(numbers::OUT_OF_RANGE),
+        None => refused(Refusal::OutOfRange),
     }
 }

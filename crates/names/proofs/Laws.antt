@@ -6,3 +6,4 @@ pub mod Code
 pub mod Meaning
 pub mod Proper
 pub mod Same
+pub mod Given

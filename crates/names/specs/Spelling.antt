@@ -1,5 +1,6 @@
 -- What a caller may write, and the eleven bytes that it means.
-use Rattle.std.specs.Prelude.{ℕ, ◌-◌, ◌≤◌, ◌<◌, Bool, true, cond, ◌&&◌, List, [], ◌∷◌, ◌++◌, map, ◌⊎◌, ◌≢◌, ◌≡◌, eqb, length, get_or, replicate}
+use Rattle.std.specs.Prelude.{ℕ, ◌-◌, ◌≤◌, ◌<◌, Bool, true, cond, List, [], ◌∷◌, ◌++◌, map, ◌⊎◌, ◌≢◌, ◌≡◌, eqb, length, get_or, replicate}
+use Rattle.std.specs.List.{list_all}
 use Rattle.names.specs.Alphabet.{plain, allowed, capital}
 
 abbrev pub dot : ℕ
@@ -10,8 +11,7 @@ space = 0x20
 
 -- every character of the list passes the test
 unfoldable pub every : (ℕ → Bool) → List ℕ → Bool
-every p [] = true
-every p (c ∷ cs) = p c && every p cs
+every = list_all
 
 -- 1 to 8 characters, and 0 to 3 more; good says which parts may be written
 pub record Parts (good : List ℕ → Bool) (base ext : List ℕ) : Type 0 where

@@ -1,182 +1,149 @@
 // Names given by callers: eleven bytes, or refused.
 #![tactic(auto)]
 
-ghost use Rattle.std.specs.Prelude.{◌≡◌, length};
-ghost use Rattle.names.specs.Alphabet.{within, small_letter, among, plain, allowed, capital};
-ghost use Rattle.names.specs.Spelling.{dot, every, Parts, eleven};
-ghost use Rattle.names.specs.Reading.{before_first, fitting, name_given};
-ghost use Rattle.names.specs.Aids.Reading.{spelled_as};
-ghost use Rattle.names.specs.Aids.Bytes.{padded_byte, name_byte};
+ghost use Rattle.std.specs.Prelude.{ℕ, Bool, List, ◌≡◌, ◌≤◌, ◌&&◌, ◌==◌, ◌++◌, map, length, is_some, IfSome};
+ghost use Rattle.std.specs.List.{position};
+ghost use Rattle.names.specs.Alphabet.{within, plain, allowed, capital};
+ghost use Rattle.names.specs.Spelling.{dot, space, every, filled};
+ghost use Rattle.names.specs.Reading.{before_first, after_first, name_given};
+ghost use Rattle.names.specs.Aids.Reading.{bytes_by, answer};
+ghost use Rattle.names.specs.Aids.Bytes.{filled_byte};
 
-// Whether a name fits the rules, and its eleven bytes (all spaces where it does not).
-#[derive(Clone, Copy)]
-pub struct Spelled {
-    pub fits: bool,
-    pub name: [u8; 11],
-}
-
-// Whether c is one of the characters from low to high.
-fn is_within(low: u8, high: u8, c: u8) -> bool
-    ensures { result ≡ within low high c }
-{
-    if c < low {
-        return false;
-    }
-    c <= high
-}
-
-// Whether c is one of the characters of s.
-fn is_among(s: &[u8], c: u8) -> bool
-    ensures { result ≡ among s.now c }
-{
-    let mut i: usize = 0;
-    while i < s.len() {
-        if c == s[i] {
-            return true;
-        }
-        i += 1;
-    }
-    false
-}
+use std::array;
 
 // Whether c is a capital, a digit or one of the signs.
+#[tactic(auto, unfolding(crate::specs::Alphabet::plain))]
 pub fn is_plain(c: u8) -> bool
     ensures { result ≡ plain c }
 {
-    if is_within(b'A', b'Z', c) {
-        return true;
-    }
-    if is_within(b'0', b'9', c) {
-        return true;
-    }
-    is_among(b"$&#@!%'()-{}_", c)
-}
-
-// Whether c is a small letter.
-fn is_small(c: u8) -> bool
-    ensures { result ≡ small_letter c }
-{
-    is_within(b'a', b'z', c)
+    c.is_ascii_uppercase() || c.is_ascii_digit() || b"$&#@!%'()-{}_".contains(&c)
 }
 
 // Whether a caller may write c in a name.
+#[tactic(auto, unfolding(crate::specs::Alphabet::allowed))]
 pub fn is_allowed(c: u8) -> bool
     ensures { result ≡ allowed c }
 {
-    if is_small(c) {
-        return true;
-    }
-    is_plain(c)
+    c.is_ascii_lowercase() || is_plain(c)
 }
 
 // Small letters become capitals, others stay.
+#[tactic(auto, unfolding(crate::specs::Alphabet::capital))]
 pub fn to_capital(c: u8) -> u8
     ensures { result ≡ capital c }
 {
-    if is_small(c) { c - 32 } else { c }
+    c.to_ascii_uppercase()
 }
 
 // Whether a caller may write every character of s in a name.
+#[tactic(auto, unfolding(crate::specs::Spelling::every))]
 fn all_allowed(s: &[u8]) -> bool
     ensures { result ≡ every allowed s.now }
 {
-    let mut i: usize = 0;
-    while i < s.len() {
-        if !is_allowed(s[i]) {
-            return false;
-        }
-        i += 1;
-    }
-    true
+    s.iter().all(|&c| is_allowed(c))
+}
+
+// Where the first dot of s stands, if it has one.
+fn first_dot(s: &[u8]) -> Option<usize>
+    ensures { result ≡ position (λ c. c == dot) s.now }
+{
+    s.iter().position(|&c| c == b'.')
 }
 
 // Where the first dot of s stands: its length where there is none.
+#[tactic(auto, using(crate::proofs::Laws::Code::dot_place))]
 pub fn dot_at(s: &[u8]) -> usize
     ensures { result ≡ length (before_first dot s.now) }
 {
-    let mut i: usize = 0;
-    while i < s.len() {
-        if s[i] == b'.' {
-            return i;
-        }
-        i += 1;
-    }
-    i
+    first_dot(s).unwrap_or(s.len())
 }
 
-// Whether the parts before and after the dot keep to the rules.
-fn parts_fit(base: &[u8], ext: &[u8]) -> bool
-    ensures { result ≡ fitting (every allowed) base.now ext.now }
+// What stands before the first dot of s, and after it.
+#[tactic(auto, using(crate::proofs::Laws::Code::cut_at_dot))]
+fn parts(s: &[u8]) -> (&[u8], &[u8])
+    ensures base { result.0.now ≡ before_first dot s.now }
+    ensures ext { result.1.now ≡ after_first dot s.now }
 {
-    if base.len() < 1 {
-        return false;
-    }
-    if 8 < base.len() {
-        return false;
-    }
-    if 3 < ext.len() {
-        return false;
-    }
-    if !all_allowed(base) {
-        return false;
-    }
-    all_allowed(ext)
-}
-
-// Byte i of a part in capitals, padded by spaces.
-fn padded_byte(s: &[u8], i: usize) -> u8
-    ensures { result ≡ padded_byte s.now i }
-{
-    if i < s.len() { to_capital(s[i]) } else { b' ' }
-}
-
-// Byte i of the eleven.
-fn name_byte(base: &[u8], ext: &[u8], i: usize) -> u8
-    ensures { result ≡ name_byte base.now ext.now i }
-{
-    if i < 8 {
-        padded_byte(base, i)
-    } else {
-        padded_byte(ext, i - 8)
+    match first_dot(s) {
+        Some(at) => (&s[..at], &s[at + 1..]),
+        None => (s, b""),
     }
 }
 
-// The eleven bytes of the two parts.
-fn eleven_bytes(base: &[u8], ext: &[u8]) -> [u8; 11]
-    requires { Parts (every allowed) base.now ext.now }
-    ensures { result ≡ eleven base.now ext.now }
-{
-    let mut name = [b' '; 11];
-    let mut i: usize = 0;
-    while i < 11 {
-        name[i] = name_byte(base, ext, i);
-        i += 1;
-    }
-    name
+// A part of what a caller writes, before or after the dot: what stands in capitals of it, and the byte that fills it up.
+#[derive(Clone, Copy)]
+pub struct Part<'a> {
+    pub core: &'a [u8],
+    pub filler: u8,
 }
 
-// The name of two parts.
-fn in_parts(base: &[u8], ext: &[u8]) -> Spelled
-    ensures { result ≡ spelled_as (every allowed) eleven base.now ext.now }
+impl Part<'_> {
+    // Byte i of the part in capitals, and then the filler.
+    fn byte(&self, i: usize) -> u8
+        ensures { result ≡ filled_byte self.now.filler self.now.core.now i }
+    {
+        self.core.get(i).map_or(self.filler, |&c| to_capital(c))
+    }
+}
+
+// How parts are read: which are good, what stands in capitals of a good one, and what fills it up.
+pub trait Rule {
+    ghost good: { List ℕ → Bool };
+
+    ghost core: { List ℕ → List ℕ };
+
+    ghost filler: { List ℕ → ℕ };
+
+    // The part t, where it is good and has from least to most characters.
+    fn part(t: &[u8], least: usize, most: usize) -> Option<Part<'_>>
+        ensures fits { is_some result ≡ (within least most (length t.now) && good t.now) }
+        ensures core { IfSome result (λ p. p.core.now ≡ core t.now) }
+        ensures short { IfSome result (λ p. length p.core.now ≤ length t.now) }
+        ensures filler { IfSome result (λ p. p.filler ≡ filler t.now) };
+}
+
+// The eleven bytes of two parts.
+fn eleven_bytes(base: &Part, ext: &Part) -> [u8; 11]
+    requires base { length base.now.core.now ≤ 8 }
+    requires ext { length ext.now.core.now ≤ 3 }
+    ensures { result ≡ filled 8 base.now.filler (map capital base.now.core.now) ++ filled 3 ext.now.filler (map capital ext.now.core.now) }
 {
-    if !parts_fit(base, ext) {
-        return Spelled {
-            fits: false,
-            name: [b' '; 11],
+    array::from_fn(|i| if i < 8 { base.byte(i) } else { ext.byte(i - 8) })
+}
+
+// The eleven bytes that s spells: none where it breaks the rule.
+pub fn spelled<R: Rule>(s: &[u8]) -> Option<[u8; 11]>
+    ensures { result ≡ answer R.good (bytes_by R.core R.filler) s.now }
+{
+    let (base, ext) = parts(s);
+    let base = R::part(base, 1, 8)?;
+    let ext = R::part(ext, 0, 3)?;
+    Some(eleven_bytes(&base, &ext))
+}
+
+// Parts of names: every character may be written, and spaces fill them up.
+struct Plain;
+
+impl Rule for Plain {
+    ghost good = { every allowed };
+
+    ghost core = { λ t. t };
+
+    ghost filler = { λ _. space };
+
+    fn part(t: &[u8], least: usize, most: usize) -> Option<Part<'_>> {
+        let part = Part {
+            core: t,
+            filler: b' ',
         };
+        ((least..=most).contains(&t.len()) && all_allowed(t)).then_some(part)
     }
-    let name = eleven_bytes(base, ext);
-    Spelled { fits: true, name }
 }
 
-// The name that a caller gives.
-pub fn name_given(s: &[u8]) -> Spelled
+// The name that a caller gives: none where it breaks the rules.
+#[tactic(auto, unfolding(crate::specs::Reading::name_given, crate::specs::Spelling::eleven))]
+pub fn name_given(s: &[u8]) -> Option<[u8; 11]>
     ensures { result ≡ name_given s.now }
 {
-    let at = dot_at(s);
-    if at < s.len() {
-        in_parts(&s[..at], &s[at + 1..])
-    } else {
-        in_parts(s, b"")
-    }
+    spelled::<Plain>(s)
 }

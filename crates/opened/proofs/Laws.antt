@@ -3,4 +3,3 @@ pub mod Records
 pub mod Stores
 pub mod Places
 pub mod Uses
-pub mod Code

@@ -1,7 +1,6 @@
 -- Which places are live and which unused; which files are open.
-use Rattle.std.specs.Prelude.{ℕ, ◌≤◌, ◌<◌, Bool, true, not, ◌&&◌, List, ◌≡◌, eqb, leb, ltb}
+use Rattle.std.specs.Prelude.{ℕ, ◌≤◌, ◌<◌, Bool, true, not, ◌&&◌, List, ◌≡◌, eqb, leb, ltb, Option}
 use Rattle.search.specs.Search.{lowest, is_found}
-use Rattle.search.specs.declared.Found.{Found}
 use Rattle.directory.specs.Slots.{PlainAt, standing_of, is_plain}
 use Rattle.opened.specs.Records.{place_count, used_of, slot_of, access_of}
 
@@ -31,5 +30,5 @@ is_open t slot = is_found (lowest (λ p. used_of t p && eqb (slot_of t p) slot) 
 
 -- ---- the lowest unused place
 
-unfoldable pub lowest_unused : List ℕ → Found
+unfoldable pub lowest_unused : List ℕ → Option ℕ
 lowest_unused t = lowest (λ p. not (used_of t p)) 0 (place_count t)

@@ -10,16 +10,14 @@ ghost use Rattle.opened.specs.Aids.Records.{mark_bytes, number_bytes};
 ghost use Rattle.opened.specs.Places.{is_open, lowest_unused};
 ghost use Rattle.opened.specs.Aids.Places.{live_slot, names_slot};
 
-use search::Found;
-
 // How many places count: as many as fit the table's length, at most 16.
 pub fn place_count(t: &[u8]) -> usize
     ensures { result ≡ place_count t.now }
 {
-    let whole = t.len() / 16;
-    if whole < 16 { whole } else { 16 }
+    (t.len() / 16).min(16)
 }
 
+#[tactic(auto, unfolding(crate::specs::Records::used_of))]
 pub fn used_at(t: &[u8], p: usize) -> bool
     requires { p < place_count t.now }
     ensures { result ≡ used_of t.now p }
@@ -27,6 +25,7 @@ pub fn used_at(t: &[u8], p: usize) -> bool
     t[16 * p] != 0
 }
 
+#[tactic(auto, unfolding(crate::specs::Records::access_of))]
 pub fn access_at(t: &[u8], p: usize) -> u8
     requires { p < place_count t.now }
     ensures { result ≡ access_of t.now p }
@@ -34,6 +33,7 @@ pub fn access_at(t: &[u8], p: usize) -> u8
     t[16 * p + 1]
 }
 
+#[tactic(auto, unfolding(crate::specs::Records::written_of))]
 pub fn written_at(t: &[u8], p: usize) -> bool
     requires { p < place_count t.now }
     ensures { result ≡ written_of t.now p }
@@ -41,6 +41,7 @@ pub fn written_at(t: &[u8], p: usize) -> bool
     t[16 * p + 2] != 0
 }
 
+#[tactic(auto, unfolding(crate::specs::Records::slot_of))]
 pub fn slot_at(t: &[u8], p: usize) -> u32
     requires { p < place_count t.now }
     ensures { result ≡ slot_of t.now p }
@@ -48,6 +49,7 @@ pub fn slot_at(t: &[u8], p: usize) -> u32
     image::get32(t, 16 * p + 4)
 }
 
+#[tactic(auto, unfolding(crate::specs::Records::pointer_of))]
 pub fn pointer_at(t: &[u8], p: usize) -> u32
     requires { p < place_count t.now }
     ensures { result ≡ pointer_of t.now p }
@@ -56,16 +58,15 @@ pub fn pointer_at(t: &[u8], p: usize) -> u32
 }
 
 // The first four bytes: used, access, not written, zero.
+#[tactic(auto, unfolding(crate::specs::Aids::Records::mark_bytes))]
 fn put_marks(t: &mut [u8], p: usize, access: u8)
     requires { p < place_count t.old }
     ensures { t.new ≡ stored t.old (place_at p) (mark_bytes access false) }
 {
-    t[16 * p] = 1;
-    t[16 * p + 1] = access;
-    t[16 * p + 2] = 0;
-    t[16 * p + 3] = 0;
+    image::copy_in(t, 16 * p, &[1, access, 0, 0]);
 }
 
+#[tactic(auto, unfolding(crate::specs::Records::with_pointer))]
 pub fn put_pointer(t: &mut [u8], p: usize, pointer: u32)
     requires { p < place_count t.old }
     ensures { t.new ≡ with_pointer t.old p pointer }
@@ -74,6 +75,7 @@ pub fn put_pointer(t: &mut [u8], p: usize, pointer: u32)
 }
 
 // The other twelve: slot, pointer, zeros.
+#[tactic(auto, using(crate::proofs::Laws::Stores::numbers_stored))]
 fn put_numbers(t: &mut [u8], p: usize, slot: u32, pointer: u32)
     requires { p < place_count t.old }
     ensures { t.new ≡ stored t.old (place_at p + 4) (number_bytes slot pointer) }
@@ -84,6 +86,7 @@ fn put_numbers(t: &mut [u8], p: usize, slot: u32, pointer: u32)
 }
 
 // Takes the place: all 16 bytes are stored, not written yet.
+#[tactic(auto, using(crate::proofs::Laws::Stores::record_stored))]
 pub fn put_record(t: &mut [u8], p: usize, access: u8, slot: u32, pointer: u32)
     requires { p < place_count t.old }
     ensures { t.new ≡ with_record t.old p access slot pointer false }
@@ -92,6 +95,7 @@ pub fn put_record(t: &mut [u8], p: usize, access: u8, slot: u32, pointer: u32)
     put_numbers(t, p, slot, pointer);
 }
 
+#[tactic(auto, unfolding(crate::specs::Records::with_written, image::specs::Store::stored))]
 pub fn put_written(t: &mut [u8], p: usize)
     requires { p < place_count t.old }
     ensures { t.new ≡ with_written t.old p }
@@ -100,6 +104,7 @@ pub fn put_written(t: &mut [u8], p: usize)
 }
 
 // Frees the place: all 16 bytes become zero.
+#[tactic(auto, unfolding(crate::specs::Records::cleared))]
 pub fn clear(t: &mut [u8], p: usize)
     requires { p < place_count t.old }
     ensures { t.new ≡ cleared t.old p }
@@ -108,18 +113,10 @@ pub fn clear(t: &mut [u8], p: usize)
 }
 
 // The lowest unused place.
-pub fn lowest_unused(t: &[u8]) -> Found
+pub fn lowest_unused(t: &[u8]) -> Option<usize>
     ensures { result ≡ lowest_unused t.now }
 {
-    let count = place_count(t);
-    let mut lowest: usize = 0;
-    while lowest < count {
-        if !used_at(t, lowest) {
-            return Found::At(lowest);
-        }
-        lowest += 1;
-    }
-    Found::Nothing
+    (0..place_count(t)).find(|&place| !used_at(t, place))
 }
 
 // Whether place p is used and names the slot.
@@ -127,50 +124,26 @@ fn names_slot(t: &[u8], p: usize, slot: usize) -> bool
     requires { p < place_count t.now }
     ensures { result ≡ names_slot t.now slot p }
 {
-    if used_at(t, p) {
-        slot_at(t, p) as usize == slot
-    } else {
-        false
-    }
+    used_at(t, p) && slot_at(t, p) as usize == slot
 }
 
 // Whether a file in the slot would be open: some used place names it, whatever its access.
 pub fn is_open(t: &[u8], slot: usize) -> bool
     ensures { result ≡ is_open t.now slot }
 {
-    let count = place_count(t);
-    let mut place: usize = 0;
-    while place < count {
-        if names_slot(t, place, slot) {
-            return true;
-        }
-        place += 1;
-    }
-    false
+    (0..place_count(t)).any(|place| names_slot(t, place, slot))
 }
 
 // The slot of the file that the handle reaches; nothing where the place is not live.
-pub fn live_slot(t: &[u8], handle: u32, img: &[u8], root: usize, count: usize) -> Found
+#[tactic(auto, unfolding(crate::specs::Aids::Places::live_slot, crate::specs::Places::is_live))]
+pub fn live_slot(t: &[u8], handle: u32, img: &[u8], root: usize, count: usize) -> Option<usize>
     requires { root + 32 * count ≤ length img.now }
     ensures { result ≡ live_slot t.now handle img.now (slot_from root) count }
 {
     let place = handle as usize;
-    if place >= place_count(t) {
-        return Found::Nothing;
-    }
-    if !used_at(t, place) {
-        return Found::Nothing;
-    }
-    if access_at(t, place) > 2 {
-        return Found::Nothing;
+    if place >= place_count(t) || !used_at(t, place) || access_at(t, place) > 2 {
+        return None;
     }
     let slot = slot_at(t, place) as usize;
-    if slot >= count {
-        return Found::Nothing;
-    }
-    if directory::plain_at(img, root + 32 * slot) {
-        Found::At(slot)
-    } else {
-        Found::Nothing
-    }
+    (slot < count && directory::plain_at(img, root + 32 * slot)).then_some(slot)
 }

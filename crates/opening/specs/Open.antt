@@ -4,7 +4,7 @@ use Rattle.opened.specs.Records.{with_record}
 use Rattle.calls.specs.Outcome.{Row, Outcome, outcome, decided}
 use Rattle.calls.specs.Numbers.{of_no_kind, unsound, invalid_access, breaks_rules, file_not_found, access_denied, too_many_open}
 use Rattle.calls.specs.Refusals.{not_of_kind, not_sound, bad_name, no_file, file_slot, read_only, no_place, free_place}
-use Rattle.calls.specs.declared.Answer.{Answer}
+use Rattle.calls.specs.Answers.{Answer, number_told, value_told}
 
 abbrev pub open_rows : List ℕ → List ℕ → List ℕ → ℕ → List Row
 open_rows img t s access =
@@ -25,4 +25,4 @@ open_outcome img t s access = decided (open_rows img t s access) (open_effect im
 
 -- what the call promises: its answer r, and the table after
 pub record Opens (img t s : List ℕ) (access : ℕ) (r : Answer) (after : List ℕ) : Type 0 where
-  pub is : outcome r.number r.value img after [] ≡ open_outcome img t s access
+  pub is : outcome (number_told r) (value_told r) img after [] ≡ open_outcome img t s access

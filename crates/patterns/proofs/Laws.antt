@@ -1,6 +1,5 @@
 -- The laws of the definitions in specs/.
 pub mod Parts
-pub mod Code
 pub mod Meaning
 pub mod Matches
 pub mod Examples

@@ -1,3 +1,2 @@
 -- Patterns given by callers. Read Patterns.
 pub mod Patterns
-pub mod Aids

@@ -1,9 +1,8 @@
 -- What a caller may write as a pattern, the eleven bytes that it means, and the names that match them.
-use Rattle.std.specs.Prelude.{ℕ, zero, suc, ◌+◌, ◌-◌, Bool, true, cond, ◌&&◌, ◌||◌, List, ◌++◌, map, ◌≡◌, eqb, length, get_or}
+use Rattle.std.specs.Prelude.{ℕ, zero, suc, ◌+◌, ◌-◌, Bool, true, cond, ◌&&◌, ◌||◌, List, ◌++◌, map, Option, ◌≡◌, eqb, length, get_or}
 use Rattle.names.specs.Alphabet.{allowed, capital}
 use Rattle.names.specs.Spelling.{dot, space, every, Spells, filled, without_last}
 use Rattle.names.specs.Reading.{before_first, after_first, fitting, spelled_if}
-use Rattle.names.specs.declared.Spelled.{Spelled}
 
 -- `?`
 abbrev pub any : ℕ
@@ -41,7 +40,7 @@ pub record PatternMeans (s n : List ℕ) : Type 0 where
   pub bytes : n ≡ eleven_wild base ext
 
 -- the same as a function: the answer for a pattern given by a caller
-unfoldable pub pattern_given : List ℕ → Spelled
+unfoldable pub pattern_given : List ℕ → Option (List ℕ)
 pattern_given s = let base = before_first dot s in let ext = after_first dot s in spelled_if (fitting pattern_part base ext) (eleven_wild base ext)
 
 -- ---- names that match

@@ -23,13 +23,6 @@ fn add_behind(img: &mut [u8], k: Kind, end: usize, n: usize) -> usize
     links::add_clusters(img, k.copy_two(), k.last_cluster(), end, n)
 }
 
-// How many clusters are lacking where so many are needed: none where the file has more.
-fn lacking(needed: usize, own: usize) -> usize
-    ensures { result ≡ needed - own }
-{
-    if needed <= own { 0 } else { needed - own }
-}
-
 // Where a chain starts: a file that had no cluster starts with the first new one.
 fn start_then(own: usize, start: usize, first: usize) -> usize
     ensures { result ≡ cond (eqb own 0) first start }
@@ -54,7 +47,7 @@ fn grow_chain(img: &mut [u8], k: Kind, a: usize, own: Extent, size: u32) -> usiz
     ensures { Grows k img.old a size result img.new }
 {
     let start = fields::start_at(img, a) as usize;
-    let more = lacking(k.needed_for(size), own.clusters);
+    let more = k.needed_for(size).saturating_sub(own.clusters);
     let first = add_behind(img, k, own.end, more);
     start_then(own.clusters, start, first)
 }

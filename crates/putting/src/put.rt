@@ -63,12 +63,6 @@ fn put_along(img: &mut [u8], k: Kind, start: usize, size: u32, pointer: u32, byt
     put_bytes(img, k, start, pointer, bytes);
 }
 
-fn larger(a: u32, b: u32) -> u32
-    ensures { result ≡ max a b }
-{
-    if a < b { b } else { a }
-}
-
 // Puts the bytes at the pointer into the file whose entry starts at byte a; own is how far its chain goes.
 fn put_in_file(img: &mut [u8], k: Kind, a: usize, own: Extent, pointer: u32, bytes: &[u8])
     requires can_put { CanPut k img.old a pointer (length bytes.now) }
@@ -76,7 +70,7 @@ fn put_in_file(img: &mut [u8], k: Kind, a: usize, own: Extent, pointer: u32, byt
     ensures { img.new ≡ written_in k img.old a pointer bytes.now }
 {
     let size = fields::size_at(img, a);
-    let after = larger(size, pointer + bytes.len() as u32);
+    let after = size.max(pointer + bytes.len() as u32);
     let start = longer::lengthen(img, k, a, own, after);
     put_along(img, k, start, size, pointer, bytes);
 }
@@ -96,5 +90,5 @@ pub fn put_first(
     requires n_in_bounds { n ≤ length bytes.now }
     ensures { img.new ≡ written_in k img.old a pointer (take n bytes.now) }
 {
-    put_in_file(img, k, a, own, pointer, &bytes[0..n]);
+    put_in_file(img, k, a, own, pointer, &bytes[..n]);
 }

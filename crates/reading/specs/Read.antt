@@ -8,7 +8,7 @@ use Rattle.calls.specs.Outcome.{Row, Outcome, outcome, decided}
 use Rattle.calls.specs.Numbers.{of_no_kind, unsound, invalid_handle, access_denied}
 use Rattle.calls.specs.Refusals.{the_kind, not_of_kind, not_sound, not_live, address_of}
 use Rattle.holding.specs.Holding.{file_bytes}
-use Rattle.calls.specs.declared.Answer.{Answer}
+use Rattle.calls.specs.Answers.{Answer, number_told, value_told}
 
 -- as many as buffer and file allow: room is the buffer's length
 abbrev pub read_count : ℕ → ℕ → ℕ → ℕ
@@ -34,4 +34,4 @@ read_outcome img t h buf = decided (read_rows img t h) (read_effect img t h buf)
 
 -- what the call promises: its answer r, the table and the buffer after
 pub record Reads (img t : List ℕ) (h : ℕ) (buf : List ℕ) (r : Answer) (table buffer : List ℕ) : Type 0 where
-  pub is : outcome r.number r.value img table buffer ≡ read_outcome img t h buf
+  pub is : outcome (number_told r) (value_told r) img table buffer ≡ read_outcome img t h buf

@@ -8,23 +8,15 @@ ghost use Rattle.sound.specs.Files.{IsFile};
 ghost use Rattle.reading.specs.Read.{read_count, Reads};
 ghost use Rattle.calls.specs.Aids.Ready.{OnVolume};
 
-use calls::{Answer, Ready, files, make_ready, numbers};
+use calls::refusal::Refusal;
+use calls::{files, make_ready};
 use diskette::Kind;
-use search::Found;
 
 // How many bytes buffer and file allow.
 fn count_of(room: usize, size: u32, pointer: u32) -> u32
     ensures { result ≡ read_count room size pointer }
 {
-    if size <= pointer {
-        return 0;
-    }
-    let left = size - pointer;
-    if room < left as usize {
-        room as u32
-    } else {
-        left
-    }
+    room.min(size.saturating_sub(pointer) as usize) as u32
 }
 
 // Copies n bytes of the file in the slot, from its byte pointer on, to the front of buf.
@@ -53,31 +45,25 @@ fn copy_out(img: &[u8], k: Kind, slot: usize, pointer: u32, buf: &mut [u8], n: u
 }
 
 // Reads from a file of a volume that is ready.
-fn read_on(img: &[u8], k: Kind, t: &mut [u8], handle: u32, buf: &mut [u8]) -> Answer
+fn read_on(img: &[u8], k: Kind, t: &mut [u8], handle: u32, buf: &mut [u8]) -> Result<u32, Refusal>
     requires { OnVolume img.now k }
     ensures { Reads img.now t.old handle buf.old result t.new buf.new }
 {
-    match files::file_open(img, k, t, handle) {
-        Found::Nothing => Answer::refused(numbers::INVALID_HANDLE),
-        Found::At(slot) => {
-            let place = handle as usize;
-            if opened::access_at(t, place) == 1 {
-                return Answer::refused(numbers::ACCESS_DENIED);
-            }
-            let pointer = opened::pointer_at(t, place);
-            let n = count_of(buf.len(), fields::size_at(img, k.slot_at(slot)), pointer);
-            copy_out(img, k, slot, pointer, buf, n);
-            opened::put_pointer(t, place, pointer + n);
-            Answer::well(n)
-        }
+    let slot = files::file_open(img, k, t, handle).ok_or(Refusal::InvalidHandle)?;
+    let place = handle as usize;
+    if opened::access_at(t, place) == 1 {
+        return Err(Refusal::AccessDenied);
     }
+    let pointer = opened::pointer_at(t, place);
+    let n = count_of(buf.len(), fields::size_at(img, k.slot_at(slot)), pointer);
+    copy_out(img, k, slot, pointer, buf, n);
+    opened::put_pointer(t, place, pointer + n);
+    Ok(n)
 }
 
-pub fn read(img: &[u8], t: &mut [u8], handle: u32, buf: &mut [u8]) -> Answer
+pub fn read(img: &[u8], t: &mut [u8], handle: u32, buf: &mut [u8]) -> Result<u32, Refusal>
     ensures { Reads img.now t.old handle buf.old result t.new buf.new }
 {
-    match make_ready(img) {
-        Ready::Refused(number) => Answer::refused(number),
-        Ready::Volume(k, _) => read_on(img, k, t, handle, buf),
-    }
+    let (k, _) = make_ready(img)?;
+    read_on(img, k, t, handle, buf)
 }

@@ -1,6 +1,6 @@
 -- The laws of the definitions in specs/.
 pub mod Row
-pub mod Turns
+pub mod Searches
 pub mod Seek
 pub mod Alike
 pub mod Stores

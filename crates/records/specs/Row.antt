@@ -1,7 +1,6 @@
 -- The open table is a row of records that the caller lends; only the first 16 are used.
-use Rattle.std.specs.Prelude.{ℕ, zero, suc, ◌+◌, ◌/◌, min, Bool, false, cond, not, ◌&&◌, List, [], ◌∷◌, eqb, ltb, length, get_or, set}
+use Rattle.std.specs.Prelude.{ℕ, zero, suc, ◌+◌, ◌/◌, min, Bool, false, cond, not, ◌&&◌, List, [], ◌∷◌, eqb, ltb, length, get_or, set, Option}
 use Rattle.search.specs.Search.{lowest, is_found}
-use Rattle.search.specs.declared.Found.{Found}
 use Rattle.opened.specs.Records.{place_count, with_record, with_written, cleared, used_of, slot_of, access_of, pointer_of, written_of}
 use Rattle.records.specs.declared.OpenRecord.{OpenRecord}
 
@@ -46,7 +45,7 @@ with_record_at row p r = cond (ltb p 16) (cond (ltb p (length row)) (set row p r
 abbrev pub unused_in : List OpenRecord → ℕ → Bool
 unused_in row p = not (get_or row p unused).used
 
-unfoldable pub lowest_unused_in : List OpenRecord → Found
+unfoldable pub lowest_unused_in : List OpenRecord → Option ℕ
 lowest_unused_in row = lowest (unused_in row) 0 (row_count row)
 
 -- ---- A file is open when a used place names its slot.

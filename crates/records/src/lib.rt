@@ -1,7 +1,7 @@
 // An open record as a value, beside its form as bytes (crate opened). Crate lent has the functions over it.
 #![tactic(auto)]
 
-#[derive(Clone, Copy)]
+#[derive(Clone, Copy, Default)]
 pub struct OpenRecord {
     pub used: bool,
     pub slot: u32,

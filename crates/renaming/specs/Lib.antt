@@ -1,3 +1,2 @@
 -- A file's name changed: rename.
 pub mod Rename
-pub mod Aids

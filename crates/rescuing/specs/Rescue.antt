@@ -12,7 +12,7 @@ use Rattle.sound.specs.Files.{value_of}
 use Rattle.calls.specs.Numbers.{of_no_kind, breaks_rules, file_not_found, access_denied}
 use Rattle.calls.specs.Outcome.{Row, Outcome, outcome, decided}
 use Rattle.calls.specs.Refusals.{the_kind, not_of_kind, bad_name, no_file, file_slot, address_of}
-use Rattle.calls.specs.declared.Answer.{Answer}
+use Rattle.calls.specs.Answers.{Answer, number_told, value_told}
 use Rattle.links.specs.Linked.{end_of}
 use Rattle.holding.specs.Holding.{file_chain, file_bytes}
 
@@ -49,4 +49,4 @@ rescue_outcome img s out = decided (rescue_rows img s) (rescue_effect img s out)
 
 -- what the call promises: its answer r, and out after
 pub record Rescues (img s out : List ℕ) (r : Answer) (after : List ℕ) : Type 0 where
-  pub is : outcome r.number r.value img [] after ≡ rescue_outcome img s out
+  pub is : outcome (number_told r) (value_told r) img [] after ≡ rescue_outcome img s out

@@ -4,41 +4,33 @@ ghost use Rattle.image.specs.Store.{stored};
 ghost use Rattle.chains.specs.Values.{endb};
 ghost use Rattle.diskette.specs.Images.{kind_of_image};
 ghost use Rattle.diskette.specs.Places.{slot_at};
-ghost use Rattle.diskette.specs.declared.WhichKind.TheVariants.{Known};
 ghost use Rattle.fields.specs.Fields.{size_of};
 ghost use Rattle.holding.specs.Holding.{file_bytes};
 ghost use Rattle.sound.specs.Files.{IsFile};
 ghost use Rattle.rescuing.specs.Rescue.{good_chain, rescue_count, Rescues};
 
-use calls::{Answer, numbers};
-use diskette::{Kind, WhichKind};
-use search::Found;
+use calls::refusal::Refusal;
+use diskette::Kind;
 
 // How many bytes out and size allow.
 fn count_of(room: usize, size: u32) -> u32
     ensures { result ≡ rescue_count room size }
 {
-    if room < size as usize {
-        room as u32
-    } else {
-        size
-    }
+    room.min(size as usize) as u32
 }
 
 // Whether v is an end value.
+#[tactic(auto, unfolding(chains::specs::Values::endb))]
 fn is_end(v: usize) -> bool
     ensures { result ≡ endb v }
 {
-    if v < 0xFF8 {
-        return false;
-    }
-    v <= 0xFFF
+    (0xFF8..=0xFFF).contains(&v)
 }
 
 // Whether the chain of the file in the slot is as finding 5 asks. One that comes to no end has a last cluster too, but no end
 // value there.
 fn has_good_chain(img: &[u8], k: Kind, slot: usize) -> bool
-    requires img_value { kind_of_image img.now ≡ Known k }
+    requires img_value { kind_of_image img.now ≡ Some k }
     requires file { IsFile k img.now slot }
     ensures { result ≡ good_chain k img.now slot }
 {
@@ -48,15 +40,12 @@ fn has_good_chain(img: &[u8], k: Kind, slot: usize) -> bool
         return size == 0;
     }
     let own = holding::extent_at(img, k, a);
-    if own.clusters < k.needed_for(size) {
-        return false;
-    }
-    is_end(links::value_of(img, k.last_cluster(), own.end))
+    k.needed_for(size) <= own.clusters && is_end(links::value_of(img, k.last_cluster(), own.end))
 }
 
 // Copies the first n bytes of the file in the slot, whose chain is good, to the front of out.
 fn copy_out(img: &[u8], k: Kind, slot: usize, out: &mut [u8], n: u32)
-    requires img_value { kind_of_image img.now ≡ Known k }
+    requires img_value { kind_of_image img.now ≡ Some k }
     requires file { IsFile k img.now slot }
     requires slot_value { good_chain k img.now slot ≡ true }
     requires n_bound { n ≤ size_of img.now (slot_at k slot) }
@@ -78,34 +67,26 @@ fn copy_out(img: &[u8], k: Kind, slot: usize, out: &mut [u8], n: u32)
 }
 
 // Rescues a file of an image of the kind.
-fn rescue_on(img: &[u8], k: Kind, s: &[u8], out: &mut [u8]) -> Answer
-    requires { kind_of_image img.now ≡ Known k }
+fn rescue_on(img: &[u8], k: Kind, s: &[u8], out: &mut [u8]) -> Result<u32, Refusal>
+    requires { kind_of_image img.now ≡ Some k }
     ensures { Rescues img.now s.now out.old result out.new }
 {
-    let given = names::name_given(s);
-    if !given.fits {
-        return Answer::refused(numbers::BREAKS_RULES);
+    let name = names::name_given(s).ok_or(Refusal::BreaksRules)?;
+    let slot = directory::slot_named(img, k.root_at(), k.root_entries(), name).ok_or(
+        Refusal::FileNotFound,
+    )?;
+    if !has_good_chain(img, k, slot) {
+        return Err(Refusal::AccessDenied);
     }
-    let name = given.name;
-    match directory::slot_named(img, k.root_at(), k.root_entries(), name) {
-        Found::Nothing => Answer::refused(numbers::FILE_NOT_FOUND),
-        Found::At(slot) => {
-            if !has_good_chain(img, k, slot) {
-                return Answer::refused(numbers::ACCESS_DENIED);
-            }
-            let size = fields::size_at(img, k.slot_at(slot));
-            let n = count_of(out.len(), size);
-            copy_out(img, k, slot, out, n);
-            Answer::well(n)
-        }
-    }
+    let size = fields::size_at(img, k.slot_at(slot));
+    let n = count_of(out.len(), size);
+    copy_out(img, k, slot, out, n);
+    Ok(n)
 }
 
-pub fn rescue(img: &[u8], s: &[u8], out: &mut [u8]) -> Answer
+pub fn rescue(img: &[u8], s: &[u8], out: &mut [u8]) -> Result<u32, Refusal>
     ensures { Rescues img.now s.now out.old result out.new }
 {
-    match diskette::kind_of_image(img) {
-        WhichKind::Known(k) => rescue_on(img, k, s, out),
-        WhichKind::Unknown => Answer::refused(numbers::OF_NO_KIND),
-    }
+    let k = diskette::kind_of_image(img).ok_or(Refusal::OfNoKind)?;
+    rescue_on(img, k, s, out)
 }

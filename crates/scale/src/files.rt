@@ -1,4 +1,6 @@
 // The calls over an open table, find, view's number and rescue: a name, a pattern and the table are byte slices too.
+#![tactic(auto, using(crate::proofs::Laws::Calls::hands, crate::proofs::Laws::Calls::create_hands, crate::proofs::Laws::Calls::close_hands, crate::proofs::Laws::Calls::seek_hands, crate::proofs::Laws::Calls::view_number_leaves))]
+
 ghost use Rattle.std.specs.Prelude.{[]};
 ghost use Rattle.closing.specs.Close.{close_outcome};
 ghost use Rattle.marking.specs.Mode.{mode_outcome};
@@ -29,6 +31,7 @@ pub fn bm_open(img: &[u8], t: &mut [u8], name: &[u8], access: u32) -> u64
 }
 
 // Creates or empties a file and opens it: the value is its handle.
+// (The six numbers of the stamp come one by one, as C hands them over.)
 pub fn bm_create(
     img: &mut [u8],
     t: &mut [u8],
@@ -69,6 +72,7 @@ pub fn bm_seek(img: &[u8], t: &mut [u8], handle: u32, method: u32, offset: i32) 
 }
 
 // Closes a file.
+// (The six numbers of the stamp come one by one, as C hands them over.)
 pub fn bm_close(
     img: &mut [u8],
     t: &mut [u8],

@@ -3,3 +3,4 @@ pub mod Turns
 pub mod Flags
 pub mod Meaning
 pub mod Answers
+pub mod Chains

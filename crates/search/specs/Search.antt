@@ -1,17 +1,15 @@
 -- The lowest: as a search finds it, and in words.
-use Rattle.std.specs.Prelude.{ℕ, zero, suc, ◌+◌, Bool, cond, true, false, ◌≡◌, ltb}
-use Rattle.search.specs.declared.Found.{Found}
-use Rattle.search.specs.declared.Found.TheVariants.{At, Nothing}
+use Rattle.std.specs.Prelude.{ℕ, zero, suc, ◌+◌, Bool, cond, true, false, ◌≡◌, ltb, Option, Some, None}
 
 -- of the n numbers from s on, the lowest that passes a test
-unfoldable pub lowest : (ℕ → Bool) → ℕ → ℕ → Found
-lowest p s zero = Nothing
-lowest p s (suc n) = cond (p s) (At s) (lowest p (s + 1) n)
+unfoldable pub lowest : (ℕ → Bool) → ℕ → ℕ → Option ℕ
+lowest p s zero = None
+lowest p s (suc n) = cond (p s) (Some s) (lowest p (s + 1) n)
 
 -- something passes
-abbrev pub is_found : Found → Bool
-is_found (At p) = true
-is_found Nothing = false
+abbrev pub is_found : Option ℕ → Bool
+is_found (Some p) = true
+is_found None = false
 
 -- ---- in words: of places of any type, which the test before orders (ltb for numbers)
 
@@ -20,10 +18,10 @@ abbrev pub Lowest : {P : Type 0} → (P → P → Bool) → (P → Type 0) → P
 Lowest before B p = B p × ((q : _) → before q p ≡ true → ¬ B q)
 
 -- B holds nowhere
-abbrev pub None : {P : Type 0} → (P → Type 0) → Type 0
-None B = (p : _) → ¬ B p
+abbrev pub Nowhere : {P : Type 0} → (P → Type 0) → Type 0
+Nowhere B = (p : _) → ¬ B p
 
 -- what the answer to a search for B means
-abbrev pub Answers : (ℕ → Type 0) → Found → Type 0
-Answers B (At p) = Lowest ltb B p
-Answers B Nothing = None B
+abbrev pub Answers : (ℕ → Type 0) → Option ℕ → Type 0
+Answers B (Some p) = Lowest ltb B p
+Answers B None = Nowhere B

@@ -1,8 +1,2 @@
 // What a search over numbers answers: the lowest that was looked for, or nothing.
 #![tactic(auto)]
-
-#[derive(Clone, Copy)]
-pub enum Found {
-    At(usize),
-    Nothing,
-}

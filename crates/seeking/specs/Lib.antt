@@ -1,2 +1,3 @@
 -- The pointer of an open file moved: seek.
 pub mod Seek
+pub mod Aids

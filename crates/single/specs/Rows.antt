@@ -3,7 +3,7 @@
 use Rattle.std.specs.Prelude.{ℕ, List, [], ◌∷◌, ◌++◌, ◌≡◌}
 use Rattle.opened.specs.Records.{record_bytes}
 use Rattle.calls.specs.Outcome.{Outcome}
-use Rattle.calls.specs.declared.Answer.{Answer}
+use Rattle.calls.specs.Answers.{Answer, number_told, value_told}
 use Rattle.records.specs.Row.{row_of}
 use Rattle.records.specs.declared.OpenRecord.{OpenRecord}
 
@@ -18,8 +18,8 @@ bytes_of (r ∷ row) = place_bytes r ++ bytes_of row
 
 -- what a call over a row promises, by the outcome o of the call over bytes: its answer r, image, row and buffer after
 pub record LeavesRow (o : Outcome) (r : Answer) (image : List ℕ) (row : List OpenRecord) (buffer : List ℕ) : Type 0 where
-  pub number_is : r.number ≡ o.number
-  pub value_is : r.value ≡ o.value
+  pub number_is : (number_told r) ≡ o.number
+  pub value_is : (value_told r) ≡ o.value
   pub image_is : image ≡ o.image
   pub row_is : row ≡ row_of o.table
   pub buffer_is : buffer ≡ o.buffer

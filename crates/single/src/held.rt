@@ -1,6 +1,5 @@
 // The calls on one record that is held out of its row: each is the call on a table of bytes that has this record alone.
 ghost use Rattle.std.specs.Prelude.{[], ◌∷◌, ◌≡◌};
-ghost use Rattle.chains.specs.Sums.{bit};
 ghost use Rattle.closing.specs.Close.{close_outcome};
 ghost use Rattle.opening.specs.Open.{open_outcome};
 ghost use Rattle.seeking.specs.Seek.{seek_outcome};
@@ -8,22 +7,15 @@ ghost use Rattle.reading.specs.Read.{read_outcome};
 ghost use Rattle.writing.specs.Write.{write_outcome};
 ghost use Rattle.single.specs.Rows.{bytes_of, LeavesRow};
 
-use calls::Answer;
+use calls::refusal::Refusal;
 use records::OpenRecord;
 use stamps::Stamp;
 
 // What a call answers, and the record after it.
 #[derive(Clone, Copy)]
 pub struct Done {
-    pub answer: Answer,
+    pub answer: Result<u32, Refusal>,
     pub held: OpenRecord,
-}
-
-// A mark as the table has it.
-fn mark_of(marked: bool) -> u8
-    ensures { result ≡ bit marked }
-{
-    if marked { 1 } else { 0 }
 }
 
 // A table of bytes with this record alone. An unused one keeps its fields too: a refusal has to leave them.
@@ -32,20 +24,20 @@ fn table_of(held: OpenRecord) -> [u8; 16]
 {
     let mut t = [0u8; 16];
     opened::put_record(&mut t, 0, held.access, held.slot, held.pointer);
-    t[0] = mark_of(held.used);
-    t[2] = mark_of(held.written);
+    t[0] = u8::from(held.used);
+    t[2] = u8::from(held.written);
     t
 }
 
+// Each call is written out: of what a closure changes behind a reference that it holds, the function that passed it learns nothing.
 pub fn seek(img: &[u8], held: OpenRecord, method: u32, offset: i32) -> Done
     ensures { LeavesRow (seek_outcome img.now (bytes_of (held ∷ [])) 0 method offset) result.answer img.now (result.held ∷ []) [] }
 {
     let mut t = table_of(held);
     let answer = seeking::seek::seek(img, &mut t, 0, method, offset);
-    let after = lent::from_bytes(&t, 0);
     Done {
         answer,
-        held: after,
+        held: lent::from_bytes(&t, 0),
     }
 }
 
@@ -54,10 +46,9 @@ pub fn read(img: &[u8], held: OpenRecord, buf: &mut [u8]) -> Done
 {
     let mut t = table_of(held);
     let answer = reading::read::read(img, &mut t, 0, buf);
-    let after = lent::from_bytes(&t, 0);
     Done {
         answer,
-        held: after,
+        held: lent::from_bytes(&t, 0),
     }
 }
 
@@ -66,10 +57,9 @@ pub fn write(img: &mut [u8], held: OpenRecord, bytes: &[u8]) -> Done
 {
     let mut t = table_of(held);
     let answer = writing::write::write(img, &mut t, 0, bytes);
-    let after = lent::from_bytes(&t, 0);
     Done {
         answer,
-        held: after,
+        held: lent::from_bytes(&t, 0),
     }
 }
 
@@ -78,10 +68,9 @@ pub fn close(img: &mut [u8], held: OpenRecord, stamp: Stamp) -> Done
 {
     let mut t = table_of(held);
     let answer = closing::close::close(img, &mut t, 0, stamp);
-    let after = lent::from_bytes(&t, 0);
     Done {
         answer,
-        held: after,
+        held: lent::from_bytes(&t, 0),
     }
 }
 
@@ -90,9 +79,8 @@ pub fn open(img: &[u8], held: OpenRecord, s: &[u8], access: u32) -> Done
 {
     let mut t = table_of(held);
     let answer = opening::open::open(img, &mut t, s, access);
-    let after = lent::from_bytes(&t, 0);
     Done {
         answer,
-        held: after,
+        held: lent::from_bytes(&t, 0),
     }
 }

@@ -3,6 +3,7 @@ pub mod Files
 pub mod Findings
 pub mod Sound
 pub mod Counts
+pub mod Numbers
 pub mod Answer
 pub mod Judged
 pub mod Aids

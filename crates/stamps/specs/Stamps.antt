@@ -1,12 +1,6 @@
 -- Document 01, "Directory entries": time and date. A caller's stamp is these six numbers.
-use Rattle.std.specs.Prelude.{ℕ, ◌+◌, ◌*◌, ◌/◌, ◌%◌, ◌≤◌, Bool, ◌&&◌, cond, leb}
+use Rattle.std.specs.Prelude.{ℕ, ◌+◌, ◌*◌, ◌/◌, ◌%◌, ◌≤◌, Bool, ◌&&◌, cond, leb, Option, Some, None}
 use Rattle.stamps.specs.declared.Stamp.{Stamp}
-use Rattle.stamps.specs.declared.Packed.{Packed}
-use Rattle.stamps.specs.declared.Packed.TheVariants.{Words, OutOfRange}
-use Rattle.stamps.specs.declared.TimeRead.{TimeRead}
-use Rattle.stamps.specs.declared.TimeRead.TheVariants.{Time, NoTime}
-use Rattle.stamps.specs.declared.DateRead.{DateRead}
-use Rattle.stamps.specs.declared.DateRead.TheVariants.{Date, NoDate}
 
 -- Time is hours, minutes, two-second steps: 0-23, 0-59, 0-29,
 pub record TimeInRange (hour minute step : ℕ) : Type 0 where
@@ -40,16 +34,16 @@ date_fits year month day = leb year 119 && (leb 1 month && (leb month 12 && (leb
 
 -- ---- a stamp as two words; a stamp out of its ranges is refused by 43
 
-unfoldable pub packed : Stamp → Packed
+unfoldable pub packed : Stamp → Option (ℕ × ℕ)
 packed s =
     cond (time_fits s.hour s.minute s.step && date_fits s.year s.month s.day)
-    (Words (time_word s.hour s.minute s.step) (date_word s.year s.month s.day))
-    OutOfRange
+    (Some (time_word s.hour s.minute s.step, date_word s.year s.month s.day))
+    None
 
 -- ---- a word read back; an out-of-range date or time is none
 
-unfoldable pub time_read : ℕ → TimeRead
-time_read w = cond (time_fits (w / 2048) (w / 32 % 64) (w % 32)) (Time (w / 2048) (w / 32 % 64) (w % 32)) NoTime
+unfoldable pub time_read : ℕ → Option (ℕ × ℕ × ℕ)
+time_read w = cond (time_fits (w / 2048) (w / 32 % 64) (w % 32)) (Some (w / 2048, w / 32 % 64, w % 32)) None
 
-unfoldable pub date_read : ℕ → DateRead
-date_read w = cond (date_fits (w / 512) (w / 32 % 16) (w % 32)) (Date (w / 512) (w / 32 % 16) (w % 32)) NoDate
+unfoldable pub date_read : ℕ → Option (ℕ × ℕ × ℕ)
+date_read w = cond (date_fits (w / 512) (w / 32 % 16) (w % 32)) (Some (w / 512, w / 32 % 16, w % 32)) None

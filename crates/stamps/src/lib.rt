@@ -15,54 +15,20 @@ pub struct Stamp {
     pub day: u32,
 }
 
-#[derive(Clone, Copy)]
-pub enum Packed {
-    Words(u16, u16),
-    OutOfRange,
-}
-
-#[derive(Clone, Copy)]
-pub enum TimeRead {
-    Time(u16, u16, u16),
-    NoTime,
-}
-
-#[derive(Clone, Copy)]
-pub enum DateRead {
-    Date(u16, u16, u16),
-    NoDate,
-}
-
 // Whether hour, minute and two-second step are in their ranges.
+#[tactic(auto, unfolding(crate::specs::Stamps::time_fits))]
 pub fn time_fits(hour: u32, minute: u32, step: u32) -> bool
     ensures { result ≡ time_fits hour minute step }
 {
-    if 23 < hour {
-        return false;
-    }
-    if 59 < minute {
-        return false;
-    }
-    step <= 29
+    hour <= 23 && minute <= 59 && step <= 29
 }
 
 // Whether year, month and day are in their ranges.
+#[tactic(auto, unfolding(crate::specs::Stamps::date_fits))]
 pub fn date_fits(year: u32, month: u32, day: u32) -> bool
     ensures { result ≡ date_fits year month day }
 {
-    if 119 < year {
-        return false;
-    }
-    if month < 1 {
-        return false;
-    }
-    if 12 < month {
-        return false;
-    }
-    if day < 1 {
-        return false;
-    }
-    day <= 31
+    year <= 119 && (1..=12).contains(&month) && (1..=31).contains(&day)
 }
 
 // The time word: 5, 6 and 5 bits, the hour highest.
@@ -83,46 +49,40 @@ fn date_word(year: u32, month: u32, day: u32) -> u16
 
 impl Stamp {
     // The time word and the date word, where all six numbers are in their ranges.
-    pub fn pack(self) -> Packed
+    #[tactic(auto, using(crate::proofs::Laws::Ranges::time_in_range, crate::proofs::Laws::Ranges::date_in_range), unfolding(crate::specs::Stamps::packed))]
+    pub fn pack(self) -> Option<(u16, u16)>
         ensures { result ≡ packed self }
     {
-        if !time_fits(self.hour, self.minute, self.step) {
-            return Packed::OutOfRange;
+        if !time_fits(self.hour, self.minute, self.step)
+            || !date_fits(self.year, self.month, self.day)
+        {
+            return None;
         }
-        if !date_fits(self.year, self.month, self.day) {
-            return Packed::OutOfRange;
-        }
-        Packed::Words(
+        Some((
             time_word(self.hour, self.minute, self.step),
             date_word(self.year, self.month, self.day),
-        )
+        ))
     }
 }
 
 // Hour, minute and two-second step of a time word, where they are in their ranges.
-pub fn read_time(word: u16) -> TimeRead
+#[tactic(auto, unfolding(crate::specs::Stamps::time_read))]
+pub fn read_time(word: u16) -> Option<(u16, u16, u16)>
     ensures { result ≡ time_read word }
 {
     let hour = word / 2048;
     let minute = word / 32 % 64;
     let step = word % 32;
-    if time_fits(hour as u32, minute as u32, step as u32) {
-        TimeRead::Time(hour, minute, step)
-    } else {
-        TimeRead::NoTime
-    }
+    time_fits(hour.into(), minute.into(), step.into()).then_some((hour, minute, step))
 }
 
 // Year from 1980, month and day of a date word, where they are in their ranges.
-pub fn read_date(word: u16) -> DateRead
+#[tactic(auto, unfolding(crate::specs::Stamps::date_read))]
+pub fn read_date(word: u16) -> Option<(u16, u16, u16)>
     ensures { result ≡ date_read word }
 {
     let year = word / 512;
     let month = word / 32 % 16;
     let day = word % 32;
-    if date_fits(year as u32, month as u32, day as u32) {
-        DateRead::Date(year, month, day)
-    } else {
-        DateRead::NoDate
-    }
+    date_fits(year.into(), month.into(), day.into()).then_some((year, month, day))
 }

@@ -11,6 +11,7 @@ use values::{first_of, middle_for_first, middle_for_second, second_of};
 
 // Entry n of the copy that starts at byte base. Its two bytes begin at one and a half times n: with the low one of its three
 // where n is even, with the middle one where it is odd. (Both readings are made, so that nothing has to be guessed at a branch.)
+#[tactic(auto, using(crate::proofs::Laws::Triples::read_even, crate::proofs::Laws::Triples::read_odd))]
 pub fn entry_at(img: &[u8], base: usize, n: usize) -> u16
     requires n_bound { n ≤ 4095 }
     requires n_in_bounds { word_at base n + 2 ≤ length img.now }
@@ -33,7 +34,9 @@ pub fn entry(img: &[u8], n: usize) -> u16
     entry_at(img, 512, n)
 }
 
-// Stores v as the first entry of its three bytes, whose low byte is at byte at.
+// Stores v as the first entry of its three bytes, whose low byte is at byte at. (One function for both entries would ask at each byte
+// which of them it is.)
+#[tactic(auto, using(crate::proofs::Laws::Triples::put_first))]
 fn set_first(img: &mut [u8], at: usize, v: u16)
     requires at_in_bounds { at + 2 ≤ length img.old }
     requires v_bound { v < 4096 }
@@ -46,6 +49,7 @@ fn set_first(img: &mut [u8], at: usize, v: u16)
 }
 
 // Stores v as the second entry of its three bytes, whose middle byte is at byte at.
+#[tactic(auto, using(crate::proofs::Laws::Triples::put_second))]
 fn set_second(img: &mut [u8], at: usize, v: u16)
     requires at_in_bounds { at + 2 ≤ length img.old }
     requires v_bound { v < 4096 }
@@ -58,6 +62,7 @@ fn set_second(img: &mut [u8], at: usize, v: u16)
 }
 
 // Stores v as entry n of the copy that starts at byte base.
+#[tactic(auto, using(crate::proofs::Laws::Triples::set_even, crate::proofs::Laws::Triples::set_odd))]
 pub fn set_at(img: &mut [u8], base: usize, n: usize, v: u16)
     requires n_bound { n ≤ 4095 }
     requires n_in_bounds { word_at base n + 2 ≤ length img.old }
@@ -73,6 +78,7 @@ pub fn set_at(img: &mut [u8], base: usize, n: usize, v: u16)
 }
 
 // Stores v as entry n, in both copies.
+#[tactic(auto, using(crate::proofs::Laws::Copies::both_stored))]
 pub fn set_entry(img: &mut [u8], second: usize, n: usize, v: u16)
     requires n_bound { n ≤ 4095 }
     requires reaches { Reaches second img.old n }

@@ -1,2 +1,3 @@
 -- Aids to the proofs. No definition beside this folder rests on them.
 pub mod Puts
+pub mod Pages

@@ -1,7 +1,9 @@
 // Numbers as text.
-ghost use Rattle.std.specs.Prelude.{◌≡◌, ◌+◌, ◌≤◌, ◌<◌, length};
-ghost use Rattle.text.specs.Aids.Puts.{PutsIn};
+ghost use Rattle.std.specs.Prelude.{◌≡◌, ◌<◌, ◌≤◌};
+ghost use Rattle.text.specs.Aids.Pages.{AddsIn, has_room};
 ghost use Rattle.text.specs.Digits.{digit_sign, in_digits, width, decimal, hex};
+
+use crate::page::{Page, Shown};
 
 // The sign of a digit.
 fn sign(d: usize) -> u8
@@ -16,47 +18,46 @@ fn sign(d: usize) -> u8
     }
 }
 
-// The last digits of n in a base, from the last to the first.
-pub fn put_digits(out: &mut [u8], at: usize, base: usize, count: usize, n: usize) -> usize
-    requires { (1 < base) × (base ≤ 16) × (at + count ≤ length out.old) }
-    ensures { PutsIn count (in_digits base count n) out.old at result out.new }
+// The last digits of n in a base.
+pub fn put_digits(page: &mut Page, base: usize, count: usize, n: usize)
+    requires is_base { (1 < base) × (base ≤ 16) }
+    requires room { has_room count page.old }
+    ensures { AddsIn count (in_digits base count n) page.old page.new }
 {
-    let mut rest = n;
-    let mut i = count;
-    while 0 < i {
-        i -= 1;
-        out[at + i] = sign(rest % base);
-        rest /= base;
+    if 0 < count {
+        put_digits(page, base, count - 1, n / base);
+        page.put_byte(sign(n % base));
     }
-    at + count
 }
 
 // How many decimal digits n has.
 fn digit_count(n: usize) -> usize
     ensures { result ≡ width n }
 {
-    let mut rest = n;
-    let mut count: usize = 1;
-    while 9 < rest {
-        rest /= 10;
-        count += 1;
-    }
-    count
+    n.max(1).ilog10() as usize + 1
 }
 
 // A decimal number without leading zeros.
-pub fn put_decimal(out: &mut [u8], at: usize, n: usize) -> usize
-    requires { at + 20 ≤ length out.old }
-    ensures { PutsIn 20 (decimal n) out.old at result out.new }
-{
-    let count = digit_count(n);
-    put_digits(out, at, 10, count, n)
+impl Shown for usize {
+    ghost text = { decimal };
+
+    ghost room = { 20 };
+
+    fn put(self, page: &mut Page) {
+        put_digits(page, 10, digit_count(self), self);
+    }
 }
 
 // A byte in two hex digits.
-pub fn put_hex(out: &mut [u8], at: usize, n: u8) -> usize
-    requires { at + 2 ≤ length out.old }
-    ensures { PutsIn 2 (hex n) out.old at result out.new }
-{
-    put_digits(out, at, 16, 2, n as usize)
+#[derive(Clone, Copy)]
+pub struct Hex(pub u8);
+
+impl Shown for Hex {
+    ghost text = { λ h. hex h.0 };
+
+    ghost room = { 2 };
+
+    fn put(self, page: &mut Page) {
+        put_digits(page, 16, 2, self.0 as usize);
+    }
 }

@@ -1,20 +1,29 @@
 // A file's name as text.
-ghost use Rattle.std.specs.Prelude.{◌≡◌, ◌+◌, ◌≤◌, length};
-ghost use Rattle.text.specs.Aids.Puts.{PutsIn};
-ghost use Rattle.text.specs.Names.{only_spaces, shown, part_text, ext_text, name_text};
+ghost use Rattle.std.specs.Prelude.{◌≡◌, ◌+◌, length};
+ghost use Rattle.text.specs.Aids.Pages.{AddsIn, has_room};
+ghost use Rattle.text.specs.Names.{only_spaces, trimmed, shown, part_text, ext_text, name_text};
+
+use crate::page::{Page, Shown};
 
 // Whether a part of a name holds nothing but spaces.
 fn only_spaces(part: &[u8]) -> bool
     ensures { result ≡ only_spaces part.now }
 {
-    let mut i: usize = 0;
-    while i < part.len() {
-        if part[i] != b' ' {
-            return false;
+    part.iter().all(|c| *c == b' ')
+}
+
+// A part of a name without the spaces at its end.
+fn trimmed(part: &[u8]) -> &[u8]
+    ensures { result.now ≡ trimmed part.now }
+{
+    let mut kept = part;
+    while let Some((last, rest)) = kept.split_last() {
+        if *last != b' ' {
+            break;
         }
-        i += 1;
+        kept = rest;
     }
-    true
+    kept
 }
 
 // A name's byte as it is printed.
@@ -25,38 +34,38 @@ fn shown_byte(c: u8) -> u8
 }
 
 // A name or an extension, up to where only spaces are left.
-fn put_part(out: &mut [u8], at: usize, part: &[u8]) -> usize
-    requires { at + length part.now ≤ length out.old }
-    ensures { PutsIn (length part.now) (part_text part.now) out.old at result out.new }
+fn put_part(page: &mut Page, part: &[u8])
+    requires { has_room (length part.now) page.old }
+    ensures { AddsIn (length part.now) (part_text part.now) page.old page.new }
 {
-    let mut i: usize = 0;
-    while i < part.len() {
-        if only_spaces(&part[i..]) {
-            return at + i;
-        }
-        out[at + i] = shown_byte(part[i]);
-        i += 1;
+    let kept = trimmed(part);
+    for c in kept {
+        page.put_byte(shown_byte(*c));
     }
-    at + i
 }
 
 // The dot and the extension, where there is one.
-fn put_extension(out: &mut [u8], at: usize, part: &[u8]) -> usize
-    requires { at + (1 + length part.now) ≤ length out.old }
-    ensures { PutsIn (1 + length part.now) (ext_text part.now) out.old at result out.new }
+fn put_extension(page: &mut Page, part: &[u8])
+    requires { has_room (1 + length part.now) page.old }
+    ensures { AddsIn (1 + length part.now) (ext_text part.now) page.old page.new }
 {
-    if only_spaces(part) {
-        return at;
+    if !only_spaces(part) {
+        page.put_byte(b'.');
+        put_part(page, part);
     }
-    let after = crate::put_bytes(out, at, b".");
-    put_part(out, after, part)
 }
 
 // A file's name: the part before the dot, and the extension.
-pub fn put_name(out: &mut [u8], at: usize, name: [u8; 11]) -> usize
-    requires { at + 12 ≤ length out.old }
-    ensures { PutsIn 12 (name_text name) out.old at result out.new }
-{
-    let dot = put_part(out, at, &name[0..8]);
-    put_extension(out, dot, &name[8..11])
+#[derive(Clone, Copy)]
+pub struct Name(pub [u8; 11]);
+
+impl Shown for Name {
+    ghost text = { λ n. name_text n.0 };
+
+    ghost room = { 12 };
+
+    fn put(self, page: &mut Page) {
+        put_part(page, &self.0[0..8]);
+        put_extension(page, &self.0[8..11]);
+    }
 }

@@ -3,7 +3,6 @@ ghost use Rattle.std.specs.Prelude.{◌≡◌, ◌+◌, ◌-◌, ◌≤◌, ◌<
 ghost use Rattle.table.specs.Entries.{word_at, table_of};
 ghost use Rattle.walks.specs.Aids.Walks.{ValueIs, LeadsTo, Tails, Walked, left_stored, Visited};
 
-use crate::{Length, Walk};
 use values::Meaning;
 
 // The value of cluster c, which has 12 bits.
@@ -19,7 +18,13 @@ pub fn value_of(img: &[u8], last: usize, c: usize) -> u16
 // Walks the chain that starts at start and marks its clusters. A cluster met twice ends it: where files before this one met
 // it, the rest has its marks, and left says how many clusters that is; where the walk itself did, left is 0 and the chain
 // circles. No chain has more clusters than the volume.
-fn walk(img: &[u8], marks: &mut [u8], left: &[u16], last: usize, start: usize) -> Walk
+fn walk(
+    img: &[u8],
+    marks: &mut [u8],
+    left: &[u16],
+    last: usize,
+    start: usize,
+) -> Option<(usize, usize)>
     requires last_bound { last ≤ 4079 }
     requires last_in_bounds { word_at 512 last + 2 ≤ length img.now }
     requires last_in_bounds_2 { (last < length marks.old) × (last < length left.now) }
@@ -27,36 +32,34 @@ fn walk(img: &[u8], marks: &mut [u8], left: &[u16], last: usize, start: usize) -
     requires tails { Tails last (table_of last img.now) marks.old left.now }
     ensures { Walked last (table_of last img.now) start marks.old left.now result marks.new }
 {
-    let clusters = last - 1;
-    let mut met: usize = 0;
     let mut c = start;
-    while met < clusters {
+    for met in 0..last - 1 {
         let before = marks[c];
         if before == 2 {
             let rest = left[c] as usize;
             if rest == 0 {
-                return Walk::Endless;
+                return None;
             }
-            return Walk::Ends(met + rest, rest);
+            return Some((met + rest, rest));
         }
         marks[c] = before + 1;
-        met += 1;
+        let met = met + 1;
         match values::meaning_of(value_of(img, last, c), last) {
             Meaning::End => {
                 // Along a chain marks do not fall: where its last cluster was not met before, none was.
                 if before == 1 {
-                    return Walk::Ends(met, 0);
+                    return Some((met, 0));
                 }
-                return Walk::Ends(met, met);
+                return Some((met, met));
             }
             Meaning::Next(next) => c = next,
-            Meaning::Free => return Walk::Endless,
-            Meaning::Bad => return Walk::Endless,
-            Meaning::Reserved => return Walk::Endless,
-            Meaning::NoneOfThese => return Walk::Endless,
+            Meaning::Free => return None,
+            Meaning::Bad => return None,
+            Meaning::Reserved => return None,
+            Meaning::NoneOfThese => return None,
         }
     }
-    Walk::Endless
+    None
 }
 
 // Stores how many clusters are left to the end of a chain of n clusters, for all but the known ones at its end.
@@ -69,17 +72,20 @@ fn store_left(img: &[u8], left: &mut [u16], last: usize, start: usize, n: usize,
     ensures { left.new ≡ left_stored (table_of last img.now) left.old start n (n - known) }
 {
     let mut c = start;
-    let mut rest = n;
-    while known < rest {
-        let behind = rest - 1;
+    for rest in (known + 1..n + 1).rev() {
         left[c] = rest as u16;
-        c = value_of(img, last, c) as usize;
-        rest = behind;
+        c = usize::from(value_of(img, last, c));
     }
 }
 
 // Visits the chain that starts at start, marks its clusters, and says how many there are.
-pub fn visit(img: &[u8], marks: &mut [u8], left: &mut [u16], last: usize, start: usize) -> Length
+pub fn visit(
+    img: &[u8],
+    marks: &mut [u8],
+    left: &mut [u16],
+    last: usize,
+    start: usize,
+) -> Option<usize>
     requires last_bound { last ≤ 4079 }
     requires last_in_bounds { word_at 512 last + 2 ≤ length img.now }
     requires last_in_bounds_2 { (last < length marks.old) × (last < length left.old) }
@@ -87,19 +93,19 @@ pub fn visit(img: &[u8], marks: &mut [u8], left: &mut [u16], last: usize, start:
     ensures { Visited last (table_of last img.now) start marks.old result marks.new left.new }
 {
     if start == 0 {
-        return Length::Of(0);
+        return Some(0);
     }
     if start < 2 {
-        return Length::NoEnd;
+        return None;
     }
     if last < start {
-        return Length::NoEnd;
+        return None;
     }
     match walk(img, marks, left, last, start) {
-        Walk::Ends(n, known) => {
+        Some((n, known)) => {
             store_left(img, left, last, start, n, known);
-            Length::Of(n)
+            Some(n)
         }
-        Walk::Endless => Length::NoEnd,
+        None => None,
     }
 }

@@ -3,18 +3,3 @@
 #![tactic(auto)]
 
 pub mod chain;
-
-// How many clusters a chain has; or that it has no end.
-#[derive(Clone, Copy)]
-pub enum Length {
-    Of(usize),
-    NoEnd,
-}
-
-// What a walk finds: the number of clusters to the chain's end, and of how many of them, the last ones, the number left
-// need not be stored; or that there is no end.
-#[derive(Clone, Copy)]
-pub enum Walk {
-    Ends(usize, usize),
-    Endless,
-}

@@ -1,5 +1,5 @@
 -- Document 01, "Worked numbers": the cases P1 to P13, by one statement over one list of them.
-use Rattle.std.specs.Prelude.{ℕ, ◌-◌, ◌*◌, ◌/◌, cond, List, [], ◌∷◌, map, ◌≡◌, eqb, ℤ, negsuc}
+use Rattle.std.specs.Prelude.{ℕ, ◌-◌, ◌*◌, ◌/◌, cond, List, [], ◌∷◌, map, ◌≡◌, eqb, ℤ, negsuc, Option, Some, None}
 use Rattle.image.specs.Store.{part}
 use Rattle.chains.specs.Content.{cluster_begin}
 use Rattle.chains.specs.Sizes.{clusters_for}
@@ -10,8 +10,6 @@ use Rattle.diskette.specs.declared.Kind.{Kind}
 use Rattle.table.specs.Entries.{entry_at, set_at}
 use Rattle.stamps.specs.Stamps.{packed}
 use Rattle.stamps.specs.declared.Stamp.{Stamp}
-use Rattle.stamps.specs.declared.Packed.{Packed}
-use Rattle.stamps.specs.declared.Packed.TheVariants.{Words, OutOfRange}
 use Rattle.sound.specs.Sound.{Sound}
 use Rattle.opened.specs.Places.{LivePlace}
 use Rattle.opened.specs.Records.{pointer_of}
@@ -50,13 +48,13 @@ sector_at k n = cluster_begin (512 * first_data k) (cluster_bytes k) n / 512
 abbrev pub stamp : ℕ → ℕ → ℕ → ℕ → ℕ → ℕ → Stamp
 stamp year month day hour minute step = record { hour = hour; minute = minute; step = step; year = year - 1980; month = month; day = day }
 
-abbrev pub time_answer : Packed → Answer
-time_answer (Words time date) = is time
-time_answer OutOfRange = refused (stamp_number OutOfRange)
+abbrev pub time_answer : Option (ℕ × ℕ) → Answer
+time_answer (Some (time, date)) = is time
+time_answer None = refused (stamp_number None)
 
-abbrev pub date_answer : Packed → Answer
-date_answer (Words time date) = is date
-date_answer OutOfRange = refused (stamp_number OutOfRange)
+abbrev pub date_answer : Option (ℕ × ℕ) → Answer
+date_answer (Some (time, date)) = is date
+date_answer None = refused (stamp_number None)
 
 -- ---- P8 to P10: what close and seek answer on a sound volume, by a live handle whose pointer is 10
 

@@ -1,7 +1,6 @@
 // Prints document 01's worked numbers, computed by the library. The file stdout beside src/ has them as the paper prints them.
 #![tactic(auto)]
 
-mod print;
 mod run;
 mod scene;
 mod volumes;

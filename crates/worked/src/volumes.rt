@@ -1,5 +1,6 @@
 // The worked numbers that need a volume: a full disk, a full root, a table without places.
-use crate::print;
+use crate::{run, scene};
+use calls::refusal::Refusal;
 use closing::close::close;
 use creating::create::create;
 use formatting::format::format;
@@ -11,65 +12,77 @@ use writing::write::write;
 
 // Any time does: 1983-09-01 06:40:00.
 fn morning() -> Stamp {
-    Stamp {
-        hour: 6,
-        minute: 40,
-        step: 0,
-        year: 3,
-        month: 9,
-        day: 1,
-    }
+    run::at(6, 40, 0)
+}
+
+// How many clusters of a blank FD are free, and what two writes of a byte more than they hold answer.
+fn fill_disk(img: &mut [u8], t: &mut [u8]) -> Result<(usize, u32, u32), Refusal> {
+    format(img, 0xFD)?;
+    let free = free_space(img)?.free;
+    let handle = create(img, t, b"FULL", 0, morning())?;
+    let bytes = [0x5Au8; 362497];
+    let first = write(img, t, handle, &bytes)?;
+    let next = write(img, t, handle, &bytes)?;
+    Ok((free, first, next))
 }
 
 // A blank FD; a file as long as the disk allows.
 pub fn full_disk(out: &mut impl Write) -> io::Result<()> {
     let mut img = [0u8; 368640];
     let mut t = [0u8; 16];
-    format(&mut img, 0xFD);
-    print::label(out, b"A blank FD has ")?;
-    print::number(out, free_space(&img).free as u64)?;
-    print::label(out, b" free clusters\n")?;
-    let handle = create(&mut img, &mut t, b"FULL", 0, morning()).value;
-    let bytes = [0x5Au8; 362497];
-    print::label(out, b"a write of 362497 bytes answers ")?;
-    print::number(out, write(&mut img, &mut t, handle, &bytes).value as u64)?;
-    print::decimal(
-        out,
-        b", the next ",
-        write(&mut img, &mut t, handle, &bytes).value as u64,
-    )
+    match fill_disk(&mut img, &mut t) {
+        Ok((free, first, next)) => {
+            writeln!(out, "A blank FD has {free} free clusters")?;
+            writeln!(
+                out,
+                "a write of 362497 bytes answers {first}, the next {next}"
+            )
+        }
+        Err(refusal) => writeln!(out, "A full disk is refused by {}", refusal.number()),
+    }
 }
 
 // Makes 64 files, as many as the root of an FE has slots.
-fn fill_root(img: &mut [u8], t: &mut [u8]) {
-    let mut i: u8 = 0;
-    while i < 64 {
-        let name = [65 + i / 8, 65 + i % 8];
-        let handle = create(img, t, &name, 0, morning()).value;
-        close(img, t, handle, morning());
-        i += 1;
+fn fill_root(img: &mut [u8], t: &mut [u8]) -> Result<(), Refusal> {
+    for i in 0..64 {
+        let name = [b'A' + i / 8, b'A' + i % 8];
+        let handle = create(img, t, &name, 0, morning())?;
+        close(img, t, handle, morning())?;
     }
+    Ok(())
+}
+
+// A file more than the root has slots.
+fn overfill_root(img: &mut [u8], t: &mut [u8]) -> Result<u32, Refusal> {
+    format(img, 0xFE)?;
+    fill_root(img, t)?;
+    create(img, t, b"NEW", 0, morning())
 }
 
 pub fn full_root(out: &mut impl Write) -> io::Result<()> {
     let mut img = [0u8; 163840];
     let mut t = [0u8; 16];
-    format(&mut img, 0xFE);
-    fill_root(&mut img, &mut t);
-    print::decimal(
+    scene::answer(
         out,
-        b"A full root and a new name: ",
-        create(&mut img, &mut t, b"NEW", 0, morning()).number as u64,
+        "A full root takes a new name: ",
+        "A full root and a new name: ",
+        overfill_root(&mut img, &mut t),
     )
+}
+
+// A file on a blank volume.
+fn create_first(img: &mut [u8], t: &mut [u8]) -> Result<u32, Refusal> {
+    format(img, 0xFE)?;
+    create(img, t, b"NEW", 0, morning())
 }
 
 pub fn no_places(out: &mut impl Write) -> io::Result<()> {
     let mut img = [0u8; 163840];
     let mut t = [0u8; 0];
-    format(&mut img, 0xFE);
-    print::decimal(
+    scene::answer(
         out,
-        b"An open table of length 0: ",
-        create(&mut img, &mut t, b"NEW", 0, morning()).number as u64,
+        "An open table of length 0 has a place: ",
+        "An open table of length 0: ",
+        create_first(&mut img, &mut t),
     )
 }

@@ -11,7 +11,7 @@ use Rattle.opened.specs.Records.{slot_of, access_of, pointer_of, with_pointer, w
 use Rattle.calls.specs.Outcome.{Row, Outcome, outcome, decided}
 use Rattle.calls.specs.Numbers.{of_no_kind, unsound, invalid_handle, access_denied}
 use Rattle.calls.specs.Refusals.{the_kind, not_of_kind, not_sound, not_live, address_of}
-use Rattle.calls.specs.declared.Answer.{Answer}
+use Rattle.calls.specs.Answers.{Answer, number_told, value_told}
 use Rattle.holding.specs.Holding.{file_chain}
 use Rattle.putting.specs.Written.{written_in}
 
@@ -47,4 +47,4 @@ write_outcome img t h bs = decided (write_rows img t h) (write_effect img t h bs
 
 -- what the call promises: its answer r, the image and the table after
 pub record Writes (img t : List ℕ) (h : ℕ) (bs : List ℕ) (r : Answer) (after table : List ℕ) : Type 0 where
-  pub is : outcome r.number r.value after table [] ≡ write_outcome img t h bs
+  pub is : outcome (number_told r) (value_told r) after table [] ≡ write_outcome img t h bs

@@ -9,9 +9,9 @@ ghost use Rattle.holding.specs.Aids.Files.{FileAt};
 ghost use Rattle.writing.specs.Write.{Writes};
 ghost use Rattle.writing.specs.Aids.Write.{WritesAt};
 
-use calls::{Answer, Ready, files, make_ready, numbers};
+use calls::refusal::Refusal;
+use calls::{files, make_ready};
 use diskette::Kind;
-use search::Found;
 
 // The bytes for which a file with so many clusters of its own has room, where so many are free.
 fn room_for(k: Kind, own: usize, free: usize) -> usize
@@ -19,20 +19,14 @@ fn room_for(k: Kind, own: usize, free: usize) -> usize
     requires free_bound { own + free ≤ clusters k }
     ensures { result ≡ (own + free) * cluster_bytes k }
 {
-    let clusters = own + free;
-    clusters * k.cluster_bytes()
+    (own + free) * k.cluster_bytes()
 }
 
 // How many of n bytes are written at the pointer.
 fn count_of(room: usize, pointer: u32, n: usize) -> usize
     ensures { result ≡ min n (room - pointer) }
 {
-    let pointer = pointer as usize;
-    if room <= pointer {
-        return 0;
-    }
-    let left = room - pointer;
-    if n < left { n } else { left }
+    n.min(room.saturating_sub(pointer as usize))
 }
 
 // The place after n bytes were written at its pointer.
@@ -54,7 +48,7 @@ fn write_at(
     t: &mut [u8],
     place: usize,
     bytes: &[u8],
-) -> Answer
+) -> Result<u32, Refusal>
     requires on_volume { OnVolume img.old k }
     requires file_at { FileAt k img.old a }
     requires free_value { free ≡ free_of k img.old }
@@ -65,36 +59,37 @@ fn write_at(
     let own = holding::extent_at(img, k, a);
     let n = count_of(room_for(k, own.clusters, free), pointer, bytes.len());
     if n == 0 {
-        return Answer::well(0);
+        return Ok(0);
     }
     putting::put::put_first(img, k, a, own, pointer, bytes, n);
     move_on(t, place, pointer, n);
-    Answer::well(n as u32)
+    Ok(n as u32)
 }
 
 // Writes to a file of a volume that is ready, where so many clusters are free.
-fn write_on(img: &mut [u8], k: Kind, free: usize, t: &mut [u8], handle: u32, bytes: &[u8]) -> Answer
+fn write_on(
+    img: &mut [u8],
+    k: Kind,
+    free: usize,
+    t: &mut [u8],
+    handle: u32,
+    bytes: &[u8],
+) -> Result<u32, Refusal>
     requires on_volume { OnVolume img.old k }
     requires free_value { free ≡ free_of k img.old }
     ensures { Writes img.old t.old handle bytes.now result img.new t.new }
 {
-    match files::file_open(img, k, t, handle) {
-        Found::Nothing => Answer::refused(numbers::INVALID_HANDLE),
-        Found::At(slot) => {
-            let place = handle as usize;
-            if opened::access_at(t, place) == 0 {
-                return Answer::refused(numbers::ACCESS_DENIED);
-            }
-            write_at(img, k, free, k.slot_at(slot), t, place, bytes)
-        }
+    let slot = files::file_open(img, k, t, handle).ok_or(Refusal::InvalidHandle)?;
+    let place = handle as usize;
+    if opened::access_at(t, place) == 0 {
+        return Err(Refusal::AccessDenied);
     }
+    write_at(img, k, free, k.slot_at(slot), t, place, bytes)
 }
 
-pub fn write(img: &mut [u8], t: &mut [u8], handle: u32, bytes: &[u8]) -> Answer
+pub fn write(img: &mut [u8], t: &mut [u8], handle: u32, bytes: &[u8]) -> Result<u32, Refusal>
     ensures { Writes img.old t.old handle bytes.now result img.new t.new }
 {
-    match make_ready(img) {
-        Ready::Refused(number) => Answer::refused(number),
-        Ready::Volume(k, free) => write_on(img, k, free, t, handle, bytes),
-    }
+    let (k, free) = make_ready(img)?;
+    write_on(img, k, free, t, handle, bytes)
 }

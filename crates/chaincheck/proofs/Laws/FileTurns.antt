@@ -1,5 +1,5 @@
 -- The loop over the slots of a directory, turn by turn.
-use Rattle.std.specs.Prelude.{ℕ, suc, ◌+◌, ◌-◌, ◌≤◌, ◌<◌, Bool, true, false, not, ◌≡◌}
+use Rattle.std.specs.Prelude.{ℕ, suc, ◌+◌, ◌-◌, ◌≤◌, ◌<◌, Bool, true, false, not, ◌≡◌, Option, Some, None, Result, Ok, Err}
 use Rattle.std.proofs.Common.{arith, subst, ◌∙◌, Fits}
 use mathlib.Core.List.{List, []}
 use Rattle.std.proofs.Math.Path.{refl, sym, ap}
@@ -27,26 +27,24 @@ use Rattle.chaincheck.specs.Aids.Held.{plain_slot, chain_at, held_slot}
 use Rattle.chaincheck.specs.Aids.Entries.{holder_at, bad_chain_slot, chains_of}
 use Rattle.chaincheck.specs.Aids.Visits.{chains_found, slot_by, slot_found, SlotMarked, MarkedUnlessBad, SlotVisited, Underway, FilesVisited}
 use Rattle.chaincheck.proofs.Laws.SlotTurns.{holder_none, chain_of_lem}
-use Rattle.chaincheck.specs.declared.Slot.{Slot}
-use Rattle.chaincheck.specs.declared.Slot.TheVariants.{NoFile, Bad, Clusters}
-use Rattle.chaincheck.specs.declared.Chains.TheVariants.{BadChain, Held}
+use Rattle.chaincheck.specs.declared.BadChain.{BadChain}
 
 -- ---- what an answer for a slot says of it
 
-abbrev is_file : Slot → Bool
-is_file NoFile = false
-is_file Bad = true
-is_file (Clusters n) = true
+abbrev is_file : Result (Option ℕ) BadChain → Bool
+is_file (Ok None) = false
+is_file (Err e) = true
+is_file (Ok (Some n)) = true
 
-abbrev is_bad : Slot → Bool
-is_bad NoFile = false
-is_bad Bad = true
-is_bad (Clusters n) = false
+abbrev is_bad : Result (Option ℕ) BadChain → Bool
+is_bad (Ok None) = false
+is_bad (Err e) = true
+is_bad (Ok (Some n)) = false
 
-abbrev holds : Slot → ℕ
-holds NoFile = 0
-holds Bad = 0
-holds (Clusters n) = n
+abbrev holds : Result (Option ℕ) BadChain → ℕ
+holds (Ok None) = 0
+holds (Err e) = 0
+holds (Ok (Some n)) = n
 
 -- by the two tests that decide it: is there a plain file, does it own a chain that fits
 file_by : (p o : Bool) (n : ℕ) → p ≡ is_file (slot_by p o n)
@@ -69,7 +67,7 @@ few_by false o n h = omega arith
 few_by true false n h = omega arith
 few_by true true n h = h refl refl
 
-module _ (last cb : ℕ) (l : List ℕ) (way : ℕ → ℕ) (s : ℕ) (low : last ≤ 4079) (wide : 0 < cb) (g : Slot) (r : g ≡ slot_found last cb l (way s)) where
+module _ (last cb : ℕ) (l : List ℕ) (way : ℕ → ℕ) (s : ℕ) (low : last ≤ 4079) (wide : 0 < cb) (g : Result (Option ℕ) BadChain) (r : g ≡ slot_found last cb l (way s)) where
   abbrev G : Geometry
   G = record { last = last; cb = cb; small = low; wide = wide }
 
@@ -145,7 +143,7 @@ files_begin last cb l way count m t T =
     }
 
 module _ (last cb : ℕ) (l : List ℕ) (way : ℕ → ℕ) (count : ℕ) (m₀ : List ℕ) (s files held : ℕ) (m t : List ℕ) (u : Underway last cb l way count m₀ s files held m t) where
-  pub files_done : count ≤ s → FilesVisited last cb l way count m₀ (Held files held) m
+  pub files_done : count ≤ s → FilesVisited last cb l way count m₀ (Ok (record { files = files; held = held })) m
   unfolding chains_found chains_of chain_at
   files_done h =
       let e : s ≡ count = omega (arith, u.within) in
@@ -158,15 +156,15 @@ module _ (last cb : ℕ) (l : List ℕ) (way : ℕ → ℕ) (count : ℕ) (m₀ 
       }
 
   -- g is the answer for slot s, m' and t' are the buffers then
-  module _ (g : Slot) (m' t' : List ℕ) (low : last ≤ 4079) (wide : 0 < cb) (h : s < count) (v : SlotVisited last cb l (way s) m g m' t') where
-    pub files_bad : g ≡ Bad → FilesVisited last cb l way count m₀ (BadChain s) m'
+  module _ (g : Result (Option ℕ) BadChain) (m' t' : List ℕ) (low : last ≤ 4079) (wide : 0 < cb) (h : s < count) (v : SlotVisited last cb l (way s) m g m' t') where
+    pub files_bad : (e : BadChain) → g ≡ Err e → FilesVisited last cb l way count m₀ (Err s) m'
     unfolding chains_found
-    files_bad t =
+    files_bad e t =
         let x = lowest_hit (bad_chain_slot last cb l way) s count (lowest (bad_chain_slot last cb l way) 0 count) u.none_bad h (is_bad g)
         (sym (bad_said last cb l way s low wide g v.is)) (ap is_bad t) in
         record { is = rw (sym x); marks_are = tt }
 
-    pub held_fits : (n : ℕ) → count ≤ 65536 → g ≡ Clusters n → Fits w64 (held + n)
+    pub held_fits : (n : ℕ) → count ≤ 65536 → g ≡ Ok (Some n) → Fits w64 (held + n)
     held_fits n k t = record { fits = omega (arith, u.bounded, ap holds t, few_said last cb l way s low wide g v.is) }
 
     next : (files' held' : ℕ) → is_bad g ≡ false → SlotMarked last cb l (way s) m m' t' → files' ≤ files + 1 → held' ≡ held + holds g
@@ -188,14 +186,14 @@ module _ (last cb : ℕ) (l : List ℕ) (way : ℕ → ℕ) (count : ℕ) (m₀ 
     }
 
     module _ (files' held' : ℕ) where
-      pub files_skip : g ≡ NoFile → files' ≡ files → held' ≡ held → Underway last cb l way count m₀ (s + 1) files' held' m' t'
+      pub files_skip : g ≡ Ok None → files' ≡ files → held' ≡ held → Underway last cb l way count m₀ (s + 1) files' held' m' t'
       files_skip e x y =
           let d : plain_slot l way s ≡ false = plain_said last cb l way s low wide g v.is ∙ ap is_file e in
-          next files' held' (ap is_bad e) (subst (λ (k : Slot). MarkedUnlessBad last cb l (way s) m k m' t') e v.marked) (omega arith) (omega (arith, ap holds e))
+          next files' held' (ap is_bad e) (subst (λ (k : Result (Option ℕ) BadChain). MarkedUnlessBad last cb l (way s) m k m' t') e v.marked) (omega arith) (omega (arith, ap holds e))
           (tally_miss (plain_slot l way) count s files files' (tally (plain_slot l way) count 0) h d x u.files_are)
 
-      pub files_add : (n : ℕ) → g ≡ Clusters n → files' ≡ files + 1 → held' ≡ held + n → Underway last cb l way count m₀ (s + 1) files' held' m' t'
+      pub files_add : (n : ℕ) → g ≡ Ok (Some n) → files' ≡ files + 1 → held' ≡ held + n → Underway last cb l way count m₀ (s + 1) files' held' m' t'
       files_add n e x y =
           let d : plain_slot l way s ≡ true = plain_said last cb l way s low wide g v.is ∙ ap is_file e in
-          next files' held' (ap is_bad e) (subst (λ (k : Slot). MarkedUnlessBad last cb l (way s) m k m' t') e v.marked) (omega arith) (omega (arith, ap holds e))
+          next files' held' (ap is_bad e) (subst (λ (k : Result (Option ℕ) BadChain). MarkedUnlessBad last cb l (way s) m k m' t') e v.marked) (omega arith) (omega (arith, ap holds e))
           (tally_hit (plain_slot l way) count s files files' (tally (plain_slot l way) count 0) h d x u.files_are)

@@ -1,5 +1,5 @@
 -- One slot: the chain of a plain file has at least the clusters that its size asks for, or it is bad.
-use Rattle.std.specs.Prelude.{ℕ, ◌*◌, ◌≤◌, ◌<◌, Bool, not, ◌≡◌, refl, leb, length}
+use Rattle.std.specs.Prelude.{ℕ, ◌*◌, ◌≤◌, ◌<◌, Bool, not, ◌≡◌, refl, leb, length, Option, Some, None, Ok, Err}
 use Rattle.std.proofs.Common.{arith, mul-le-mul_right, Fits, subst, ◌∙◌}
 use Rattle.std.specs.Int.{w64}
 use Rattle.std.proofs.Math.Bool.{true, false}
@@ -21,12 +21,9 @@ use Rattle.directory.specs.Slots.{standing_of, is_plain}
 use Rattle.directory.specs.declared.Standing.{Standing}
 use Rattle.directory.specs.declared.Standing.TheVariants.{NeverUsed, Erased, Label, Plain}
 use Rattle.walks.specs.Aids.Walks.{Tails, Chained, VisitedBy, Visited}
-use Rattle.walks.specs.declared.Length.{Length}
-use Rattle.walks.specs.declared.Length.TheVariants.{Of, NoEnd}
 use Rattle.chaincheck.specs.Aids.Entries.{holder_by, holder_at}
 use Rattle.chaincheck.specs.Aids.Held.{chain_at}
 use Rattle.chaincheck.specs.Aids.Visits.{slot_found, SlotVisited}
-use Rattle.chaincheck.specs.declared.Slot.TheVariants.{NoFile, Bad, Clusters}
 
 -- ---- who holds the chain
 
@@ -66,7 +63,7 @@ module _ (last cb : ℕ) (l : List ℕ) (a : ℕ) (m : List ℕ) (low : last ≤
   abbrev f : ℕ → ℕ
   f = table_of last l
 
-  pub slot_no_file : (t : List ℕ) → Tails last f m t → (b : Bool) → b ≡ is_plain (standing_of l a) → not b ≡ true → SlotVisited last cb l a m NoFile m t
+  pub slot_no_file : (t : List ℕ) → Tails last f m t → (b : Bool) → b ≡ is_plain (standing_of l a) → not b ≡ true → SlotVisited last cb l a m (Ok None) m t
   unfolding slot_found chain_at marks
   slot_no_file t T b p x =
       let e : is_plain (standing_of l a) ≡ false = sym p ∙ not-true b x in
@@ -76,13 +73,13 @@ module _ (last cb : ℕ) (l : List ℕ) (a : ℕ) (m : List ℕ) (low : last ≤
       }
 
   -- no chain has more clusters than the volume
-  pub chain_few : (start : ℕ) (g : Length) (after t : List ℕ) → Visited last (table_of last l) start m g after t → (n : ℕ) → g ≡ Of n → n ≤ 4079
+  pub chain_few : (start : ℕ) (g : Option ℕ) (after t : List ℕ) → Visited last (table_of last l) start m g after t → (n : ℕ) → g ≡ Some n → n ≤ 4079
   chain_few start g after t v n e =
-      let has : Chained last f start m n after t = subst (λ (r : Length). VisitedBy last f start m r after t) e v.is in
+      let has : Chained last f start m n after t = subst (λ (r : Option ℕ). VisitedBy last f start m r after t) e v.is in
       omega (arith, has.long, chain_length G f start has.clusters has.chain)
 
   -- the file's chain was visited
-  module _ (start : ℕ) (g : Length) (after t : List ℕ) (v : Visited last (table_of last l) start m g after t) (s : start ≡ start_of l a)
+  module _ (start : ℕ) (g : Option ℕ) (after t : List ℕ) (v : Visited last (table_of last l) start m g after t) (s : start ≡ start_of l a)
       (size : ℕ) (z : size ≡ size_of l a) (b : Bool) (p : b ≡ is_plain (standing_of l a)) (x : not b ≡ false) where
     plain : is_plain (standing_of l a) ≡ true
     plain = sym p ∙ not-false b x
@@ -90,26 +87,26 @@ module _ (last cb : ℕ) (l : List ℕ) (a : ℕ) (m : List ℕ) (low : last ≤
     holder : holder_at cb l a ≡ file_holder cb start size
     holder = rw (z, s) (holder_file cb (start_of l a) (size_of l a) (standing_of l a) plain)
 
-    bad : ((cs : List ℕ) → ¬ Owns last f (file_holder cb start size) cs) → SlotVisited last cb l a m Bad after t
+    bad : ((cs : List ℕ) → ¬ Owns last f (file_holder cb start size) cs) → SlotVisited last cb l a m (Err (record {})) after t
     unfolding slot_found
     bad never =
         let o : ownsb last f (holder_at cb l a) ≡ false = rw holder (false_says (says_owned G f (file_holder cb start size)) (λ r. never r.0 r.1)) in
         record { is = rw (plain, o); marked = tt }
 
-    pub slot_endless : g ≡ NoEnd → SlotVisited last cb l a m Bad after t
-    slot_endless e = bad (λ cs o. subst (λ (r : Length). VisitedBy last f start m r after t) e v.is cs o.chain)
+    pub slot_endless : g ≡ None → SlotVisited last cb l a m (Err (record {})) after t
+    slot_endless e = bad (λ cs o. subst (λ (r : Option ℕ). VisitedBy last f start m r after t) e v.is cs o.chain)
 
-    module _ (n : ℕ) (e : g ≡ Of n) where
+    module _ (n : ℕ) (e : g ≡ Some n) where
       has : Chained last f start m n after t
-      has = subst (λ (r : Length). VisitedBy last f start m r after t) e v.is
+      has = subst (λ (r : Option ℕ). VisitedBy last f start m r after t) e v.is
 
       module _ (y : Bool) (q : y ≡ fits cb size n) where
-        pub slot_other : y ≡ false → SlotVisited last cb l a m Bad after t
+        pub slot_other : y ≡ false → SlotVisited last cb l a m (Err (record {})) after t
         slot_other d = bad (λ cs o.
             let k : n ≡ length cs = sym has.long ∙ ap length (chain_same G f start has.clusters cs has.chain o.chain) in
             clash o.long (rw (sym k) (sym q ∙ d)))
 
-        pub slot_clusters : y ≡ true → SlotVisited last cb l a m (Clusters n) after t
+        pub slot_clusters : y ≡ true → SlotVisited last cb l a m (Ok (Some n)) after t
         unfolding slot_found chain_at
         slot_clusters d =
             let w : Owns last f (file_holder cb start size) has.clusters = record { chain = has.chain; long = rw has.long (sym q ∙ d) } in

@@ -1,5 +1,5 @@
 -- What the loops of check find on their way, two things in one pass.
-use Rattle.std.specs.Prelude.{ℕ, ◌+◌, ◌*◌, ◌-◌, ◌≤◌, Bool, true, false, List, ◌≡◌, length}
+use Rattle.std.specs.Prelude.{ℕ, ◌+◌, ◌*◌, ◌-◌, ◌≤◌, Bool, true, false, List, ◌≡◌, length, Option, Some, None, Result, Ok, Err}
 use Rattle.chains.specs.Aids.Findings.{holders_of}
 use Rattle.chains.specs.Aids.Lists.{joined}
 use Rattle.chains.specs.Aids.Marks.{marks}
@@ -7,26 +7,22 @@ use Rattle.chains.specs.Aids.Rows.{rows}
 use Rattle.chains.specs.Sums.{sum, tally}
 use Rattle.chains.specs.Aids.Check.{ownsb}
 use Rattle.search.specs.Search.{lowest}
-use Rattle.search.specs.declared.Found.{Found}
-use Rattle.search.specs.declared.Found.TheVariants.{At, Nothing}
 use Rattle.table.specs.Entries.{table_of}
 use Rattle.directory.specs.Slots.{standing_of, is_plain}
 use Rattle.walks.specs.Aids.Walks.{Tails}
 use Rattle.chaincheck.specs.Aids.Held.{plain_slot, chain_at, held_slot}
 use Rattle.chaincheck.specs.Aids.Entries.{holder_at, bad_chain_slot, chains_of}
-use Rattle.chaincheck.specs.declared.Slot.{Slot}
-use Rattle.chaincheck.specs.declared.Slot.TheVariants.{NoFile, Bad, Clusters}
+use Rattle.chaincheck.specs.declared.BadChain.{BadChain}
 use Rattle.chaincheck.specs.declared.Chains.{Chains}
-use Rattle.chaincheck.specs.declared.Chains.TheVariants.{BadChain, Held}
 
 -- ---- the entry at byte a: no file, one with a bad chain, or the number of its clusters
 
-abbrev pub slot_by : Bool → Bool → ℕ → Slot
-slot_by false owns n = NoFile
-slot_by true false n = Bad
-slot_by true true n = Clusters n
+abbrev pub slot_by : Bool → Bool → ℕ → Result (Option ℕ) BadChain
+slot_by false owns n = Ok None
+slot_by true false n = Err (record {})
+slot_by true true n = Ok (Some n)
 
-unfoldable pub slot_found : ℕ → ℕ → List ℕ → ℕ → Slot
+unfoldable pub slot_found : ℕ → ℕ → List ℕ → ℕ → Result (Option ℕ) BadChain
 slot_found last cb l a =
     slot_by (is_plain (standing_of l a)) (ownsb last (table_of last l) (holder_at cb l a)) (length (chain_at last cb l a))
 
@@ -35,29 +31,28 @@ pub record SlotMarked (last cb : ℕ) (l : List ℕ) (a : ℕ) (m after t : List
   pub marks_are : after ≡ marks m (chain_at last cb l a)
   pub tails : Tails last (table_of last l) after t
 
-abbrev pub MarkedUnlessBad : ℕ → ℕ → List ℕ → ℕ → List ℕ → Slot → List ℕ → List ℕ → Type 0
-MarkedUnlessBad last cb l a m NoFile after t = SlotMarked last cb l a m after t
-MarkedUnlessBad last cb l a m Bad after t = Unit
-MarkedUnlessBad last cb l a m (Clusters n) after t = SlotMarked last cb l a m after t
+abbrev pub MarkedUnlessBad : ℕ → ℕ → List ℕ → ℕ → List ℕ → Result (Option ℕ) BadChain → List ℕ → List ℕ → Type 0
+MarkedUnlessBad last cb l a m (Ok n) after t = SlotMarked last cb l a m after t
+MarkedUnlessBad last cb l a m (Err e) after t = Unit
 
 -- what the code promises of one slot: its answer r, and unless the chain is bad the buffers after
-pub record SlotVisited (last cb : ℕ) (l : List ℕ) (a : ℕ) (m : List ℕ) (r : Slot) (after t : List ℕ) : Type 0 where
+pub record SlotVisited (last cb : ℕ) (l : List ℕ) (a : ℕ) (m : List ℕ) (r : Result (Option ℕ) BadChain) (after t : List ℕ) : Type 0 where
   pub is : r ≡ slot_found last cb l a
   pub marked : MarkedUnlessBad last cb l a m r after t
 
 -- ---- all files of a directory: the lowest with a bad chain, or how many files there are and what they hold
 
-abbrev pub chains_by : Found → ℕ → ℕ → Chains
-chains_by Nothing files held = Held files held
-chains_by (At s) files held = BadChain s
+abbrev pub chains_by : Option ℕ → ℕ → ℕ → Result Chains ℕ
+chains_by None files held = Ok (record { files = files; held = held })
+chains_by (Some s) files held = Err s
 
-unfoldable pub chains_found : ℕ → ℕ → List ℕ → (ℕ → ℕ) → ℕ → Chains
+unfoldable pub chains_found : ℕ → ℕ → List ℕ → (ℕ → ℕ) → ℕ → Result Chains ℕ
 chains_found last cb l way count =
     chains_by (lowest (bad_chain_slot last cb l way) 0 count) (tally (plain_slot l way) count 0) (sum count (held_slot last cb l way))
 
-abbrev pub MarksIf : Chains → List ℕ → List ℕ → Type 0
-MarksIf (Held files held) after all = after ≡ all
-MarksIf (BadChain s) after all = Unit
+abbrev pub MarksIf : Result Chains ℕ → List ℕ → List ℕ → Type 0
+MarksIf (Ok chains) after all = after ≡ all
+MarksIf (Err s) after all = Unit
 
 -- where the loop over the slots stands: those before s have files and held, no bad chain, and the marks m; t has its tails
 pub record Underway (last cb : ℕ) (l : List ℕ) (way : ℕ → ℕ) (count : ℕ) (m₀ : List ℕ) (s files held : ℕ) (m t : List ℕ) : Type 0 where
@@ -72,6 +67,6 @@ pub record Underway (last cb : ℕ) (l : List ℕ) (way : ℕ → ℕ) (count : 
   pub tails : Tails last (table_of last l) m t
 
 -- what the code's loop promises: its answer r, and where no chain is bad the marks of all chains
-pub record FilesVisited (last cb : ℕ) (l : List ℕ) (way : ℕ → ℕ) (count : ℕ) (m : List ℕ) (r : Chains) (after : List ℕ) : Type 0 where
+pub record FilesVisited (last cb : ℕ) (l : List ℕ) (way : ℕ → ℕ) (count : ℕ) (m : List ℕ) (r : Result Chains ℕ) (after : List ℕ) : Type 0 where
   pub is : r ≡ chains_found last cb l way count
   pub marks_are : MarksIf r after (marks m (chains_of last cb l way count))

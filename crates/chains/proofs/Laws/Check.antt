@@ -1,7 +1,6 @@
 -- What is computed with walks and marks is what the findings say.
-use Rattle.std.specs.Prelude.{ℕ, ◌+◌, ◌-◌, ◌≤◌, ◌<◌, ◌≡◌, refl, ◌↔◌, Bool, true, false, List, [], ◌∷◌, ltb, length, get_or}
+use Rattle.std.specs.Prelude.{ℕ, ◌+◌, ◌-◌, ◌≤◌, ◌<◌, ◌≡◌, refl, ◌↔◌, Bool, true, false, List, [], ◌∷◌, ltb, length, get_or, Option, Some, None}
 use Rattle.std.proofs.Common.{arith, ap, subst, inl, inr}
-use Rattle.std.proofs.Math.Option.{Option, none, some}
 use Rattle.search.specs.Search.{lowest}
 use Rattle.chains.specs.Aids.Tests.{Says, aye, nay}
 use Rattle.chains.specs.Lists.{◌∈◌}
@@ -11,7 +10,7 @@ use Rattle.chains.specs.Values.{Link}
 use Rattle.chains.specs.Aids.Walk.{walk}
 use Rattle.chains.specs.Aids.Holders.{Holder, Owns}
 use Rattle.chains.specs.Aids.Marks.{marks_of}
-use Rattle.chains.specs.Aids.Verdict.{optional, Finds}
+use Rattle.chains.specs.Aids.Verdict.{Finds}
 use Rattle.chains.specs.Aids.Findings.{NoValue, InChain, InTwo, Lost, holders_of}
 use Rattle.chains.specs.Aids.Check.{no_value, chain_marks, chain_of, in_two, lost, ownsb}
 use Rattle.chains.proofs.Laws.Tests.{clash, says_and, says_eq, says_map, says_not, says_or}
@@ -28,23 +27,23 @@ says_owns : (G : Geometry) (f : ℕ → ℕ) (h : Holder) → Says (ownsb G.last
 unfolding ownsb chain_of
 says_owns G f h = go (walk G.last f h.start) refl
   where
-    fit : (cs : List ℕ) → walk G.last f h.start ≡ some cs → (b : Bool) → h.allows (length cs) ≡ b → Says (h.allows (length cs)) (Owns G.last f h cs)
+    fit : (cs : List ℕ) → walk G.last f h.start ≡ Some cs → (b : Bool) → h.allows (length cs) ≡ b → Says (h.allows (length cs)) (Owns G.last f h cs)
     fit cs e true q = aye q (record { chain = walk_chain G f h.start cs e; long = q })
     fit cs e false q = nay q (λ o. clash o.long q)
 
     go : (o : Option (List ℕ)) → walk G.last f h.start ≡ o
-        → Says (elim o as (λ _. Bool) [ none ↦ false | some cs ↦ h.allows (length cs) ]) (Owns G.last f h (elim o as (λ _. List ℕ) [ none ↦ [] | some cs ↦ cs ]))
-    go none e = nay refl (λ o. let z : ◌≡◌ {A = ℕ} 0 1 = cc (chain_walk G f h.start [] o.chain) in omega arith)
-    go (some cs) e = fit cs e (h.allows (length cs)) refl
+        → Says (elim o as (λ _. Bool) [ None ↦ false | Some cs ↦ h.allows (length cs) ]) (Owns G.last f h (elim o as (λ _. List ℕ) [ None ↦ [] | Some cs ↦ cs ]))
+    go None e = nay refl (λ o. let z : ◌≡◌ {A = ℕ} 0 1 = cc (chain_walk G f h.start [] o.chain) in omega arith)
+    go (Some cs) e = fit cs e (h.allows (length cs)) refl
 
 -- whoever has a good chain has that one
 pub owns_chain_of : (G : Geometry) (f : ℕ → ℕ) (h : Holder) (cs : List ℕ) → Owns G.last f h cs → cs ≡ chain_of G.last f h
 unfolding chain_of
 owns_chain_of G f h cs o = go (walk G.last f h.start) (chain_walk G f h.start cs o.chain)
   where
-    go : (w : Option (List ℕ)) → w ≡ some cs → cs ≡ (elim w as (λ _. List ℕ) [ none ↦ [] | some cs ↦ cs ])
-    go none e = absurd (let z : ◌≡◌ {A = ℕ} 0 1 = cc in omega arith)
-    go (some ds) e = cc
+    go : (w : Option (List ℕ)) → w ≡ Some cs → cs ≡ (elim w as (λ _. List ℕ) [ None ↦ [] | Some cs ↦ cs ])
+    go None e = absurd (let z : ◌≡◌ {A = ℕ} 0 1 = cc in omega arith)
+    go (Some ds) e = cc
 
 pub owned_chain_of : (G : Geometry) (f : ℕ → ℕ) (h : Holder) (cs : List ℕ) → Owns G.last f h cs → Owns G.last f h (chain_of G.last f h)
 owned_chain_of G f h cs o = subst (λ (ds : List ℕ). Owns G.last f h ds) (owns_chain_of G f h cs o) o
@@ -68,7 +67,7 @@ holders_in (e ∷ es) i (inr m) = let r = holders_in es i m in (r.0, inr r.1)
 
 -- ---- finding 3
 
-pub found_no_value : (G : Geometry) (f : ℕ → ℕ) → Finds ltb (NoValue G.last f) (optional (lowest (no_value G.last f) 2 (G.last - 1)))
+pub found_no_value : (G : Geometry) (f : ℕ → ℕ) → Finds ltb (NoValue G.last f) (lowest (no_value G.last f) 2 (G.last - 1))
 unfolding no_value
 found_no_value G f = lowest_finds (NoValue G.last f) (no_value G.last f) 2 (G.last - 1) (λ p b. (b.0.0, omega arith))
     (λ c k l. says_map (λ n. ((k, omega arith), n)) (λ b. b.1) (says_not (says_valid G.last (f c))))
@@ -115,10 +114,10 @@ module _ (G : Geometry) (f : ℕ → ℕ) (h : ℕ → Holder) (is : List ℕ) (
         says_map (λ r. ((k, omega arith), r.0, of_none c r.1)) (λ b. (b.1, none_of c b.2))
         (says_and (says_or (says_link G.last (f c)) (says_end (f c))) (says_map no.0 no.1 (says_eq (get_or (marks_of size (joined χ is)) c 0) 0)))
 
-    pub found_in_two : Once is → Finds ltb (InTwo G.last f h is) (optional (lowest (in_two (chain_marks size G.last f h is)) 2 (G.last - 1)))
+    pub found_in_two : Once is → Finds ltb (InTwo G.last f h is) (lowest (in_two (chain_marks size G.last f h is)) 2 (G.last - 1))
     found_in_two e = lowest_finds (InTwo G.last f h is) (in_two (chain_marks size G.last f h is)) 2 (G.last - 1)
         (λ c b. let r = in_range b.0 c b.3 (in_chain G f h b.0 c b.5) in (r.0, omega arith)) (says_in_two e)
 
-    pub found_lost : Finds ltb (Lost G.last f h is) (optional (lowest (lost G.last f (chain_marks size G.last f h is)) 2 (G.last - 1)))
+    pub found_lost : Finds ltb (Lost G.last f h is) (lowest (lost G.last f (chain_marks size G.last f h is)) 2 (G.last - 1))
     found_lost = lowest_finds (Lost G.last f h is) (lost G.last f (chain_marks size G.last f h is)) 2 (G.last - 1)
         (λ c b. (b.0.0, omega arith)) says_lost

@@ -1,14 +1,13 @@
 -- The answer from finding 5 on: only one fits, it is what is computed, and it is fine exactly where table and holders are sound.
-use Rattle.std.specs.Prelude.{ℕ, ◌<◌, ◌≡◌, refl, Bool, List, []}
+use Rattle.std.specs.Prelude.{ℕ, ◌<◌, ◌≡◌, refl, Bool, List, [], Option}
 use Rattle.std.proofs.Math.Decide.{ℕ_discrete}
 use Rattle.std.proofs.Common.{sym, subst}
-use Rattle.std.proofs.Math.Option.{Option}
 use Rattle.std.proofs.Math.Dec.{ltb}
 use Rattle.chains.specs.Lists.{◌∈◌}
 use Rattle.chains.specs.Aids.Lists.{Once, joined}
 use Rattle.chains.specs.Aids.Sizes.{Geometry}
 use Rattle.chains.specs.Aids.Holders.{Holder, Owns, FitTogether, nobody}
-use Rattle.search.specs.Search.{None}
+use Rattle.search.specs.Search.{Nowhere}
 use Rattle.chains.specs.Aids.Verdict.{Finds}
 use Rattle.chains.specs.Aids.Findings.{BadChain, NoValue, FromChains, FromLost, FromTwo, InChain, InTwo, Lost, Voice, holders_of}
 use Rattle.chains.specs.Aids.Check.{chain_marks, chain_of, check_chains, check_lost, check_two}
@@ -27,20 +26,20 @@ module _ {P A : Type 0} (before : P → P → Bool) (G : Geometry) (f : ℕ → 
   χ i = chain_of G.last f (h i)
 
   -- none of finding 5: each holder has its chain
-  pub good_all : None (BadChain G.last f h es) → (i : ℕ) → i ∈ is → Owns G.last f (h i) (χ i)
+  pub good_all : Nowhere (BadChain G.last f h es) → (i : ℕ) → i ∈ is → Owns G.last f (h i) (χ i)
   good_all n i m = let r = holders_in es i m in elim (says_dec (says_owned G f (h i))) [
     | yes o ↦ owned_chain_of G f (h i) o.0 o.1
     | no k ↦ absurd (n r.0 (i, r.1, λ cs o. k (cs, o)))
   ]
 
-  check_two_lem : (size : ℕ) → G.last < size → Once is → None (BadChain G.last f h es) → FromTwo G.last f h es W (check_two G.last f (chain_marks size G.last f h is) W)
+  check_two_lem : (size : ℕ) → G.last < size → Once is → Nowhere (BadChain G.last f h es) → FromTwo G.last f h es W (check_two G.last f (chain_marks size G.last f h is) W)
   unfolding check_two check_lost
   check_two_lem size big e n =
       or_else_lem ltb (InTwo G.last f h is) W.in_two (FromLost G.last f h es W) _ (check_lost G.last f (chain_marks size G.last f h is) W) (found_in_two G f h is (good_all n) size big e) (λ n'.
       or_else_lem ltb (Lost G.last f h is) W.lost (λ a. a ≡ W.fine) _ W.fine (found_lost G f h is (good_all n) size big) (λ n''. refl))
 
   -- m need be the marks only where all chains are good
-  pub check_chains_lem : (size : ℕ) → G.last < size → Once is → (o : Option P) (m : List ℕ) → Finds before (BadChain G.last f h es) o → (None (BadChain G.last f h es) → m ≡ chain_marks size G.last f h is)
+  pub check_chains_lem : (size : ℕ) → G.last < size → Once is → (o : Option P) (m : List ℕ) → Finds before (BadChain G.last f h es) o → (Nowhere (BadChain G.last f h es) → m ≡ chain_marks size G.last f h is)
       → FromChains before G.last f h es W (check_chains G.last f m W o)
   unfolding check_chains
   check_chains_lem size big e o m d same = or_else_lem before (BadChain G.last f h es) W.bad_chain (FromTwo G.last f h es W) o (check_two G.last f m W) d (λ n. rw (same n) (check_two_lem size big e n))
@@ -51,7 +50,7 @@ module _ {P A : Type 0} (before : P → P → Bool) (G : Geometry) (f : ℕ → 
     outside : (i : ℕ) → ¬ (i ∈ is) → χ i ≡ []
     outside i n = rw (out i n) (sym (owns_chain_of G f nobody [] (nobody_owns G f)))
 
-    pub none_sound : None (NoValue G.last f) → None (BadChain G.last f h es) → None (InTwo G.last f h is) → None (Lost G.last f h is) → FitTogether G.last f h χ
+    pub none_sound : Nowhere (NoValue G.last f) → Nowhere (BadChain G.last f h es) → Nowhere (InTwo G.last f h is) → Nowhere (Lost G.last f h is) → FitTogether G.last f h χ
     none_sound n3 n5 n6 n7 = record {
       valid = λ c l. elim (says_dec (says_valid G.last (f c))) [ yes x ↦ x | no x ↦ absurd (n3 c (l, x)) ];
       owns = whole;

@@ -10,7 +10,7 @@ use Rattle.chains.specs.Sums.{sum}
 use Rattle.chains.specs.Aids.Sums.{sum_over}
 use Rattle.chains.specs.Aids.Sizes.{Geometry}
 use Rattle.chains.specs.Aids.Holders.{Holder, Owns}
-use Rattle.chains.specs.Aids.Verdict.{optional, Finds}
+use Rattle.chains.specs.Aids.Verdict.{Finds}
 use Rattle.chains.specs.Aids.Findings.{BadChain, holders_of}
 use Rattle.chains.specs.Aids.Check.{ownsb}
 use Rattle.chains.specs.Aids.Rows.{rows}
@@ -74,7 +74,7 @@ rows_sum way g k (suc n) =
 
 -- finding 5 by a loop over the slots from below
 pub found_bad_chain : (G : Geometry) (f : ℕ → ℕ) (h : ℕ → Holder) (way : ℕ → ℕ) (n : ℕ)
-    → Finds ltb (BadChain G.last f h (rows way 0 n)) (optional (lowest (λ s. not (ownsb G.last f (h (way s)))) 0 n))
+    → Finds ltb (BadChain G.last f h (rows way 0 n)) (lowest (λ s. not (ownsb G.last f (h (way s)))) 0 n)
 found_bad_chain G f h way n = lowest_finds (BadChain G.last f h (rows way 0 n)) (λ s. not (ownsb G.last f (h (way s)))) 0 n
     (λ p x. let r = rows_in way 0 n p x.0 x.1 in (omega arith, r.1))
     (λ p l k. says_map (λ x. (way p, in_rows way 0 n p l k, λ cs o. x (cs, o)))

@@ -1,14 +1,11 @@
 -- Only one answer fits a list of findings; and a search that found what there is gives that answer.
-use Rattle.std.specs.Prelude.{ℕ, ◌+◌, ◌≤◌, ◌<◌, ◌≡◌, refl, Bool, ltb}
+use Rattle.std.specs.Prelude.{ℕ, ◌+◌, ◌≤◌, ◌<◌, ◌≡◌, refl, Bool, ltb, Option, Some, None}
 use Rattle.std.proofs.Common.{arith, sym, ap, ◌∙◌, inl, inr, ltb-true, ltb-false, lt-ltb, le-ltb}
-use Rattle.std.proofs.Math.Option.{Option}
-use Rattle.search.specs.Search.{lowest, Lowest, None, Answers}
+use Rattle.search.specs.Search.{lowest, Lowest, Nowhere, Answers}
 use Rattle.search.proofs.Laws.Answers.{lowest_answers}
-use Rattle.search.specs.declared.Found.{Found}
-use Rattle.search.specs.declared.Found.TheVariants.{At, Nothing}
 use Rattle.chains.specs.Aids.Tests.{Says}
 use Rattle.chains.specs.Verdict.{OrElse}
-use Rattle.chains.specs.Aids.Verdict.{Orders, or_else, optional, Finds, found, nowhere}
+use Rattle.chains.specs.Aids.Verdict.{Orders, or_else, Finds, found, nowhere}
 use Rattle.chains.proofs.Laws.Tests.{by_test, says_true, true_says}
 
 pub lowest_same : {P : Type 0} (before : P → P → Bool) → Orders before → (B : P → Type 0) (p q : P) → Lowest before B p → Lowest before B q → p ≡ q
@@ -26,7 +23,7 @@ or_else_same before O B say Rest u a b (inr x) (inr y) = u a b x.1 y.1
 
 -- ---- searches
 
-pub or_else_lem : {P A : Type 0} (before : P → P → Bool) (B : P → Type 0) (say : P → A) (Rest : A → Type 0) (o : Option P) (a : A) → Finds before B o → (None B → Rest a) → OrElse before B say Rest (or_else say o a)
+pub or_else_lem : {P A : Type 0} (before : P → P → Bool) (B : P → Type 0) (say : P → A) (Rest : A → Type 0) (o : Option P) (a : A) → Finds before B o → (Nowhere B → Rest a) → OrElse before B say Rest (or_else say o a)
 unfolding or_else
 or_else_lem before B say Rest o a (found p e l) r = inl (p, l, rw e refl)
 or_else_lem before B say Rest o a (nowhere e n) r = inr (n, rw e (r n))
@@ -40,12 +37,11 @@ numbers = record {
   tri = λ p q a b. omega (arith, ltb-false p q a, ltb-false q p b);
 }
 
-finds_answer : (B : ℕ → Type 0) (o : Found) → Answers B o → Finds ltb B (optional o)
-unfolding optional
-finds_answer B (At p) x = found p refl x
-finds_answer B Nothing x = nowhere refl x
+finds_answer : (B : ℕ → Type 0) (o : Option ℕ) → Answers B o → Finds ltb B o
+finds_answer B (Some p) x = found p refl x
+finds_answer B None x = nowhere refl x
 
 -- B may hold in the range alone, and there the test decides it
 pub lowest_finds : (B : ℕ → Type 0) (t : ℕ → Bool) (c n : ℕ) → ((p : ℕ) → B p → (c ≤ p) × (p < c + n))
-    → ((p : ℕ) → c ≤ p → p < c + n → Says (t p) (B p)) → Finds ltb B (optional (lowest t c n))
+    → ((p : ℕ) → c ≤ p → p < c + n → Says (t p) (B p)) → Finds ltb B (lowest t c n)
 lowest_finds B t c n b d = finds_answer B (lowest t c n) (lowest_answers t B c n b (λ q l k. (says_true (d q l k), true_says (d q l k))))

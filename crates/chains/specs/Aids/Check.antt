@@ -1,22 +1,21 @@
 -- The same findings as code computes them, with a walk for each holder and marks for its clusters.
-use Rattle.std.specs.Prelude.{ℕ, ◌-◌, Bool, false, ◌&&◌, ◌||◌, not, List, [], eqb, length, get_or}
-use Rattle.std.proofs.Math.Option.{Option, none, some}
+use Rattle.std.specs.Prelude.{ℕ, ◌-◌, Bool, false, ◌&&◌, ◌||◌, not, List, [], eqb, length, get_or, Option, Some, None}
 use Rattle.search.specs.Search.{lowest}
 use Rattle.chains.specs.Aids.Lists.{joined}
 use Rattle.chains.specs.Values.{badb, freeb, linkb, endb, reservedb}
 use Rattle.chains.specs.Aids.Walk.{walk}
 use Rattle.chains.specs.Aids.Holders.{Holder}
 use Rattle.chains.specs.Aids.Marks.{marks_of}
-use Rattle.chains.specs.Aids.Verdict.{or_else, optional}
+use Rattle.chains.specs.Aids.Verdict.{or_else}
 use Rattle.chains.specs.Aids.Findings.{Voice}
 
 -- the clusters of the holder, if its chain has an end
 unfoldable pub chain_of : ℕ → (ℕ → ℕ) → Holder → List ℕ
-chain_of last f h = elim (walk last f h.start) [ none ↦ [] | some cs ↦ cs ]
+chain_of last f h = elim (walk last f h.start) [ None ↦ [] | Some cs ↦ cs ]
 
 -- is there an end, and is the chain's length allowed?
 unfoldable pub ownsb : ℕ → (ℕ → ℕ) → Holder → Bool
-ownsb last f h = elim (walk last f h.start) [ none ↦ false | some cs ↦ h.allows (length cs) ]
+ownsb last f h = elim (walk last f h.start) [ None ↦ false | Some cs ↦ h.allows (length cs) ]
 
 -- the marks of the chains of all of is, in a list of size places
 unfoldable pub chain_marks : ℕ → ℕ → (ℕ → ℕ) → (ℕ → Holder) → List ℕ → List ℕ
@@ -36,11 +35,11 @@ lost last f m c = (linkb last (f c) || endb (f c)) && eqb (get_or m c 0) 0
 
 -- the answer from finding 7 on
 unfoldable pub check_lost : {P A : Type 0} → ℕ → (ℕ → ℕ) → List ℕ → Voice P A → A
-check_lost last f m W = or_else W.lost (optional (lowest (lost last f m) 2 (last - 1))) W.fine
+check_lost last f m W = or_else W.lost (lowest (lost last f m) 2 (last - 1)) W.fine
 
 -- the answer from finding 6 on
 unfoldable pub check_two : {P A : Type 0} → ℕ → (ℕ → ℕ) → List ℕ → Voice P A → A
-check_two last f m W = or_else W.in_two (optional (lowest (in_two m) 2 (last - 1))) (check_lost last f m W)
+check_two last f m W = or_else W.in_two (lowest (in_two m) 2 (last - 1)) (check_lost last f m W)
 
 -- the answer from finding 5 on, o being what the search for it found
 unfoldable pub check_chains : {P A : Type 0} → ℕ → (ℕ → ℕ) → List ℕ → Voice P A → Option P → A

@@ -1,9 +1,6 @@
 -- The first finding at its lowest place, as it is computed; and what theorems ask of an order of places.
-use Rattle.std.specs.Prelude.{ℕ, Bool, false, true, ◌≡◌}
-use Rattle.std.proofs.Math.Option.{Option, none, some}
-use Rattle.search.specs.Search.{Lowest, None}
-use Rattle.search.specs.declared.Found.{Found}
-use Rattle.search.specs.declared.Found.TheVariants.{At, Nothing}
+use Rattle.std.specs.Prelude.{ℕ, Bool, false, true, ◌≡◌, Option, Some, None}
+use Rattle.search.specs.Search.{Lowest, Nowhere}
 
 -- any two differ one way. (Theorems take it; the definitions take the test alone.)
 pub record Orders {P : Type 0} (before : P → P → Bool) : Type 0 where
@@ -13,15 +10,10 @@ pub record Orders {P : Type 0} (before : P → P → Bool) : Type 0 where
 
 -- what a search found, said so; else a
 unfoldable pub or_else : {P A : Type 0} → (P → A) → Option P → A → A
-or_else say none a = a
-or_else say (some p) a = say p
-
--- what a search of numbers answered, as the place of a finding
-unfoldable pub optional : Found → Option ℕ
-optional (At p) = some p
-optional Nothing = none
+or_else say None a = a
+or_else say (Some p) a = say p
 
 -- the search o found what there is
 pub data Finds {P : Type 0} (before : P → P → Bool) (B : P → Type 0) (o : Option P) : Type 0 where
-  found : (p : P) → o ≡ some p → Lowest before B p → Finds before B o
-  nowhere : o ≡ none → None B → Finds before B o
+  found : (p : P) → o ≡ Some p → Lowest before B p → Finds before B o
+  nowhere : o ≡ None → Nowhere B → Finds before B o

@@ -1,12 +1,12 @@
 -- One slot changed: the volume is sound still, and every other file is as it was.
-use Rattle.std.specs.Prelude.{ℕ, ◌+◌, ◌*◌, ◌≤◌, ◌<◌, List, ◌≢◌, ◌≡◌, length, get_or}
+use Rattle.std.specs.Prelude.{ℕ, ◌+◌, ◌*◌, ◌≤◌, ◌<◌, List, ◌≢◌, ◌≡◌, length, get_or, Some}
 use Rattle.std.proofs.Common.{arith, inl, inr, sym, ap, ◌∙◌, subst}
 use Rattle.std.proofs.Math.Decide.{ℕ_discrete}
 use Rattle.chains.specs.Content.{cluster_begin, content}
 use Rattle.chains.specs.Aids.Holders.{FitTogether, Owns}
 use Rattle.chains.specs.Aids.Put.{put}
 use Rattle.chains.specs.Values.{Link}
-use Rattle.search.specs.Search.{None}
+use Rattle.search.specs.Search.{Nowhere}
 use Rattle.chains.proofs.Laws.Content.{cluster_high}
 use Rattle.chains.proofs.Laws.Holders.{file_fits}
 use Rattle.chains.proofs.Laws.Put.{put_other}
@@ -17,7 +17,6 @@ use Rattle.diskette.specs.Aids.Usable.{Usable}
 use Rattle.diskette.proofs.Laws.Images.{image_of_kind}
 use Rattle.diskette.specs.Places.{first_data, cluster_bytes, last_cluster, root_entries, slot_at}
 use Rattle.diskette.specs.declared.Kind.{Kind}
-use Rattle.diskette.specs.declared.WhichKind.TheVariants.{Known}
 use Rattle.directory.specs.Aids.Entries.{SameFields}
 use Rattle.fields.specs.Fields.{name_of, start_of, size_of}
 use Rattle.directory.specs.Slots.{NeverUsedAt, LiveAt, LabelAt, PlainAt}
@@ -76,12 +75,12 @@ module _ (k : Kind) (l : List ℕ) (v : OnVolume l k) where
 
     -- ---- sound still
 
-    tables_still : None (TablesDiffer k m)
+    tables_still : Nowhere (TablesDiffer k m)
     tables_still =
         let d = no_difference k l u on_sound.1.tables in
         no_difference_from k m (c.frame.agree d.0) (c.frame.head 513 (omega arith) ∙ d.1) (c.frame.head 514 (omega arith) ∙ d.2)
 
-    slots_still : None (BadSlot k m)
+    slots_still : Nowhere (BadSlot k m)
     slots_still t (h, inl (n, (r, below, z))) = elim (ℕ_discrete r s) [
       | yes e ↦ c.good.used (subst (λ (x : ℕ). NeverUsedAt m (slot_at k x)) e z)
       | no d ↦
@@ -125,7 +124,7 @@ module _ (k : Kind) (l : List ℕ) (v : OnVolume l k) where
     pub changed_theory : FitTogether (last_cluster k) (value_of k m) (root_holders k m) (put (root_chains k l) (slot_at k s) ds)
     changed_theory = slot_replaced k u l m (root_chains k l) on_theory s c.slot ds c.chain (λ t h n. holder_as (cluster_bytes k) m l (slot_at k t) (slot_at k t) (same_slot t h n))
 
-    kind_still : kind_of_image m ≡ Known k
+    kind_still : kind_of_image m ≡ Some k
     kind_still = (image_of_kind m k).1 (record { listed = (on_of_kind l k v).listed; long = c.frame.long ∙ (on_of_kind l k v).long; byte = c.frame.head 512 (omega arith) ∙ (on_of_kind l k v).byte })
 
     -- the volume is sound still

@@ -1,6 +1,6 @@
 -- Create: the slot holds an empty file of the name and attribute given, whether a file of that name was emptied or an open slot
 -- was taken.
-use Rattle.std.specs.Prelude.{ℕ, ◌+◌, ◌/◌, ◌%◌, ◌<◌, true, false, List, [], ◌≢◌, ◌⊎◌, ◌≡◌, ltb, length, get_or}
+use Rattle.std.specs.Prelude.{ℕ, ◌+◌, ◌/◌, ◌%◌, ◌<◌, true, false, List, [], ◌≢◌, ◌⊎◌, ◌≡◌, ltb, length, get_or, Some, None, is_some}
 use Rattle.std.proofs.Common.{arith, inl, inr, sym, ap, ◌∙◌, subst, lt-ltb}
 use Rattle.std.proofs.Math.Path.{refl}
 use Rattle.image.specs.Bytes.{Bytes}
@@ -12,8 +12,7 @@ use Rattle.chains.proofs.Laws.Sizes.{fits_empty}
 use Rattle.chains.proofs.Laws.Tests.{clash}
 use Rattle.diskette.specs.Places.{cluster_bytes, last_cluster, root_entries, slot_at}
 use Rattle.diskette.specs.declared.Kind.{Kind}
-use Rattle.search.specs.Search.{Lowest, None, Answers}
-use Rattle.search.specs.declared.Found.TheVariants.{At, Nothing}
+use Rattle.search.specs.Search.{Lowest, Nowhere, Answers}
 use Rattle.directory.specs.Entries.{HasFields}
 use Rattle.fields.specs.Fields.{name_of, attr_of, start_of, size_of, tail_bytes, with_entry}
 use Rattle.fields.specs.Aids.Fields.{entry_bytes}
@@ -22,8 +21,9 @@ use Rattle.directory.specs.Slots.{has_bit, NeverUsedAt, VacantAt, PlainAt}
 use Rattle.directory.proofs.Laws.Entries.{fresh}
 use Rattle.fields.proofs.Laws.Fields.{length_entry, bytes_entry}
 use Rattle.directory.proofs.Laws.Search.{vacant_slot_answers, slot_named_answers}
-use Rattle.names.specs.Reading.{name_given}
+use Rattle.names.specs.Reading.{name_given, name_bytes}
 use Rattle.names.specs.Spelling.{Proper}
+use Rattle.names.proofs.Laws.Given.{given_bytes}
 use Rattle.names.proofs.Laws.Proper.{proper}
 use Rattle.sound.specs.Files.{value_of, none_of_it, IsFile}
 use Rattle.sound.proofs.Laws.Geometry.{geometry}
@@ -51,15 +51,15 @@ word_low w =
     let f : w / 256 % 256 ≡ w % 65536 / 256 % 256 = omega arith in
     rw (e, f)
 
-module _ (k : Kind) (l : List ℕ) (v : OnVolume l k) (b : Bytes l) (given : List ℕ) (fits : (name_given given).fits ≡ true) (attr : ℕ) (allowed : bad_attr attr ≡ false) (time date : ℕ) (s : ℕ) where
+module _ (k : Kind) (l : List ℕ) (v : OnVolume l k) (b : Bytes l) (given : List ℕ) (fits : is_some (name_given given) ≡ true) (attr : ℕ) (allowed : bad_attr attr ≡ false) (time date : ℕ) (s : ℕ) where
   abbrev name : List ℕ
-  name = (name_given given).name
+  name = name_bytes (name_given given)
 
   abbrev a : ℕ
   a = slot_at k s
 
   good_name : Proper name
-  good_name = proper given fits
+  good_name = proper given _ (given_bytes (name_given given) fits)
 
   good : GoodAttr attr
   good = good_attr attr allowed
@@ -123,7 +123,7 @@ module _ (k : Kind) (l : List ℕ) (v : OnVolume l k) (b : Bytes l) (given : Lis
 
   -- ---- a file of that name is emptied
 
-  module _ (found : slot_named l (slot_at k) (root_entries k) name ≡ At s) where
+  module _ (found : slot_named l (slot_at k) (root_entries k) name ≡ Some s) where
     named : Lowest ltb (λ t. (t < root_entries k) × (PlainAt l (slot_at k t) × (name_of l (slot_at k t) ≡ name))) s
     named = subst (Answers (λ t. (t < root_entries k) × (PlainAt l (slot_at k t) × (name_of l (slot_at k t) ≡ name)))) found
         (slot_named_answers l (slot_at k) (root_entries k) (slots_within l k v) name good_name.long)
@@ -145,8 +145,8 @@ module _ (k : Kind) (l : List ℕ) (v : OnVolume l k) (b : Bytes l) (given : Lis
 
   -- ---- a new file takes the lowest open slot
 
-  module _ (none : slot_named l (slot_at k) (root_entries k) name ≡ Nothing) (lowest : lowest_vacant l (slot_at k) (root_entries k) ≡ At s) where
-    nowhere : None (λ t. (t < root_entries k) × (PlainAt l (slot_at k t) × (name_of l (slot_at k t) ≡ name)))
+  module _ (none : slot_named l (slot_at k) (root_entries k) name ≡ None) (lowest : lowest_vacant l (slot_at k) (root_entries k) ≡ Some s) where
+    nowhere : Nowhere (λ t. (t < root_entries k) × (PlainAt l (slot_at k t) × (name_of l (slot_at k t) ≡ name)))
     nowhere = subst (Answers (λ t. (t < root_entries k) × (PlainAt l (slot_at k t) × (name_of l (slot_at k t) ≡ name)))) none
         (slot_named_answers l (slot_at k) (root_entries k) (slots_within l k v) name good_name.long)
 

@@ -1,6 +1,6 @@
 -- Rename, file mode and close: fields of one entry change and no cluster does. The volume stays sound, the file keeps its
 -- bytes.
-use Rattle.std.specs.Prelude.{ℕ, ◌+◌, ◌*◌, ◌/◌, ◌%◌, ◌≤◌, ◌<◌, Bool, true, false, cond, List, [], ◌∷◌, ◌≢◌, ◌≡◌, refl, eqb, length, get_or}
+use Rattle.std.specs.Prelude.{ℕ, ◌+◌, ◌*◌, ◌/◌, ◌%◌, ◌≤◌, ◌<◌, Bool, true, false, cond, List, [], ◌∷◌, ◌≢◌, ◌≡◌, refl, eqb, length, get_or, None, is_some}
 use Rattle.std.proofs.Common.{arith, inl, inr, sym, ap, ◌∙◌, subst, eqb-true, ne_eqb}
 use Rattle.std.proofs.Math.Decide.{dec_lt}
 use Rattle.std.proofs.lemmas.Bool.{eqb-false, not-false}
@@ -31,11 +31,11 @@ use Rattle.directory.specs.Search.{slot_named}
 use Rattle.directory.specs.Slots.{has_bit, NeverUsedAt, PlainAt}
 use Rattle.directory.proofs.Laws.Entries.{untouched, byte_leaves, word_leaves, byte_back, run_back}
 use Rattle.directory.proofs.Laws.Search.{slot_named_answers}
-use Rattle.names.specs.Reading.{name_given}
+use Rattle.names.specs.Reading.{name_given, name_bytes}
 use Rattle.names.specs.Spelling.{Proper}
+use Rattle.names.proofs.Laws.Given.{given_bytes}
 use Rattle.names.proofs.Laws.Proper.{proper}
 use Rattle.search.specs.Search.{Answers}
-use Rattle.search.specs.declared.Found.TheVariants.{Nothing}
 use Rattle.chaincheck.specs.Aids.Entries.{holder_at}
 use Rattle.sound.specs.Files.{value_of, ChainOf, IsFile}
 use Rattle.sound.specs.Findings.{StrangeEntry}
@@ -249,15 +249,15 @@ module _ (k : Kind) (l : List ℕ) (v : OnVolume l k) (s : ℕ) (i : IsFile k l 
 
   -- ---- rename
 
-  module _ (given : List ℕ) (fits : (name_given given).fits ≡ true) where
+  module _ (given : List ℕ) (fits : is_some (name_given given) ≡ true) where
     abbrev name : List ℕ
-    name = (name_given given).name
+    name = name_bytes (name_given given)
 
     abbrev renamed : List ℕ
     renamed = with_name l a name
 
     good : Proper name
-    good = proper given fits
+    good = proper given _ (given_bytes (name_given given) fits)
 
     rename_entry : EntryChanged k l renamed s
     rename_entry = entry_stored k u s i.below l a name (omega arith) (omega (arith, good.long))
@@ -285,9 +285,9 @@ module _ (k : Kind) (l : List ℕ) (v : OnVolume l k) (s : ℕ) (i : IsFile k l 
     rename_usual (live, inl e) = good.dotted (sym rename_first ∙ e)
     rename_usual (live, inr e) = usual_before (i.plain.0, inr (rw (sym rename_attr) e))
 
-    pub rename_changed : slot_named l (slot_at k) (root_entries k) name ≡ Nothing → SlotChanged k l renamed s (root_chains k l a)
+    pub rename_changed : slot_named l (slot_at k) (root_entries k) name ≡ None → SlotChanged k l renamed s (root_chains k l a)
     rename_changed free =
-        let none : Answers (λ t. (t < root_entries k) × (PlainAt l (slot_at k t) × (name_of l (slot_at k t) ≡ name))) Nothing
+        let none : Answers (λ t. (t < root_entries k) × (PlainAt l (slot_at k t) × (name_of l (slot_at k t) ≡ name))) None
         = subst (Answers (λ t. (t < root_entries k) × (PlainAt l (slot_at k t) × (name_of l (slot_at k t) ≡ name)))) free
         (slot_named_answers l (slot_at k) (root_entries k) (slots_within l k v) name good.long) in
         entry_changed renamed rename_entry rename_stays rename_usual (λ t h n p e. none t (h, (p, e ∙ rename_name)))

@@ -1,5 +1,5 @@
 -- What check answers of a sound volume, and how many files it counts.
-use Rattle.std.specs.Prelude.{ℕ, zero, suc, ◌+◌, ◌-◌, ◌≤◌, ◌<◌, Bool, List, ◌≡◌}
+use Rattle.std.specs.Prelude.{ℕ, zero, suc, ◌+◌, ◌-◌, ◌≤◌, ◌<◌, Bool, List, ◌≡◌, Option, Ok}
 use Rattle.std.proofs.Common.{arith, inr, sym, ap, ◌∙◌, subst}
 use Rattle.std.proofs.Math.Decide.{dec_lt}
 use Rattle.std.proofs.Math.Bool.{true, false}
@@ -7,7 +7,6 @@ use Rattle.std.proofs.Math.Path.{refl}
 use Rattle.chains.specs.Sums.{tally, bit}
 use Rattle.diskette.specs.Places.{root_entries, slot_at}
 use Rattle.diskette.specs.declared.Kind.{Kind}
-use Rattle.diskette.specs.declared.WhichKind.{WhichKind}
 use Rattle.directory.specs.Slots.{standing_of, is_plain}
 use Rattle.directory.proofs.Laws.Slots.{plain_is}
 use Rattle.sound.specs.Answer.{AnswersBy}
@@ -16,17 +15,16 @@ use Rattle.sound.specs.Files.{IsFile, AreChains}
 use Rattle.sound.specs.Judged.{check_of}
 use Rattle.sound.proofs.Laws.OneAnswer.{checked_is}
 use Rattle.sound.proofs.Laws.Sound.{sound_exactly}
-use Rattle.sound.specs.declared.Verdict.TheVariants.{Sound}
 use Rattle.calls.specs.Aids.Ready.{OnVolume}
 use Rattle.calls.proofs.Laws.Ready.{on_usable}
 use Rattle.changes.proofs.Laws.Changed.{on_sound}
 
 -- lists are any that are the files' chains
-pub sound_verdict : (k : Kind) (l : List ℕ) → OnVolume l k → (lists : ℕ → List ℕ) → AreChains k l lists → check_of l ≡ Sound (counts_of k l lists)
+pub sound_verdict : (k : Kind) (l : List ℕ) → OnVolume l k → (lists : ℕ → List ℕ) → AreChains k l lists → check_of l ≡ Ok (counts_of k l lists)
 sound_verdict k l v lists p =
     let n = (sound_exactly k (on_usable l k v) l).0 (on_sound k l v) in
     sym (checked_is (record {
-      is = subst (λ (w : WhichKind). AnswersBy w l (Sound (counts_of k l lists))) (sym v.known)
+      is = subst (λ (w : Option Kind). AnswersBy w l (Ok (counts_of k l lists))) (sym v.known)
           (inr (n.tables, inr (n.values, inr (n.slots, inr (n.chains, inr (n.two, inr (n.lost, (lists, p, refl))))))));
     }))
 

@@ -10,22 +10,9 @@ use Rattle.chains.proofs.Laws.Content.{cluster_high}
 use Rattle.chains.specs.Aids.Steps.{followed}
 use Rattle.table.specs.Entries.{table_of}
 use Rattle.contents.specs.Aids.Contents.{chain_from, Area, place_of}
-use Rattle.contents.specs.Aids.Loops.{run_of}
 use Rattle.contents.proofs.Laws.Chain.{geometry, holder_link, holder_followed}
 
--- ---- runs and places, on numbers alone
-
-module _ (cb p left : ℕ) (wide : 0 < cb) where
-  pub rest_inside : p % cb ≤ cb - 1
-  rest_inside = omega (arith, mod-lt p wide)
-
-  pub run_short : cb - 1 - p % cb < left → cb - 1 - p % cb + 1 ≡ run_of cb p left
-  unfolding run_of
-  run_short h = omega (arith, mod-lt p wide)
-
-  pub run_whole : left ≤ cb - 1 - p % cb → left ≡ run_of cb p left
-  unfolding run_of
-  run_whole h = omega arith
+-- ---- places, on numbers alone
 
 module _ (base cb c p : ℕ) (wide : 0 < cb) (fits : cluster_begin base cb c + cb < 18446744073709551616) where
   pub steps_fit : (c - 2) * cb < 18446744073709551616

@@ -1,36 +1,21 @@
 use Rattle.std.proofs.Common.{rules}
-use Rattle.contents.proofs.Laws.Turns.{fetch_first, fetch_length, fetch_done, next_fits, cluster_from, cluster_fits, run_end_fits, run_less, run_stays, fetch_fits, fetch_again}
+use Rattle.contents.proofs.Laws.Turns.{fetch_first, fetch_ready, fetch_fits, fetch_stays, fetch_less, fetch_again}
 use Rattle.contents.proofs.fetch.Goals as goal
 
-pub loop-done-init : goal.loop-done-init
-loop-done-init c = search fetch_first
+pub loop-run-init : goal.loop-run-init
+loop-run-init c = search fetch_first
 
-pub overflow_add-pos : goal.overflow_add-pos
-overflow_add-pos c = search (rules, next_fits)
-
-pub overflow_add-pos-in-loop-done : goal.overflow_add-pos-in-loop-done
-overflow_add-pos-in-loop-done c = search (rules, next_fits)
-
-pub byte_in-at-requires : goal.byte_in-at-requires
-byte_in-at-requires c = search (rules, cluster_from, cluster_fits)
+pub next_run-requires : goal.next_run-requires
+next_run-requires c = search (rules, fetch_ready)
 
 pub copy_part-requires-clause-n_in_bounds : goal.copy_part-requires-clause-n_in_bounds
-copy_part-requires-clause-n_in_bounds c = search fetch_fits
+copy_part-requires-clause-n_in_bounds c = fetch_fits c.loop-run.invariant c.in-Some.ensures c.requires.n_in_bounds_2
 
 pub copy_part-requires-clause-n_in_bounds_2 : goal.copy_part-requires-clause-n_in_bounds_2
-copy_part-requires-clause-n_in_bounds_2 c = search run_stays
+copy_part-requires-clause-n_in_bounds_2 c = fetch_stays c.loop-run.invariant c.in-Some.ensures
 
-pub overflow_add-done : goal.overflow_add-done
-overflow_add-done c = search (rules, run_end_fits)
+pub loop-run-smaller : goal.loop-run-smaller
+loop-run-smaller c = fetch_less c.loop-run.invariant c.in-Some.ensures
 
-pub loop-done-smaller : goal.loop-done-smaller
-loop-done-smaller c = search run_less
-
-pub loop-done-preserved : goal.loop-done-preserved
-loop-done-preserved c = search fetch_again
-
-pub shape_of-out : goal.shape_of-out
-shape_of-out c = search fetch_length
-
-pub returns : goal.returns
-returns c = search fetch_done
+pub loop-run-preserved : goal.loop-run-preserved
+loop-run-preserved c = fetch_again c.loop-run.invariant c.in-Some.ensures c.copy_part.ensures

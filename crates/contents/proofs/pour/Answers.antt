@@ -1,39 +1,21 @@
 use Rattle.std.proofs.Common.{rules}
-use Rattle.contents.proofs.Laws.Turns.{pour_first, pour_length, pour_reaches, pour_done, pour_stays, next_fits, cluster_from, cluster_fits, run_end, run_end_fits, run_less, copy_again}
+use Rattle.contents.proofs.Laws.Turns.{pour_first, pour_ready, pour_stays, pour_end, pour_less, pour_again}
 use Rattle.contents.proofs.pour.Goals as goal
 
-pub loop-done-init : goal.loop-done-init
-loop-done-init c = search pour_first
+pub loop-run-init : goal.loop-run-init
+loop-run-init c = search pour_first
 
-pub overflow_add-pos : goal.overflow_add-pos
-overflow_add-pos c = search (rules, next_fits)
-
-pub overflow_add-pos-in-loop-done : goal.overflow_add-pos-in-loop-done
-overflow_add-pos-in-loop-done c = search (rules, next_fits)
-
-pub byte_in-at-requires : goal.byte_in-at-requires
-byte_in-at-requires c = search (rules, cluster_from, cluster_fits)
-
-pub value_of-cluster-requires : goal.value_of-cluster-requires
-value_of-cluster-requires c = search (rules, pour_reaches)
+pub next_run-requires : goal.next_run-requires
+next_run-requires c = search (rules, pour_ready)
 
 pub copy_part-requires-clause-n_in_bounds : goal.copy_part-requires-clause-n_in_bounds
-copy_part-requires-clause-n_in_bounds c = search pour_stays
+copy_part-requires-clause-n_in_bounds c = pour_stays c.loop-run.invariant c.in-Some.ensures
 
 pub copy_part-requires-clause-n_in_bounds_2 : goal.copy_part-requires-clause-n_in_bounds_2
-copy_part-requires-clause-n_in_bounds_2 c = search run_end
+copy_part-requires-clause-n_in_bounds_2 c = pour_end c.loop-run.invariant c.in-Some.ensures
 
-pub overflow_add-done : goal.overflow_add-done
-overflow_add-done c = search (rules, run_end_fits)
+pub loop-run-smaller : goal.loop-run-smaller
+loop-run-smaller c = pour_less c.loop-run.invariant c.in-Some.ensures
 
-pub loop-done-smaller : goal.loop-done-smaller
-loop-done-smaller c = search run_less
-
-pub loop-done-preserved : goal.loop-done-preserved
-loop-done-preserved c = search copy_again
-
-pub shape_of-img : goal.shape_of-img
-shape_of-img c = search pour_length
-
-pub returns : goal.returns
-returns c = search pour_done
+pub loop-run-preserved : goal.loop-run-preserved
+loop-run-preserved c = pour_again c.loop-run.invariant c.in-Some.ensures (search rules) c.copy_part.ensures

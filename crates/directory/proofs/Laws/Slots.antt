@@ -1,6 +1,6 @@
 -- What a slot stands for: the function and the paper's words agree.
 use Rattle.std.specs.Prelude.{ℕ, Bool, true, false, cond, List, ◌≢◌, ◌↔◌, ◌≡◌, refl, get_or}
-use Rattle.std.proofs.Common.{arith, inl, inr, sym, ◌∙◌, ap, subst}
+use Rattle.std.proofs.Common.{arith, inl, inr, sym, subst}
 use Rattle.std.proofs.Math.Decide.{ℕ_discrete}
 use borrow.Author.Tests.{eq-eqb, ne_eqb}
 use Rattle.fields.specs.Fields.{attr_of}
@@ -10,26 +10,22 @@ use Rattle.directory.specs.declared.Standing.TheVariants.{NeverUsed, Erased, Lab
 
 -- ---- the rule, case by case
 
-pub never_used_lem : (first attr : ℕ) → first ≡ 0 → NeverUsed ≡ standing_by first attr
+never_used_lem : (first attr : ℕ) → first ≡ 0 → NeverUsed ≡ standing_by first attr
 unfolding standing_by
 never_used_lem first attr e = rw (eq-eqb first 0 e)
 
-pub erased : (first attr : ℕ) → first ≡ 0xE5 → Erased ≡ standing_by first attr
+erased : (first attr : ℕ) → first ≡ 0xE5 → Erased ≡ standing_by first attr
 unfolding standing_by
 erased first attr e = rw e
 
 module _ (first attr : ℕ) (used : first ≢ 0) (kept : first ≢ 0xE5) (b : Bool) (bit : b ≡ has_bit attr 0x08) where
-  pub label : b ≡ true → Label ≡ standing_by first attr
+  label : b ≡ true → Label ≡ standing_by first attr
   unfolding standing_by
   label e = rw (ne_eqb first 0 used, ne_eqb first 0xE5 kept, ← bit, e)
 
-  pub plain : b ≡ false → Plain ≡ standing_by first attr
+  plain : b ≡ false → Plain ≡ standing_by first attr
   unfolding standing_by
   plain e = rw (ne_eqb first 0 used, ne_eqb first 0xE5 kept, ← bit, e)
-
--- a test of what the slot stands for
-pub test_of : (f : Standing → Bool) (r : Bool) (s t : Standing) → s ≡ t → r ≡ f s → r ≡ f t
-test_of f r s t e p = p ∙ ap f e
 
 -- ---- the function says what the words say
 

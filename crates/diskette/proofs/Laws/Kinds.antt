@@ -1,12 +1,10 @@
 -- The four kinds are usable, and document 01's table follows from their numbers.
-use Rattle.std.specs.Prelude.{ℕ, Bool, true, false, cond, ◌≡◌, refl, List, [], ◌∷◌, map, eqb}
+use Rattle.std.specs.Prelude.{ℕ, Bool, true, false, cond, ◌≡◌, refl, List, [], ◌∷◌, map, eqb, Option, Some, None}
 use Rattle.std.proofs.Common.{arith, sym, ◌∙◌, subst, eqb-true}
 use Rattle.diskette.specs.Places.{first_data, clusters, last_cluster, root_entries}
 use Rattle.diskette.specs.Kinds.{kind_fe, kind_ff, kind_fc, kind_fd, named}
 use Rattle.diskette.specs.Aids.Usable.{Usable}
 use Rattle.diskette.specs.declared.Kind.{Kind}
-use Rattle.diskette.specs.declared.WhichKind.{WhichKind}
-use Rattle.diskette.specs.declared.WhichKind.TheVariants.{Known, Unknown}
 
 -- ---- the columns of document 01's table that follow
 
@@ -40,11 +38,11 @@ unfolding clusters
 usable_fd = omega arith
 
 -- what holds of the kind that was found, if one was
-abbrev pub OfKnown : (Kind → Type 0) → WhichKind → Type 0
-OfKnown P (Known k) = P k
-OfKnown P Unknown = Unit
+abbrev pub OfKnown : (Kind → Type 0) → Option Kind → Type 0
+OfKnown P (Some k) = P k
+OfKnown P None = Unit
 
-pub of_cond : (P : Kind → Type 0) (b : Bool) (x y : WhichKind) → (b ≡ true → OfKnown P x) → OfKnown P y → OfKnown P (cond b x y)
+pub of_cond : (P : Kind → Type 0) (b : Bool) (x y : Option Kind) → (b ≡ true → OfKnown P x) → OfKnown P y → OfKnown P (cond b x y)
 of_cond P true x y p q = p refl
 of_cond P false x y p q = q
 
@@ -52,7 +50,7 @@ of_cond P false x y p q = q
 pub record NamedBy (b : ℕ) (k : Kind) : Type 0 where
   pub usable : Usable k
   pub byte : b ≡ k.byte
-  pub listed : named k.byte ≡ Known k
+  pub listed : named k.byte ≡ Some k
 
 pub named_is : (b : ℕ) → OfKnown (NamedBy b) (named b)
 unfolding named
@@ -65,5 +63,5 @@ named_is b =
     tt)))
 
 -- in the form of a caller's need: from an answer and the pattern that it matched
-pub named_usable : (b : ℕ) (r : WhichKind) (k : Kind) → r ≡ named b → r ≡ Known k → Usable k
+pub named_usable : (b : ℕ) (r : Option Kind) (k : Kind) → r ≡ named b → r ≡ Some k → Usable k
 named_usable b r k p q = (subst (OfKnown (NamedBy b)) (sym p ∙ q) (named_is b)).usable

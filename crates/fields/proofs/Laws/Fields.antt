@@ -1,13 +1,12 @@
 -- The bytes of a fresh entry: how many they are, that they are bytes, and that stores side by side make them.
-use Rattle.std.specs.Prelude.{ℕ, ◌+◌, ◌-◌, ◌≤◌, ◌<◌, ◌≡◌, List, [], ◌∷◌, ◌++◌, length, replicate, take, drop}
-use Rattle.std.proofs.Common.{arith, ◌∙◌, sym, length-append}
-use Rattle.std.proofs.lemmas.List.{length-replicate}
+use Rattle.std.specs.Prelude.{ℕ, ◌+◌, ◌<◌, ◌≡◌, List, [], ◌∷◌, ◌++◌, length, replicate}
+use Rattle.std.proofs.Common.{arith, ◌∙◌, length-append}
 use Rattle.image.specs.Bytes.{Bytes}
-use Rattle.image.specs.Store.{stored, part}
+use Rattle.image.specs.Store.{stored}
 use Rattle.image.specs.Numbers.{digits}
-use Rattle.image.proofs.Laws.Store.{bytes_one, bytes_append, bytes_zeros, stored_whole, and_then, length_part}
+use Rattle.image.proofs.Laws.Store.{bytes_one, bytes_append, bytes_zeros, and_then}
 use Rattle.image.proofs.Laws.Numbers.{length_digits, bytes_digits}
-use Rattle.fields.specs.Fields.{name_of, tail_bytes}
+use Rattle.fields.specs.Fields.{tail_bytes}
 use Rattle.fields.specs.Aids.Fields.{head_bytes, entry_bytes}
 
 pub length_head : (name : List ℕ) (attr : ℕ) → length name ≡ 11 → length (head_bytes name attr) ≡ 22
@@ -26,15 +25,6 @@ bytes_entry name attr time date start size b h =
     (bytes_append (digits time 2) _ (bytes_digits time 2) (bytes_append (digits date 2) _ (bytes_digits date 2) (bytes_append (digits start 2) _ (bytes_digits start 2) (bytes_digits size 4))))
 
 -- ---- the code's needs
-
--- n bytes copied into an array of n
-copied : (l r : List ℕ) (at n : ℕ) → at + n ≤ length l → r ≡ stored (replicate n 0) 0 (take (at + n - at) (drop at l)) → r ≡ part l at n
-copied l r at n h p =
-    let e : at + n - at ≡ n = omega arith in
-    (rw e at p) ∙ stored_whole (replicate n 0) (part l at n) (length-replicate {A = ℕ} n 0 ∙ sym (length_part l at n h))
-
-pub name_copied : (l r : List ℕ) (a : ℕ) → a + 32 ≤ length l → r ≡ stored (replicate 11 0) 0 (take (a + 11 - a) (drop a l)) → r ≡ name_of l a
-name_copied l r a h p = copied l r a 11 (omega arith) p
 
 pub head_stored : (l l₁ l₂ l₃ : List ℕ) (a : ℕ) (name : List ℕ) (attr : ℕ) → length name ≡ 11
     → l₁ ≡ stored l a name → l₂ ≡ stored l₁ (a + 11) (attr ∷ []) → l₃ ≡ stored l₂ (a + 12) (replicate 10 0)

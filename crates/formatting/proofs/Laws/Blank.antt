@@ -1,5 +1,5 @@
 -- The blank volume of a kind: of that kind, both copies alike, every cluster free, every slot never used.
-use Rattle.std.specs.Prelude.{ℕ, zero, suc, ◌+◌, ◌-◌, ◌*◌, ◌/◌, ◌≤◌, ◌<◌, Bool, true, false, List, ◌≡◌, length, replicate}
+use Rattle.std.specs.Prelude.{ℕ, zero, suc, ◌+◌, ◌-◌, ◌*◌, ◌/◌, ◌≤◌, ◌<◌, Bool, true, false, List, ◌≡◌, length, replicate, Some}
 use native.Mathlib.Omega.{arith}
 use Rattle.std.proofs.Math.Decide.{dec_le, dec_lt}
 use Rattle.std.proofs.Common.{inl, inr, sym, ◌∙◌, length-append, get_or-append-add}
@@ -17,7 +17,6 @@ use Rattle.diskette.specs.Places.{first_data, last_cluster, root_entries, copy_t
 use Rattle.diskette.proofs.Laws.Images.{image_of_kind}
 use Rattle.diskette.proofs.Laws.Places.{entry_within}
 use Rattle.diskette.specs.declared.Kind.{Kind}
-use Rattle.diskette.specs.declared.WhichKind.TheVariants.{Known}
 use Rattle.values.specs.Bits.{taken, even}
 use Rattle.table.specs.Entries.{word_at, entry_at, entry_of, table_of}
 use Rattle.table.specs.Aids.Copies.{Agree}
@@ -129,7 +128,7 @@ module _ (k : Kind) (u : Usable k) where
   -- ---- what the rules say of it
 
   -- it is of its kind
-  module _ (named_so : named k.byte ≡ Known k) where
+  module _ (named_so : named k.byte ≡ Some k) where
     byte_small : k.byte < 256
     byte_small = elim (dec_lt k.byte 256) [
       | yes h ↦ h
@@ -142,7 +141,7 @@ module _ (k : Kind) (u : Usable k) where
     pub blank_of_kind : OfKind (blank k) k
     blank_of_kind = record { listed = named_so; long = length_blank; byte = blank_head 0 (omega arith) }
 
-    pub kind_of_blank : kind_of_image (blank k) ≡ Known k
+    pub kind_of_blank : kind_of_image (blank k) ≡ Some k
     kind_of_blank = (image_of_kind (blank k) k).1 blank_of_kind
 
   -- both copies are the same

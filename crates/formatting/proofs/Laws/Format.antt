@@ -1,5 +1,5 @@
 -- Format: in the form of the code's needs, what its outcome means, and that one outcome only is allowed.
-use Rattle.std.specs.Prelude.{ℕ, ◌+◌, ◌-◌, ◌*◌, ◌<◌, List, [], ◌++◌, ◌≢◌, ◌≡◌, length, set, replicate}
+use Rattle.std.specs.Prelude.{ℕ, ◌+◌, ◌-◌, ◌*◌, ◌<◌, List, [], ◌++◌, ◌≢◌, ◌≡◌, length, set, replicate, Option, Some, None, Result, Ok, Err, ok_or}
 use Rattle.std.proofs.Common.{arith, sym, ◌∙◌, length-append}
 use Rattle.std.proofs.Math.Decide.{ℕ_discrete}
 use Rattle.std.proofs.Math.Path.{ap}
@@ -10,18 +10,20 @@ use Rattle.image.proofs.Laws.Store.{stored_append, stored_whole}
 use Rattle.diskette.specs.Kinds.{named}
 use Rattle.diskette.specs.Aids.Usable.{Usable}
 use Rattle.diskette.specs.Places.{first_data, copy_two}
-use Rattle.diskette.proofs.Laws.Kinds.{OfKnown, NamedBy, named_is}
+use Rattle.diskette.proofs.Laws.Kinds.{OfKnown, NamedBy, named_is, named_usable}
 use Rattle.diskette.specs.declared.Kind.{Kind}
-use Rattle.diskette.specs.declared.WhichKind.{WhichKind}
-use Rattle.diskette.specs.declared.WhichKind.TheVariants.{Known, Unknown}
 use Rattle.calls.specs.Outcome.{Outcome, outcome}
 use Rattle.calls.specs.Numbers.{of_no_kind}
+use Rattle.calls.specs.Answers.{number_told}
+use Rattle.calls.specs.declared.refusal.Refusal.{Refusal}
+use Rattle.calls.specs.declared.refusal.Refusal.TheVariants.{OfNoKind}
+use Rattle.calls.proofs.Laws.Exits.{lacked, had}
 use Rattle.formatting.specs.Format.{table_head, blank, formatted_as, formatted, Formatted}
 
 -- ---- the kind
 
 -- no number above 255 names a kind
-pub above_bytes : (kind : ℕ) → 255 < kind → Unknown ≡ named kind
+pub above_bytes : (kind : ℕ) → 255 < kind → None ≡ named kind
 unfolding named
 above_bytes kind h = rw (ne_eqb kind 0xFE (omega arith), ne_eqb kind 0xFF (omega arith), ne_eqb kind 0xFC (omega arith), ne_eqb kind 0xFD (omega arith))
 
@@ -53,27 +55,33 @@ blank_made k l l₁ l₂ l₃ l₄ d c u e p q x₁ x₂ x₃ x₄ =
     let w = filled_twice l (512 * d) (512 * k.sectors - 512 * d) (omega (arith, u.whole)) in
     x₄ ∙ rw (x₃, x₂, x₁, w, p, q)
 
--- ---- the outcome: r is what the number names
+-- ---- the outcome: r is what the number names, o what was wanted of it
 
-module _ (kind : ℕ) (l : List ℕ) (r : WhichKind) (p : r ≡ named kind) where
-  formatted_by : (n : ℕ) (m : List ℕ) → outcome n 0 m [] [] ≡ formatted_as r l → Formatted l kind n m
+module _ (kind : ℕ) (l : List ℕ) (r : Option Kind) (p : r ≡ named kind) (o : Result Kind Refusal) (wanted : o ≡ ok_or r OfNoKind) where
+  formatted_by : (x : Result Unit Refusal) (m : List ℕ) → outcome (number_told x) 0 m [] [] ≡ formatted_as r l → Formatted l kind x m
   unfolding formatted
-  formatted_by n m h = record { is = h ∙ ap (λ w. formatted_as w l) p }
+  formatted_by x m h = record { is = h ∙ ap (λ w. formatted_as w l) p }
 
-  pub no_such_kind : r ≡ Unknown → Formatted l kind of_no_kind l
-  no_such_kind q = formatted_by of_no_kind l (rw q)
+  pub no_such_kind : (e : Refusal) → o ≡ Err e → (x : Result Unit Refusal) → x ≡ Err e → Formatted l kind x l
+  no_such_kind e q x h = let n = lacked r OfNoKind o wanted e q in formatted_by x l (rw (h, ← n.1, n.0))
 
-  module _ (k : Kind) (q : r ≡ Known k) where
-    pub wrong_length : length l ≢ 512 * k.sectors → Formatted l kind of_no_kind l
-    wrong_length d = formatted_by of_no_kind l (rw (q, ne_eqb (length l) (512 * k.sectors) d))
+  module _ (k : Kind) (q : o ≡ Ok k) where
+    named_lem : r ≡ Some k
+    named_lem = had r OfNoKind o wanted k q
 
-    pub made_blank : (m : List ℕ) → length l ≡ 512 * k.sectors → m ≡ blank k → Formatted l kind 0 m
-    made_blank m e h = formatted_by 0 m (rw (q, eq-eqb (length l) (512 * k.sectors) e, h))
+    pub kind_usable : Usable k
+    kind_usable = named_usable kind r k p named_lem
+
+    pub wrong_length : length l ≢ 512 * k.sectors → Formatted l kind (Err OfNoKind) l
+    wrong_length d = formatted_by (Err OfNoKind) l (rw (named_lem, ne_eqb (length l) (512 * k.sectors) d))
+
+    pub made_blank : (m : List ℕ) → length l ≡ 512 * k.sectors → m ≡ blank k → (u : Unit) → Formatted l kind (Ok u) m
+    made_blank m e h u = formatted_by (Ok u) m (rw (named_lem, eq-eqb (length l) (512 * k.sectors) e, h))
 
 -- ---- what the outcome means
 
 module _ (kind : ℕ) (img : List ℕ) where
-  module _ (k : Kind) (q : named kind ≡ Known k) where
+  module _ (k : Kind) (q : named kind ≡ Some k) where
     pub format_makes : length img ≡ 512 * k.sectors → formatted kind img ≡ outcome 0 0 (blank k) [] []
     unfolding formatted
     format_makes e = rw (q, eq-eqb (length img) (512 * k.sectors) e)
@@ -82,7 +90,7 @@ module _ (kind : ℕ) (img : List ℕ) where
     unfolding formatted
     format_wrong_length d = rw (q, ne_eqb (length img) (512 * k.sectors) d)
 
-  pub format_unknown : named kind ≡ Unknown → formatted kind img ≡ outcome of_no_kind 0 img [] []
+  pub format_unknown : named kind ≡ None → formatted kind img ≡ outcome of_no_kind 0 img [] []
   unfolding formatted
   format_unknown q = rw q
 
@@ -92,18 +100,18 @@ pub record Made (kind : ℕ) (img after : List ℕ) (k : Kind) : Type 0 where
   pub long : length img ≡ 512 * k.sectors
   pub whole : after ≡ blank k
 
-pub format_made : (img : List ℕ) (kind : ℕ) (after : List ℕ) → Formatted img kind 0 after → (k : Kind) × Made kind img after k
+pub format_made : (img : List ℕ) (kind : ℕ) (after : List ℕ) (u : Unit) → Formatted img kind (Ok u) after → (k : Kind) × Made kind img after k
 unfolding formatted
-format_made img kind after s = by (named kind) (named_is kind) s.is
+format_made img kind after u s = by (named kind) (named_is kind) s.is
   where
-    by : (w : WhichKind) → OfKnown (NamedBy kind) w → outcome 0 0 after [] [] ≡ formatted_as w img → (k : Kind) × Made kind img after k
-    by (Known k) n e = elim (ℕ_discrete (length img) (512 * k.sectors)) [
+    by : (w : Option Kind) → OfKnown (NamedBy kind) w → outcome 0 0 after [] [] ≡ formatted_as w img → (k : Kind) × Made kind img after k
+    by (Some k) n e = elim (ℕ_discrete (length img) (512 * k.sectors)) [
       | yes l ↦ (k, record { listed = n; long = l; whole = ap (λ (o : Outcome). o.image) (rw (eq-eqb (length img) (512 * k.sectors) l) at e) })
       | no d ↦ absurd (let z : 0 ≡ of_no_kind = ap (λ (o : Outcome). o.number) (rw (ne_eqb (length img) (512 * k.sectors) d) at e) in omega arith)
     ]
-    by Unknown n e = absurd (let z : 0 ≡ of_no_kind = ap (λ (o : Outcome). o.number) e in omega arith)
+    by None n e = absurd (let z : 0 ≡ of_no_kind = ap (λ (o : Outcome). o.number) e in omega arith)
 
 -- ---- no second outcome satisfies the contract
 
-pub formatted_only : (img : List ℕ) (kind m n : ℕ) (x y : List ℕ) → Formatted img kind m x → Formatted img kind n y → (m ≡ n) × (x ≡ y)
-formatted_only img kind m n x y s t = let e = s.is ∙ sym t.is in (ap (λ (o : Outcome). o.number) e, ap (λ (o : Outcome). o.image) e)
+pub formatted_only : (img : List ℕ) (kind : ℕ) (a b : Result Unit Refusal) (x y : List ℕ) → Formatted img kind a x → Formatted img kind b y → (number_told a ≡ number_told b) × (x ≡ y)
+formatted_only img kind a b x y s t = let e = s.is ∙ sym t.is in (ap (λ (o : Outcome). o.number) e, ap (λ (o : Outcome). o.image) e)

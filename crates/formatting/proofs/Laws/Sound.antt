@@ -1,5 +1,5 @@
 -- The blank volume of a kind is sound: it has no file.
-use Rattle.std.specs.Prelude.{ℕ, [], ◌≡◌}
+use Rattle.std.specs.Prelude.{ℕ, [], ◌≡◌, Some}
 use Rattle.std.proofs.Common.{arith, inl, inr}
 use Rattle.chains.specs.Values.{free}
 use Rattle.chains.proofs.Laws.Tests.{true_says}
@@ -8,7 +8,6 @@ use Rattle.diskette.specs.Kinds.{named}
 use Rattle.diskette.specs.Aids.Usable.{Usable}
 use Rattle.diskette.specs.Places.{last_cluster}
 use Rattle.diskette.specs.declared.Kind.{Kind}
-use Rattle.diskette.specs.declared.WhichKind.TheVariants.{Known}
 use Rattle.sound.specs.Files.{value_of, IsFile}
 use Rattle.sound.specs.Sound.{Sound}
 use Rattle.sound.proofs.Laws.Copies.{no_difference_from}
@@ -43,5 +42,5 @@ module _ (k : Kind) (u : Usable k) where
     },
   )
 
-  pub blank_on : named k.byte ≡ Known k → OnVolume (blank k) k
+  pub blank_on : named k.byte ≡ Some k → OnVolume (blank k) k
   blank_on named_so = let known = kind_of_blank k u named_so in record { known = known; sound = true_says (known_says (blank k) k known) blank_sound }

@@ -1,7 +1,6 @@
 -- The formatted volume: sound, without files, all its clusters are free, none is bad or reserved.
-use Rattle.std.specs.Prelude.{ℕ, ◌+◌, ◌-◌, ◌*◌, Bool, List, ◌≡◌, length}
+use Rattle.std.specs.Prelude.{ℕ, ◌+◌, ◌-◌, ◌*◌, Bool, List, ◌≡◌, length, Some, None}
 use Rattle.std.proofs.Common.{arith, ap}
-use Rattle.std.proofs.Math.Option.{none}
 use borrow.Author.Tests.{eq-eqb}
 use Rattle.chains.specs.Sums.{sum, bit}
 use Rattle.chains.specs.Values.{freeb}
@@ -12,7 +11,6 @@ use Rattle.diskette.specs.Kinds.{named}
 use Rattle.diskette.specs.Aids.Usable.{Usable}
 use Rattle.diskette.specs.Places.{clusters, last_cluster}
 use Rattle.diskette.specs.declared.Kind.{Kind}
-use Rattle.diskette.specs.declared.WhichKind.TheVariants.{Known}
 use Rattle.sound.specs.Counts.{clusters_with, free_of}
 use Rattle.sound.specs.Files.{value_of}
 use Rattle.formatting.specs.Format.{blank, formatted}
@@ -23,11 +21,11 @@ use Rattle.history.specs.Promises.{Begins}
 use Rattle.history.specs.World.{world}
 use Rattle.history.proofs.Laws.Begins.{on_begins}
 
-module _ (k : Kind) (u : Usable k) (named_so : named k.byte ≡ Known k) where
+module _ (k : Kind) (u : Usable k) (named_so : named k.byte ≡ Some k) where
   pub blank_begins : (t : List ℕ) → Begins k (world (blank k) t)
   blank_begins t = on_begins k (world (blank k) t) (blank_on k u named_so) (blank_bytes k u named_so)
 
-  pub blank_shows : Shows k (blank k) (λ s. none)
+  pub blank_shows : Shows k (blank k) (λ s. None)
   blank_shows s = blank_no_file k u s
 
   pub blank_free : free_of k (blank k) ≡ clusters k

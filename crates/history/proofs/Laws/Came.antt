@@ -1,9 +1,8 @@
 -- What follows for any call, however it came out: the volume is sound still, the files are those of the history, and no file but
 -- the one named is altered.
-use Rattle.std.specs.Prelude.{ℕ, ◌+◌, ◌<◌, List, ◌≢◌, ◌⊎◌, ◌≡◌, refl, get_or}
+use Rattle.std.specs.Prelude.{ℕ, ◌+◌, ◌<◌, List, ◌≢◌, ◌⊎◌, ◌≡◌, refl, get_or, Option, Some, None}
 use Rattle.std.proofs.Math.Decide.{ℕ_discrete}
 use Rattle.std.proofs.Common.{inl, inr, sym, ap, subst}
-use Rattle.std.proofs.Math.Option.{Option, none, some}
 use Rattle.chains.specs.Aids.Put.{put}
 use Rattle.chains.proofs.Laws.Put.{put_same, put_other}
 use Rattle.diskette.specs.Places.{root_entries, slot_at}
@@ -70,8 +69,8 @@ module _ (k : Kind) (w : World) (c : Call) (b : Begins k w) where
       (gs, after_does s d fs gs (rw (put_same fs s g.0 s refl) g.1) (λ t n. put_other fs s g.0 t n))
 
   other_shows : (s : ℕ) (ds : List ℕ) → Changes k w c s ds → (t : ℕ) → t ≢ s → (o : Option File) → ShowsAt k w.image t o → ShowsAt k m t o
-  other_shows s ds x t n none h = other_none k w.image (on b) m s ds x.changed t n h
-  other_shows s ds x t n (some f) h = other_holds k w.image (on b) m s ds x.changed t n h.is_file f h
+  other_shows s ds x t n None h = other_none k w.image (on b) m s ds x.changed t n h
+  other_shows s ds x t n (Some f) h = other_holds k w.image (on b) m s ds x.changed t n h.is_file f h
 
   pub came_shows : Came k w c → (fs gs : Files) → After ours k w c fs gs → Shows k w.image fs → Shows k m gs
   came_shows (idle q e) fs gs a y t = rw e (subst (ShowsAt k w.image t) (sym (kept q)) (y t))

@@ -1,25 +1,21 @@
 -- What delete, create and write come to.
-use Rattle.std.specs.Prelude.{ℕ, Bool, ◌↔◌, length, take}
+use Rattle.std.specs.Prelude.{ℕ, Bool, ◌↔◌, length, take, Option, Some, None, is_some}
 use Rattle.std.proofs.Common.{arith, inl, inr, sym, ◌∙◌}
 use Rattle.std.proofs.Math.Decide.{ℕ_discrete}
 use Rattle.std.proofs.Math.Bool.{true, false}
 use mathlib.Core.List.{List, []}
-use Rattle.std.proofs.Math.Option.{Option, none, some}
 use Rattle.std.proofs.Math.Path.{◌≡◌, refl, ap, subst}
 use borrow.Author.Tests.{eq-eqb, ne_eqb}
 use Rattle.image.specs.Bytes.{Bytes}
 use Rattle.chains.specs.Write.{written}
 use Rattle.diskette.specs.Places.{root_entries, slot_at}
 use Rattle.diskette.specs.declared.Kind.{Kind}
-use Rattle.search.specs.declared.Found.TheVariants.{At}
 use Rattle.fields.specs.Fields.{with_entry}
 use Rattle.directory.specs.Search.{lowest_vacant}
-use Rattle.names.specs.Reading.{name_given}
+use Rattle.names.specs.Reading.{name_given, name_bytes}
 use Rattle.names.specs.Spelling.{Means}
 use Rattle.stamps.specs.Stamps.{packed}
 use Rattle.stamps.specs.declared.Stamp.{Stamp}
-use Rattle.stamps.specs.declared.Packed.{Packed}
-use Rattle.stamps.specs.declared.Packed.TheVariants.{Words, OutOfRange}
 use Rattle.opened.specs.Records.{slot_of, pointer_of}
 use Rattle.calls.specs.Outcome.{Outcome, refusal}
 use Rattle.calls.specs.Refusals.{place_found, no_file, file_slot, slot_for_new}
@@ -67,7 +63,7 @@ module _ (k : Kind) (w : World) (b : Begins k w) where
       came_put k w (delete name) s _ _ does m
       (delete_changed k l (on b) b.bytes s i)
       (delete_bytes k l (on b) b.bytes s i)
-      (λ f. (none, refl))
+      (λ f. (None, refl))
       (λ f g y p. subst (ShowsAt k (erased_in k l s) s) (sym p) (delete_ends k l (on b) b.bytes s i)))
 
   -- ---- write
@@ -108,37 +104,37 @@ module _ (k : Kind) (w : World) (b : Begins k w) where
 
   module _ (given : List ℕ) (attr : ℕ) (stamp : Stamp) where
     abbrev name : List ℕ
-    name = (name_given given).name
+    name = name_bytes (name_given given)
 
     -- what the history makes of the file there
-    becomes : (name_given given).fits ≡ true → (g : Option File)
-        → ((n : List ℕ) × Means given n × (g ≡ some (file n attr []))) ↔ (g ≡ some (file name attr []))
-    becomes fits g = meant_exactly given fits (λ n. g ≡ some (file n attr []))
+    becomes : is_some (name_given given) ≡ true → (g : Option File)
+        → ((n : List ℕ) × Means given n × (g ≡ Some (file n attr []))) ↔ (g ≡ Some (file name attr []))
+    becomes fits g = meant_exactly given fits (λ n. g ≡ Some (file n attr []))
 
     -- a file was made in the slot of n, which is the image, with the clusters of the old file freed if there was one
-    made_in : (n : List ℕ) (s time date : ℕ) → Names (create given attr stamp) k w s → (name_given given).fits ≡ true
+    made_in : (n : List ℕ) (s time date : ℕ) → Names (create given attr stamp) k w s → is_some (name_given given) ≡ true
         → ours (create given attr stamp) w ≡ made n t k s name attr time date
         → SlotChanged k l (with_entry n (slot_at k s) name attr time date 0 0) s [] → Bytes (with_entry n (slot_at k s) name attr time date 0 0)
         → Holds k (with_entry n (slot_at k s) name attr time date 0 0) s (file name attr []) → Came k w (create given attr stamp)
     made_in n s time date named fits e changed bytes holds =
         came_put k w (create given attr stamp) s [] _ (record { well = ap (λ (o : Outcome). o.number) e; named = named })
         (ap (λ (o : Outcome). o.image) e) changed bytes
-        (λ f. (some (file name attr []), (becomes fits (some (file name attr []))).1 refl))
+        (λ f. (Some (file name attr []), (becomes fits (Some (file name attr []))).1 refl))
         (λ f g y p. subst (ShowsAt k (with_entry n (slot_at k s) name attr time date 0 0) s) (sym ((becomes fits g).0 p)) holds)
 
-    well : (missing : Bool) → no_file l given ≡ missing → (p : Packed) → packed stamp ≡ p → refusal (create_rows l t given attr stamp) ≡ 0
+    well : (missing : Bool) → no_file l given ≡ missing → (p : Option (ℕ × ℕ)) → packed stamp ≡ p → refusal (create_rows l t given attr stamp) ≡ 0
         → ours (create given attr stamp) w ≡ create_effect l t given attr stamp
         → Came k w (create given attr stamp)
     unfolding slot_for_new
-    well missing q OutOfRange pe rows e =
+    well missing q None pe rows e =
         let row = passed_row (create_rows l t given attr stamp) refl rows in
         absurd (let y : true ≡ false = rw pe at (row 3) in let z : ◌≡◌ {A = ℕ} 0 1 = cc in omega arith)
-    well true q (Words time date) pe rows e =
+    well true q (Some (time, date)) pe rows e =
         let row = passed_row (create_rows l t given attr stamp) refl rows in
         let fits = good_name given (row 2) in
         let kind = on_kind_lem l k (on b) in
         let s = place_found (lowest_vacant l (slot_at k) (root_entries k)) in
-        let lowest : lowest_vacant l (slot_at k) (root_entries k) ≡ At s
+        let lowest : lowest_vacant l (slot_at k) (root_entries k) ≡ Some s
         = found_at (lowest_vacant l (slot_at k) (root_entries k)) (rw (q, kind) at (row 7)) in
         let new_one = for_new k l (on b) given fits q (rw q at (row 7)) in
         let none_named = no_file_found k l (on b) given q in
@@ -146,7 +142,7 @@ module _ (k : Kind) (w : World) (b : Begins k w) where
         (new_changed k l (on b) b.bytes given fits attr (row 4) time date s none_named lowest)
         (new_bytes k l (on b) b.bytes given fits attr (row 4) time date s none_named lowest)
         (new_holds k l (on b) b.bytes given fits attr (row 4) time date s none_named lowest)
-    well false q (Words time date) pe rows e =
+    well false q (Some (time, date)) pe rows e =
         let row = passed_row (create_rows l t given attr stamp) refl rows in
         let fits = good_name given (row 2) in
         let s = file_slot l given in

@@ -1,20 +1,17 @@
 -- What rename, file mode and close come to.
-use Rattle.std.specs.Prelude.{ℕ, Bool}
+use Rattle.std.specs.Prelude.{ℕ, Bool, Option, Some, None, option_map}
 use Rattle.std.proofs.Common.{arith, ◌∙◌}
 use Rattle.std.proofs.Math.Bool.{true, false}
 use mathlib.Core.List.{List, []}
-use Rattle.std.proofs.Math.Option.{map}
 use Rattle.std.proofs.Math.Path.{◌≡◌, refl, ap}
 use Rattle.std.proofs.Math.Dec.{eqb}
 use Rattle.std.proofs.lemmas.Bool.{not-false}
 use Rattle.diskette.specs.Places.{slot_at}
 use Rattle.diskette.specs.declared.Kind.{Kind}
 use Rattle.fields.specs.Fields.{with_name, with_attr}
-use Rattle.names.specs.Reading.{name_given}
+use Rattle.names.specs.Reading.{name_given, name_bytes}
 use Rattle.stamps.specs.Stamps.{packed}
 use Rattle.stamps.specs.declared.Stamp.{Stamp}
-use Rattle.stamps.specs.declared.Packed.{Packed}
-use Rattle.stamps.specs.declared.Packed.TheVariants.{Words, OutOfRange}
 use Rattle.opened.specs.Records.{slot_of, written_of}
 use Rattle.calls.specs.Outcome.{Outcome, refusal}
 use Rattle.calls.specs.Refusals.{no_file, file_slot, bad_attr}
@@ -53,13 +50,13 @@ module _ (k : Kind) (w : World) (b : Begins k w) where
       let i = file_there k l (on b) name (row 4) in
       let fits = good_name new (row 3) in
       let free = no_file_found k l (on b) new (not-false (no_file l new) (row 7)) in
-      let m : (step w (rename name new)).image ≡ with_name l (slot_at k s) (name_given new).name
+      let m : (step w (rename name new)).image ≡ with_name l (slot_at k s) (name_bytes (name_given new))
       = ap (λ (o : Outcome). o.image) e ∙ rw (on_kind_lem l k (on b)) in
       came_at k w (rename name new) s _ _ does m
       (rename_changed k l (on b) s i new fits free)
       (rename_bytes k l (on b) s i new fits b.bytes)
-      i (λ f. file (name_given new).name f.attr f.bytes)
-      (λ f g. meant_exactly new fits (λ n. g ≡ map (λ (x : File). file n x.attr x.bytes) f))
+      i (λ f. file (name_bytes (name_given new)) f.attr f.bytes)
+      (λ f g. meant_exactly new fits (λ n. g ≡ option_map (λ (x : File). file n x.attr x.bytes) f))
       (rename_holds k l (on b) s i new fits))
 
   -- ---- file mode
@@ -98,16 +95,16 @@ module _ (k : Kind) (w : World) (b : Begins k w) where
   came_close h stamp =
       came_by k w (close h stamp) (close_rows l t h stamp) (close_effect l t h stamp) [] refl (by (written_of t h) refl (packed stamp) refl)
     where
-      by : (set : Bool) → written_of t h ≡ set → (p : Packed) → packed stamp ≡ p → refusal (close_rows l t h stamp) ≡ 0
+      by : (set : Bool) → written_of t h ≡ set → (p : Option (ℕ × ℕ)) → packed stamp ≡ p → refusal (close_rows l t h stamp) ≡ 0
           → ours (close h stamp) w ≡ close_effect l t h stamp → Came k w (close h stamp)
       by false q p pe rows e =
           let row = passed_row (close_rows l t h stamp) refl rows in
           stays (slot_of t h) (record { well = ap (λ (o : Outcome). o.number) e; named = reaches k w (on b) h (row 3) })
           (ap (λ (o : Outcome). o.image) e ∙ rw q) (λ f g. rw q (λ z. z, λ z. z))
-      by true q OutOfRange pe rows e =
+      by true q None pe rows e =
           let row = passed_row (close_rows l t h stamp) refl rows in
           absurd (let y : true ≡ false = rw pe at (row 2) in let z : ◌≡◌ {A = ℕ} 0 1 = cc in omega arith)
-      by true q (Words time date) pe rows e =
+      by true q (Some (time, date)) pe rows e =
           let row = passed_row (close_rows l t h stamp) refl rows in
           let s = slot_of t h in
           let does : Does k w (close h stamp) s = record { well = ap (λ (o : Outcome). o.number) e; named = reaches k w (on b) h (row 3) } in

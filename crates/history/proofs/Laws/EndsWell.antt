@@ -1,6 +1,6 @@
 -- Create of a new file, write and close where none of their rows holds: what they answer, and the open table after. The table
 -- has one place.
-use Rattle.std.specs.Prelude.{ℕ, ◌+◌, ◌*◌, ◌≤◌, ◌<◌, Bool, true, List, [], ◌≡◌, refl, replicate, take}
+use Rattle.std.specs.Prelude.{ℕ, ◌+◌, ◌*◌, ◌≤◌, ◌<◌, Bool, true, List, [], ◌≡◌, refl, replicate, take, Some, None, is_some}
 use native.Mathlib.Omega.{arith}
 use Rattle.std.proofs.Math.Bool.{false, not}
 use Rattle.std.proofs.Common.{ap, ◌∙◌}
@@ -9,11 +9,9 @@ use borrow.Author.Tests.{ne_eqb}
 use Rattle.diskette.specs.Places.{cluster_bytes, slot_at, root_entries}
 use Rattle.diskette.specs.declared.Kind.{Kind}
 use Rattle.search.specs.Search.{lowest}
-use Rattle.search.specs.declared.Found.TheVariants.{At, Nothing}
-use Rattle.names.specs.Reading.{name_given}
+use Rattle.names.specs.Reading.{name_given, name_bytes}
 use Rattle.stamps.specs.Stamps.{packed}
 use Rattle.stamps.specs.declared.Stamp.{Stamp}
-use Rattle.stamps.specs.declared.Packed.TheVariants.{Words}
 use Rattle.opened.specs.Changes.{PlaceHolds}
 use Rattle.opened.specs.Places.{lowest_unused}
 use Rattle.opened.specs.Records.{place_count, used_of, with_record, with_pointer, with_written}
@@ -39,7 +37,7 @@ pub record TakenFor (t : List ℕ) (n pointer : ℕ) (written : Bool) : Type 0 w
 pub one_place : (t : List ℕ) → length t ≡ 16 → 0 < place_count t
 one_place t e = omega arith
 
-pub place_free : lowest_unused (replicate 16 0) ≡ At 0
+pub place_free : lowest_unused (replicate 16 0) ≡ Some 0
 unfolding lowest_unused lowest used_of
 place_free = refl
 
@@ -74,10 +72,10 @@ module _ (k : Kind) (w : World) (v : OnVolume w.image k) where
   t = w.table
 
   -- place p is taken
-  pub create_well : (s : List ℕ) (attr : ℕ) (stamp : Stamp) (time date n p : ℕ) → (name_given s).fits ≡ true → packed stamp ≡ Words time date
+  pub create_well : (s : List ℕ) (attr : ℕ) (stamp : Stamp) (time date n p : ℕ) → is_some (name_given s) ≡ true → packed stamp ≡ Some (time, date)
       → bad_attr attr ≡ false
-      → file_found l s ≡ Nothing → slot_for_new l ≡ At n → lowest_unused t ≡ At p
-      → ours (create s attr stamp) w ≡ outcome 0 p (made l t k n (name_given s).name attr time date).image (with_record t p 2 n 0 false) []
+      → file_found l s ≡ None → slot_for_new l ≡ Some n → lowest_unused t ≡ Some p
+      → ours (create s attr stamp) w ≡ outcome 0 p (made l t k n (name_bytes (name_given s)) attr time date).image (with_record t p 2 n 0 false) []
   unfolding create_outcome decided refusal
   create_well s attr stamp time date n p fits stamped may none lowest place = rw (v.known, v.sound, fits, stamped, may, none, lowest, place)
 
@@ -113,7 +111,7 @@ module _ (k : Kind) (w : World) (v : OnVolume w.image k) where
         z,
       )
 
-  pub close_well : (stamp : Stamp) (time date : ℕ) → packed stamp ≡ Words time date → (n pointer : ℕ) (written : Bool)
+  pub close_well : (stamp : Stamp) (time date : ℕ) → packed stamp ≡ Some (time, date) → (n pointer : ℕ) (written : Bool)
       → TakenFor t n pointer written → IsFile k l n
       → ours (close 0 stamp) w ≡ close_effect l t 0 stamp
   unfolding close_outcome decided refusal

@@ -1,9 +1,8 @@
 -- Create, write and close of a new file, one after the other: each ends well, and the volume has that file then.
-use Rattle.std.specs.Prelude.{ℕ, ◌+◌, ◌-◌, ◌*◌, ◌≤◌, ◌<◌, Bool, true, false, not, ◌≢◌, ◌≡◌, refl, length, replicate, take}
+use Rattle.std.specs.Prelude.{ℕ, ◌+◌, ◌-◌, ◌*◌, ◌≤◌, ◌<◌, Bool, true, false, not, ◌≢◌, ◌≡◌, refl, length, replicate, take, Option, Some, None}
 use Rattle.std.proofs.Common.{arith, inr, sym, ◌∙◌, ne_eqb}
 use Rattle.std.proofs.Math.Decide.{ℕ_discrete}
 use mathlib.Core.List.{List, [], ◌∷◌}
-use Rattle.std.proofs.Math.Option.{some}
 use Rattle.std.proofs.Math.Path.{ap, subst}
 use Rattle.image.proofs.Laws.Store.{stored_whole}
 use Rattle.chains.specs.Aids.Put.{put}
@@ -14,12 +13,9 @@ use Rattle.chains.specs.Aids.Values.{OutOfUse}
 use Rattle.diskette.specs.Places.{cluster_bytes, last_cluster, root_entries, slot_at}
 use Rattle.diskette.specs.declared.Kind.{Kind}
 use Rattle.fields.specs.Fields.{size_of, time_of, date_of}
-use Rattle.names.specs.Reading.{name_given}
+use Rattle.names.specs.Reading.{name_given, name_bytes}
 use Rattle.stamps.specs.declared.Stamp.{Stamp}
-use Rattle.stamps.specs.declared.Packed.TheVariants.{Words}
 use Rattle.search.specs.Search.{is_found}
-use Rattle.search.specs.declared.Found.{Found}
-use Rattle.search.specs.declared.Found.TheVariants.{At, Nothing}
 use Rattle.sound.specs.Counts.{clusters_with, free_of}
 use Rattle.sound.specs.Files.{IsFile}
 use Rattle.opened.specs.Places.{lowest_unused}
@@ -57,7 +53,7 @@ use Rattle.history.proofs.Laws.OneFile.{take_all, written_first}
 use Rattle.history.proofs.Laws.OneSlot.{Stands, Makes, stands_step, others_step, out_of_use_step}
 use Rattle.history.proofs.Laws.Room.{changed_chain, changed_free}
 use Rattle.history.proofs.Laws.Shown.{bytes_long, holds_bytes}
-use Rattle.history.proofs.Laws.Stamped.{stamped_words, same_stamp}
+use Rattle.history.proofs.Laws.Stamped.{words, stamped_words, same_stamp}
 
 -- what is told of an answer
 abbrev told : Outcome → ℕ × ℕ
@@ -69,17 +65,17 @@ three e f g = rw (e, f, g)
 module _ (k : Kind) (w : World) (fs : Files) (n free : ℕ) (x : HasFiles k w fs n free) (slot : n < root_entries k)
     (s : List ℕ) (attr : ℕ) (bs : List ℕ) (stamp : Stamp) (g : GoodFile k fs free s attr bs stamp) where
   abbrev name : List ℕ
-  name = (name_given s).name
+  name = name_bytes (name_given s)
 
   abbrev put_file : ℕ → List ℕ → Files
-  put_file a bytes = put fs n (some (file name a bytes))
+  put_file a bytes = put fs n (Some (file name a bytes))
 
-  there : (a : ℕ) (bytes : List ℕ) → put_file a bytes n ≡ some (file name a bytes)
-  there a bytes = put_same fs n (some (file name a bytes)) n refl
+  there : (a : ℕ) (bytes : List ℕ) → put_file a bytes n ≡ Some (file name a bytes)
+  there a bytes = put_same fs n (Some (file name a bytes)) n refl
 
   -- the file put there is another one, and all others stay
   elsewhere : (a c : ℕ) (bytes more : List ℕ) (t : ℕ) → t ≢ n → put_file a bytes t ≡ put_file c more t
-  elsewhere a c bytes more t d = put_other fs n (some (file name a bytes)) t d ∙ sym (put_other fs n (some (file name c more)) t d)
+  elsewhere a c bytes more t d = put_other fs n (Some (file name a bytes)) t d ∙ sym (put_other fs n (Some (file name c more)) t d)
 
   file_there : (u : World) (a : ℕ) (bytes : List ℕ) → Stands k u (put_file a bytes) n → IsFile k u.image n
   file_there u a bytes y = (subst (ShowsAt k u.image n) (there a bytes) (y.shows n)).is_file
@@ -96,10 +92,10 @@ module _ (k : Kind) (w : World) (fs : Files) (n free : ℕ) (x : HasFiles k w fs
   abbrev world_created : World
   world_created = step w (create s attr stamp)
 
-  none_named : file_found w.image s ≡ Nothing
+  none_named : file_found w.image s ≡ None
   none_named = none_of_name k w.image (on x.stands.begins) fs x.stands.shows s g.long g.new_name
 
-  lowest : slot_for_new w.image ≡ At n
+  lowest : slot_for_new w.image ≡ Some n
   lowest = lowest_vacant_lem k w.image (on x.stands.begins) fs x.stands.shows n slot x.below x.never
 
   created : ours (create s attr stamp) w
@@ -117,14 +113,14 @@ module _ (k : Kind) (w : World) (fs : Files) (n free : ℕ) (x : HasFiles k w fs
 
   created_new : IsForNew k w.image s n
   created_new = subst (IsForNew k w.image s) (ap place_found lowest)
-      (for_new k w.image (on x.stands.begins) s g.fits (ap (λ (f : Found). not (is_found f)) none_named) (ap (λ (f : Found). not (is_found f)) lowest))
+      (for_new k w.image (on x.stands.begins) s g.fits (ap (λ (f : Option ℕ). not (is_found f)) none_named) (ap (λ (f : Option ℕ). not (is_found f)) lowest))
 
   makes_created : Makes k w (create s attr stamp) n fs (put_file attr [])
   makes_created = record {
     given = given_create s attr stamp;
     does = record { well = ap (λ (o : Outcome). o.number) created; named = inr created_new };
     becomes = (name, means s g.fits, there attr []);
-    others = put_other fs n (some (file name attr []));
+    others = put_other fs n (Some (file name attr []));
   }
 
   stands_created : Stands k world_created (put_file attr []) n
@@ -169,7 +165,7 @@ module _ (k : Kind) (w : World) (fs : Files) (n free : ℕ) (x : HasFiles k w fs
         given = given_write 0 bs g.bytes;
         does = record { well = ap (λ (o : Outcome). o.number) wrote; named = reached world_created attr [] stands_created 0 false taken_created };
         becomes = rw (value, ne_eqb (length bs) 0 (omega (arith, g.some_bytes)), taken_created.holds.pointer, there attr [], there attr bs)
-            (ap (λ (bytes : List ℕ). some (file name attr bytes)) (sym (ap (written [] 0) (take_all bs) ∙ written_first bs)));
+            (ap (λ (bytes : List ℕ). Some (file name attr bytes)) (sym (ap (written [] 0) (take_all bs) ∙ written_first bs)));
         others = elsewhere attr attr bs [];
       }
 
@@ -272,7 +268,7 @@ module _ (k : Kind) (w : World) (fs : Files) (n free : ℕ) (x : HasFiles k w fs
   pub file_stamp : HasStamp k world_closed.image n stamp
   file_stamp =
       let v = on stands_wrote.begins in
-      ap (λ (l : List ℕ). Words (time_of l (slot_at k n)) (date_of l (slot_at k n))) image_closed
+      ap (λ (l : List ℕ). words (time_of l (slot_at k n)) (date_of l (slot_at k n))) image_closed
       ∙ stamped_words world_wrote.image (slot_at k n) g.time g.date (slot_within world_wrote.image k v n (slot_at k n) slot refl)
       g.small_time g.small_date
       ∙ sym g.stamped
@@ -297,8 +293,8 @@ module _ (k : Kind) (w : World) (fs : Files) (n free : ℕ) (x : HasFiles k w fs
     stands = record { begins = stands_closed.begins; shows = stands_closed.shows; above = λ t i j. stands_closed.above t (omega arith) j };
     never = stands_closed.above (n + 1) (omega arith) h;
     below = λ t i. elim (ℕ_discrete t n) [
-      | yes e ↦ (file name (archived attr) bs, put_same fs n (some (file name (archived attr) bs)) t e)
-      | no d ↦ let y = x.below t (omega arith) in (y.0, put_other fs n (some (file name (archived attr) bs)) t d ∙ y.1)
+      | yes e ↦ (file name (archived attr) bs, put_same fs n (Some (file name (archived attr) bs)) t e)
+      | no d ↦ let y = x.below t (omega arith) in (y.0, put_other fs n (Some (file name (archived attr) bs)) t d ∙ y.1)
     ];
     free_are = omega (arith, free_closed, free_wrote);
     out_of_use_none = out_of_use_closed;

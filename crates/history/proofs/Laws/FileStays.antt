@@ -1,8 +1,7 @@
 -- A file is there after any call that does not delete it; and a file that is created is there.
-use Rattle.std.specs.Prelude.{ℕ, Bool, true, false, cond, List, ◌≡◌, refl, eqb}
+use Rattle.std.specs.Prelude.{ℕ, Bool, true, false, cond, List, ◌≡◌, refl, eqb, Option, Some, None, option_map}
 use Rattle.std.proofs.Common.{arith, sym, ◌∙◌, subst}
 use Rattle.std.proofs.Math.Decide.{ℕ_discrete}
-use Rattle.std.proofs.Math.Option.{Option, none, some, map}
 use Rattle.diskette.specs.declared.Kind.{Kind}
 use Rattle.opened.specs.Records.{written_of}
 use Rattle.sound.specs.Files.{IsFile}
@@ -22,8 +21,8 @@ use Rattle.history.proofs.Laws.OneNamed.{names_one}
 use Rattle.history.proofs.Laws.Shown.{volume_shows}
 
 -- there is a file
-abbrev Some : Option File → Type 0
-Some o = (f : File) × (o ≡ some f)
+abbrev AFile : Option File → Type 0
+AFile o = (f : File) × (o ≡ Some f)
 
 -- the call deletes the file in slot s
 pub record Erases (k : Kind) (w : World) (c : Call) (s : ℕ) : Type 0 where
@@ -32,31 +31,31 @@ pub record Erases (k : Kind) (w : World) (c : Call) (s : ℕ) : Type 0 where
   pub does : Does k w c s
 
 module _ (k : Kind) (l : List ℕ) (s : ℕ) where
-  some_shown : (o : Option File) → ShowsAt k l s o → IsFile k l s → Some o
-  some_shown none y i = absurd (y i)
-  some_shown (some f) y i = (f, refl)
+  some_shown : (o : Option File) → ShowsAt k l s o → IsFile k l s → AFile o
+  some_shown None y i = absurd (y i)
+  some_shown (Some f) y i = (f, refl)
 
-  shown_file : (o : Option File) → ShowsAt k l s o → Some o → IsFile k l s
+  shown_file : (o : Option File) → ShowsAt k l s o → AFile o → IsFile k l s
   shown_file o y x = (subst (ShowsAt k l s) x.1 y).is_file
 
 -- ---- what becomes of a file
 
-each_some : (h : File → File) (f : Option File) → Some f → Some (map h f)
-each_some h none x = absurd (clash x.1)
+each_some : (h : File → File) (f : Option File) → AFile f → AFile (option_map h f)
+each_some h None x = absurd (clash x.1)
   where
-    clash : {f : File} → none ≡ some f → ⊥
+    clash : {f : File} → None ≡ Some f → ⊥
     clash e = let z : ◌≡◌ {A = ℕ} 0 1 = cc in omega arith
-each_some h (some f) x = (h f, refl)
+each_some h (Some f) x = (h f, refl)
 
-either_some : (b : Bool) (f g : Option File) → Some f → Some g → Some (cond b f g)
+either_some : (b : Bool) (f g : Option File) → AFile f → AFile g → AFile (cond b f g)
 either_some true f g x y = x
 either_some false f g x y = y
 
-module _ (k : Kind) (w : World) (s : ℕ) (f g : Option File) (x : Some f) where
-  by : {o : Option File} → g ≡ o → Some o → Some g
+module _ (k : Kind) (w : World) (s : ℕ) (f g : Option File) (x : AFile f) where
+  by : {o : Option File} → g ≡ o → AFile o → AFile g
   by e y = (y.0, e ∙ y.1)
 
-  becomes_some : (c : Call) → Does k w c s → ¬ Erases k w c s → Becomes c w (ours c w) f g → Some g
+  becomes_some : (c : Call) → Does k w c s → ¬ Erases k w c s → Becomes c w (ours c w) f g → AFile g
   becomes_some (look i) d n e = by e x
   becomes_some (open_file name access) d n e = by e x
   becomes_some (create name attr stamp) d n e = (_, e.2)
@@ -89,7 +88,7 @@ module _ (k : Kind) (w : World) (b : Begins k w) where
               let g = x.makes (fs t) in
               subst (IsFile k (step w c).image) (sym e)
               (shown_file k (step w c).image t g.0 (x.there (fs t) g.0 (shown t) g.1)
-              (becomes_some k w t (fs t) g.0 (subst (λ (j : ℕ). Some (fs j)) e there) c d (subst (λ (j : ℕ). ¬ Erases k w c j) e n) g.1))
+              (becomes_some k w t (fs t) g.0 (subst (λ (j : ℕ). AFile (fs j)) e there) c d (subst (λ (j : ℕ). ¬ Erases k w c j) e n) g.1))
           | no other ↦
               shown_file k (step w c).image s (fs s)
               (came_others k w c b (changes t ds d x) s (λ q. other (names_one k w (on b) s t c q d.named)) (fs s) (shown s)) there

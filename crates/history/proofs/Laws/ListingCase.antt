@@ -1,8 +1,7 @@
 -- The listing case, proved: format, then a first file, then a second.
-use Rattle.std.specs.Prelude.{ℕ, zero, suc, ◌-◌, ◌≤◌, ◌<◌, true, false, List, ◌++◌, ◌≢◌, ◌≡◌, refl, length, get_or, replicate}
+use Rattle.std.specs.Prelude.{ℕ, zero, suc, ◌-◌, ◌≤◌, ◌<◌, true, false, List, ◌++◌, ◌≢◌, ◌≡◌, refl, length, get_or, replicate, Some, None, is_some, Option}
 use Rattle.std.proofs.Common.{arith, sym, ap, ap₂, ◌∙◌, subst, eq-eqb}
 use Rattle.std.proofs.Math.Decide.{ℕ_discrete}
-use Rattle.std.proofs.Math.Option.{none, some}
 use Rattle.image.specs.Bytes.{Bytes}
 use Rattle.chains.specs.Aids.Put.{put}
 use Rattle.chains.specs.Sizes.{clusters_for}
@@ -12,11 +11,9 @@ use Rattle.diskette.specs.Aids.Usable.{Usable}
 use Rattle.diskette.specs.Places.{clusters}
 use Rattle.diskette.proofs.Laws.Kinds.{named_usable}
 use Rattle.names.specs.Alphabet.{plain, allowed, capital}
-use Rattle.names.specs.Reading.{name_given, fitting, before_first, after_first}
+use Rattle.names.specs.Reading.{name_given, fitting, before_first, after_first, name_bytes}
 use Rattle.names.specs.Spelling.{every, eleven}
-use Rattle.names.specs.declared.Spelled.{Spelled}
 use Rattle.stamps.specs.Stamps.{packed, time_fits, date_fits}
-use Rattle.stamps.specs.declared.Packed.TheVariants.{Words}
 use Rattle.formatting.specs.Format.{blank, formatted}
 use Rattle.formatting.proofs.Laws.Blank.{blank_slot}
 use Rattle.calls.specs.Refusals.{bad_attr}
@@ -35,19 +32,19 @@ usable : Usable kind_fe
 unfolding named
 usable = named_usable 0xFE (named 0xFE) kind_fe refl refl
 
-pub tare_read : name_given tare_given ≡ record { fits = true; name = tare_name }
+pub tare_read : name_given tare_given ≡ Some tare_name
 unfolding name_given fitting before_first after_first every allowed plain eleven capital
 tare_read = refl
 
-pub day_read : name_given day_given ≡ record { fits = true; name = day_name }
+pub day_read : name_given day_given ≡ Some day_name
 unfolding name_given fitting before_first after_first every allowed plain eleven capital
 day_read = refl
 
-tare_stamped : packed (time_then 6 40 0) ≡ Words 0x3500 0x0721
+tare_stamped : packed (time_then 6 40 0) ≡ Some (0x3500, 0x0721)
 unfolding packed time_fits date_fits
 tare_stamped = refl
 
-pub day_stamped : packed (time_then 18 5 29) ≡ Words 0x90BD 0x0721
+pub day_stamped : packed (time_then 18 5 29) ≡ Some (0x90BD, 0x0721)
 unfolding packed time_fits date_fits
 day_stamped = refl
 
@@ -70,7 +67,7 @@ needs = (refl, refl)
 -- ---- the volume at first
 
 abbrev no_files : Files
-no_files = λ s. none
+no_files = λ s. None
 
 abbrev at_first : World
 at_first = world (blank kind_fe) (replicate 16 0)
@@ -92,14 +89,14 @@ begins = record {
 
 -- ---- the files that are made
 
-none_is_none : (f : File) → none ≡ some f → ⊥
+none_is_none : (f : File) → None ≡ Some f → ⊥
 none_is_none f e = let z : ◌≡◌ {A = ℕ} 0 1 = cc in omega arith
 
 module _ (tare : List ℕ) (bytes : Bytes tare) (long : length tare ≡ 40) where
   good_tare : GoodFile kind_fe no_files 313 tare_given 0x01 tare (time_then 6 40 0)
   good_tare = record {
-    fits = ap (λ (x : Spelled). x.fits) tare_read;
-    long = ap (λ (x : Spelled). length x.name) tare_read;
+    fits = ap is_some tare_read;
+    long = ap (λ (x : Option (List ℕ)). length (name_bytes x)) tare_read;
     new_name = λ t f e. absurd (none_is_none f e);
     may = tare_attr.0;
     time = 0x3500;
@@ -115,19 +112,19 @@ module _ (tare : List ℕ) (bytes : Bytes tare) (long : length tare ≡ 40) wher
 
   -- the files after the first
   abbrev pub first_files : Files
-  first_files = put no_files 0 (some (file (name_given tare_given).name (archived 0x01) tare))
+  first_files = put no_files 0 (Some (file (name_bytes (name_given tare_given)) (archived 0x01) tare))
 
-  pub other_name : (t : ℕ) (f : File) → first_files t ≡ some f → f.name ≢ (name_given day_given).name
+  pub other_name : (t : ℕ) (f : File) → first_files t ≡ Some f → f.name ≢ name_bytes (name_given day_given)
   other_name t f e same = elim (ℕ_discrete t 0) [
     | yes z ↦
-        let q : some (file (name_given tare_given).name (archived 0x01) tare) ≡ some f
-        = sym (put_same no_files 0 (some (file (name_given tare_given).name (archived 0x01) tare)) t z) ∙ e in
-        let r : file (name_given tare_given).name (archived 0x01) tare ≡ f = cc in
+        let q : Some (file (name_bytes (name_given tare_given)) (archived 0x01) tare) ≡ Some f
+        = sym (put_same no_files 0 (Some (file (name_bytes (name_given tare_given)) (archived 0x01) tare)) t z) ∙ e in
+        let r : file (name_bytes (name_given tare_given)) (archived 0x01) tare ≡ f = cc in
         let n : tare_name ≡ day_name
-        = sym (ap (λ (x : Spelled). x.name) tare_read) ∙ ap (λ (x : File). x.name) r ∙ same ∙ ap (λ (x : Spelled). x.name) day_read in
+        = sym (ap name_bytes tare_read) ∙ ap (λ (x : File). x.name) r ∙ same ∙ ap name_bytes day_read in
         let d : ◌≡◌ {A = ℕ} 0x54 0x44 = ap (λ (x : List ℕ). get_or x 0 0) n in
         omega arith
-    | no d ↦ none_is_none f (sym (put_other no_files 0 (some (file (name_given tare_given).name (archived 0x01) tare)) t d) ∙ e)
+    | no d ↦ none_is_none f (sym (put_other no_files 0 (Some (file (name_bytes (name_given tare_given)) (archived 0x01) tare)) t d) ∙ e)
   ]
 
   abbrev pub one_file : World
@@ -143,8 +140,8 @@ module _ (tare : List ℕ) (bytes : Bytes tare) (long : length tare ≡ 40) wher
   pub good_day : (day : List ℕ) → Bytes day → 0 < length day → length day ≤ 1025
       → GoodFile kind_fe first_files 312 day_given 0x00 day (time_then 18 5 29)
   good_day day day_bytes many few = record {
-    fits = ap (λ (x : Spelled). x.fits) day_read;
-    long = ap (λ (x : Spelled). length x.name) day_read;
+    fits = ap is_some day_read;
+    long = ap (λ (x : Option (List ℕ)). length (name_bytes x)) day_read;
     new_name = other_name;
     may = day_attr.0;
     time = 0x90BD;
@@ -163,7 +160,7 @@ module _ (tare : List ℕ) (bytes : Bytes tare) (long : length tare ≡ 40) wher
     good = good_day day day_bytes (omega (arith, day_long)) (omega (arith, day_long))
 
     abbrev both_files : Files
-    both_files = put first_files 1 (some (file (name_given day_given).name (archived 0x00) day))
+    both_files = put first_files 1 (Some (file (name_bytes (name_given day_given)) (archived 0x00) day))
 
     abbrev two_files : World
     two_files = run one_file (file_calls day_given 0x00 day (time_then 18 5 29))
@@ -179,9 +176,9 @@ module _ (tare : List ℕ) (bytes : Bytes tare) (long : length tare ≡ 40) wher
     as_listed : (t : ℕ) → both_files t ≡ listing_files tare day t
     as_listed zero =
         put_other first_files 1 _ 0 (λ e. omega arith) ∙ put_same no_files 0 _ 0 refl
-        ∙ ap₂ (λ name attr. some (file name attr tare)) (ap (λ (x : Spelled). x.name) tare_read) tare_attr.1
+        ∙ ap₂ (λ name attr. Some (file name attr tare)) (ap name_bytes tare_read) tare_attr.1
     as_listed (suc zero) =
-        put_same first_files 1 _ 1 refl ∙ ap₂ (λ name attr. some (file name attr day)) (ap (λ (x : Spelled). x.name) day_read) day_attr.1
+        put_same first_files 1 _ 1 refl ∙ ap₂ (λ name attr. Some (file name attr day)) (ap name_bytes day_read) day_attr.1
     as_listed (suc (suc s)) = put_other first_files 1 _ (suc (suc s)) (λ e. omega arith) ∙ put_other no_files 0 _ (suc (suc s)) (λ e. omega arith)
 
     ends : ListingEnds at_first two_files tare day

@@ -1,17 +1,16 @@
 -- The file that a call names: that there is one, by the rows that were passed, and that there is no second.
-use Rattle.std.specs.Prelude.{ℕ, ◌<◌, true, false, not, List, ◌↔◌, ◌≡◌, refl}
-use Rattle.std.proofs.Common.{sym, subst}
+use Rattle.std.specs.Prelude.{ℕ, ◌<◌, true, false, not, List, ◌↔◌, ◌≡◌, refl, Option, Some, None, is_some}
+use Rattle.std.proofs.Common.{sym, ap, subst}
 use Rattle.diskette.specs.Places.{root_entries, slot_at}
 use Rattle.diskette.specs.declared.Kind.{Kind}
 use Rattle.search.specs.Search.{is_found, Answers}
-use Rattle.search.specs.declared.Found.{Found}
-use Rattle.search.specs.declared.Found.TheVariants.{At, Nothing}
 use Rattle.fields.specs.Fields.{name_of}
 use Rattle.directory.specs.Search.{slot_named}
 use Rattle.directory.specs.Slots.{PlainAt}
 use Rattle.directory.proofs.Laws.Search.{slot_named_answers}
-use Rattle.names.specs.Reading.{name_given}
+use Rattle.names.specs.Reading.{name_given, name_bytes}
 use Rattle.names.specs.Spelling.{Means}
+use Rattle.names.proofs.Laws.Given.{given_bytes}
 use Rattle.names.proofs.Laws.Meaning.{accepted}
 use Rattle.names.proofs.Laws.Proper.{proper}
 use Rattle.calls.specs.Aids.Ready.{OnVolume}
@@ -26,39 +25,39 @@ use Rattle.history.proofs.Laws.Found.{good_name, file_found_lem, no_file_found, 
 
 -- ---- the 11 bytes that a name means
 
-pub means : (name : List ℕ) → (name_given name).fits ≡ true → Means name (name_given name).name
-means name fits = (accepted name (name_given name).name).0 (fits, refl)
+pub means : (name : List ℕ) → is_some (name_given name) ≡ true → Means name (name_bytes (name_given name))
+means name fits = (accepted name (name_bytes (name_given name))).0 (given_bytes (name_given name) fits)
 
-pub meant_is : {name n : List ℕ} → Means name n → (name_given name).name ≡ n
-meant_is {name} {n} m = ((accepted name n).1 m).1
+pub meant_is : {name n : List ℕ} → Means name n → (name_bytes (name_given name)) ≡ n
+meant_is {name} {n} m = ap name_bytes ((accepted name n).1 m)
 
 -- what holds of bytes that the name means holds of these
-pub meant_exactly : (name : List ℕ) → (name_given name).fits ≡ true → (P : List ℕ → Type 0) → ((n : List ℕ) × Means name n × P n) ↔ P (name_given name).name
-meant_exactly name fits P = (λ x. subst P (sym (meant_is x.1)) x.2, λ p. ((name_given name).name, means name fits, p))
+pub meant_exactly : (name : List ℕ) → is_some (name_given name) ≡ true → (P : List ℕ → Type 0) → ((n : List ℕ) × Means name n × P n) ↔ P (name_bytes (name_given name))
+meant_exactly name fits P = (λ x. subst P (sym (meant_is x.1)) x.2, λ p. ((name_bytes (name_given name)), means name fits, p))
 
 -- ---- there is one
 
-module _ (k : Kind) (l : List ℕ) (v : OnVolume l k) (name : List ℕ) (fits : (name_given name).fits ≡ true) where
+module _ (k : Kind) (l : List ℕ) (v : OnVolume l k) (name : List ℕ) (fits : is_some (name_given name) ≡ true) where
   abbrev Named : ℕ → Type 0
-  Named s = (s < root_entries k) × (PlainAt l (slot_at k s) × (name_of l (slot_at k s) ≡ (name_given name).name))
+  Named s = (s < root_entries k) × (PlainAt l (slot_at k s) × (name_of l (slot_at k s) ≡ name_bytes (name_given name)))
 
-  searched : (f : Found) → slot_named l (slot_at k) (root_entries k) (name_given name).name ≡ f → Answers Named f
+  searched : (f : Option ℕ) → slot_named l (slot_at k) (root_entries k) (name_bytes (name_given name)) ≡ f → Answers Named f
   searched f e =
       let within = slots_within l k v in
-      subst (Answers Named) e (slot_named_answers l (slot_at k) (root_entries k) within (name_given name).name (proper name fits).long)
+      subst (Answers Named) e (slot_named_answers l (slot_at k) (root_entries k) within (name_bytes (name_given name)) (proper name _ (given_bytes (name_given name) fits)).long)
 
   -- the file that the search finds
   pub has_name : no_file l name ≡ false → HasName k l name (file_slot l name)
   has_name there =
-      let x = searched (At (file_slot l name)) (file_found_lem k l v name there) in
+      let x = searched (Some (file_slot l name)) (file_found_lem k l v name there) in
       record { is_file = record { below = x.0.0; plain = x.0.1.0 }; meant = rw x.0.1.1 (means name fits) }
 
   -- and where it finds none
   pub no_name : no_file l name ≡ true → (s : ℕ) → ¬ HasName k l name s
-  no_name none s x = searched Nothing (no_file_found k l v name none) s (x.is_file.below, (x.is_file.plain, sym (meant_is x.meant)))
+  no_name none s x = searched None (no_file_found k l v name none) s (x.is_file.below, (x.is_file.plain, sym (meant_is x.meant)))
 
   pub for_new : no_file l name ≡ true → not (is_found (slot_for_new l)) ≡ false → IsForNew k l name (place_found (slot_for_new l))
-  for_new none room = record { good = ((name_given name).name, means name fits); new = no_name none; lowest = new_slot_lem k l v room }
+  for_new none room = record { good = ((name_bytes (name_given name)), means name fits); new = no_name none; lowest = new_slot_lem k l v room }
 
 pub reaches : (k : Kind) (w : World) → OnVolume w.image k → (h : ℕ) → not_live w.image w.table h ≡ false
     → Reaches k w h (slot_of w.table h)

@@ -1,13 +1,11 @@
 -- A call that refuses leaves the world as it came.
-use Rattle.std.specs.Prelude.{ℕ, Bool, true, false, cond, List, [], ◌≡◌, refl, eqb, length}
+use Rattle.std.specs.Prelude.{ℕ, Bool, true, false, cond, List, [], ◌≡◌, refl, eqb, length, Option, Some, None}
 use Rattle.std.proofs.Common.{inl, inr, ap, ap₂}
 use Rattle.diskette.specs.Places.{slot_at}
 use Rattle.diskette.specs.declared.Kind.{Kind}
-use Rattle.stamps.specs.declared.Packed.{Packed}
-use Rattle.stamps.specs.declared.Packed.TheVariants.{Words, OutOfRange}
 use Rattle.calls.specs.Outcome.{Outcome, outcome}
 use Rattle.calls.specs.Refusals.{no_file, file_slot, slot_for_new, place_found, the_kind}
-use Rattle.names.specs.Reading.{name_given}
+use Rattle.names.specs.Reading.{name_given, name_bytes}
 use Rattle.stamps.specs.Stamps.{packed}
 use Rattle.stamps.specs.declared.Stamp.{Stamp}
 use Rattle.freeing.specs.Freed.{chain_freed}
@@ -32,17 +30,17 @@ well_either true x y p q = p
 well_either false x y p q = q
 
 -- a file made in one of two ways
-well_made : (b : Bool) (l m t : List ℕ) (k : Kind) (i j : ℕ) (name : List ℕ) (attr : ℕ) (p : Packed)
+well_made : (b : Bool) (l m t : List ℕ) (k : Kind) (i j : ℕ) (name : List ℕ) (attr : ℕ) (p : Option (ℕ × ℕ))
     → (cond b (made_by l t k i name attr p) (made_by m t k j name attr p)).number ≡ 0
-well_made true l m t k i j name attr (Words time date) = refl
-well_made true l m t k i j name attr OutOfRange = refl
-well_made false l m t k i j name attr (Words time date) = refl
-well_made false l m t k i j name attr OutOfRange = refl
+well_made true l m t k i j name attr (Some (time, date)) = refl
+well_made true l m t k i j name attr None = refl
+well_made false l m t k i j name attr (Some (time, date)) = refl
+well_made false l m t k i j name attr None = refl
 
 well_create : (l t s : List ℕ) (attr : ℕ) (stamp : Stamp) → (create_effect l t s attr stamp).number ≡ 0
 well_create l t s attr stamp =
     well_made (no_file l s) l (chain_freed (the_kind l) l (slot_at (the_kind l) (file_slot l s))) t (the_kind l) (place_found (slot_for_new l)) (file_slot l s)
-    (name_given s).name attr (packed stamp)
+    (name_bytes (name_given s)) attr (packed stamp)
 
 well_write : (l t : List ℕ) (h : ℕ) (bs : List ℕ) → (write_effect l t h bs).number ≡ 0
 unfolding write_effect

@@ -1,12 +1,12 @@
 -- Our seek leads to where its offset says.
-use Rattle.std.specs.Prelude.{ℕ, Bool, true, false, cond, [], ◌≡◌, refl, eqb, leb, ℤ, pos, negsuc, ◌+ℤ◌, length}
+use Rattle.std.specs.Prelude.{ℕ, Bool, true, false, cond, [], ◌≡◌, refl, eqb, leb, ℤ, pos, negsuc, ◌+ℤ◌, length, Some, None}
 use Rattle.std.proofs.Common.{inl, inr, sym, ap, ◌∙◌}
 use Rattle.chains.proofs.Laws.Tests.{clash}
 use Rattle.diskette.specs.Places.{slot_at}
 use Rattle.fields.specs.Fields.{size_of}
 use Rattle.offset.specs.Offset.{as_pointer, moved_by}
-use Rattle.offset.specs.declared.Moved.TheVariants.{To, Beyond}
 use Rattle.opened.specs.Records.{pointer_of}
+use Rattle.calls.specs.Answers.{value_told}
 use Rattle.calls.specs.Outcome.{Outcome}
 use Rattle.calls.proofs.Laws.Ready.{on_kind_lem}
 use Rattle.seeking.specs.Seek.{answer_of, is_beyond, seek_base, seek_rows, seek_effect, seek_outcome}
@@ -21,10 +21,10 @@ use Rattle.history.proofs.Laws.Runs.{begins_run}
 use Rattle.history.proofs.Laws.Shown.{bytes_long, holds_bytes}
 
 -- a whole number that is a pointer
-pointer_is : (z : ℤ) → is_beyond (as_pointer z) ≡ false → pos (answer_of (as_pointer z)).value ≡ z
+pointer_is : (z : ℤ) → is_beyond (as_pointer z) ≡ false → pos (value_told (answer_of (as_pointer z))) ≡ z
 pointer_is (pos n) e = go (leb n 4294967295) e
   where
-    go : (b : Bool) → is_beyond (cond b (To n) Beyond) ≡ false → pos (answer_of (cond b (To n) Beyond)).value ≡ pos n
+    go : (b : Bool) → is_beyond (cond b (Some n) None) ≡ false → pos (value_told (answer_of (cond b (Some n) None))) ≡ pos n
     go true f = refl
     go false f = absurd (clash refl f)
 pointer_is (negsuc n) e = absurd (clash refl e)

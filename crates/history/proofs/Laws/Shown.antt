@@ -1,10 +1,9 @@
 -- The files that a sound volume has, and that read answers their bytes.
-use Rattle.std.specs.Prelude.{ℕ, ◌*◌, ◌<◌, Bool, refl, length}
+use Rattle.std.specs.Prelude.{ℕ, ◌*◌, ◌<◌, Bool, refl, length, Option, Some, None}
 use Rattle.std.proofs.Common.{arith, inl, inr, sym, ◌∙◌, subst}
 use Rattle.std.proofs.Math.Decide.{dec_lt}
 use Rattle.std.proofs.Math.Bool.{true, false}
 use mathlib.Core.List.{List}
-use Rattle.std.proofs.Math.Option.{Option, none, some}
 use Rattle.std.proofs.Math.Path.{◌≡◌, ap}
 use Rattle.chains.specs.Content.{content}
 use Rattle.chains.specs.Aids.Holders.{Holder, Owns}
@@ -40,10 +39,10 @@ module _ (k : Kind) (l : List ℕ) (v : OnVolume l k) where
   -- what slot s has, by whether a plain file stands there
   shown : (s : ℕ) → Dec (s < root_entries k) → Bool → Option File
   shown s (yes h) true =
-      some (file (name_of l (slot_at k s)) (attr_of l (slot_at k s))
+      Some (file (name_of l (slot_at k s)) (attr_of l (slot_at k s))
       (content (512 * first_data k) (cluster_bytes k) l ((on_sound k l v).0 s) (size_of l (slot_at k s))))
-  shown s (yes h) false = none
-  shown s (no n) b = none
+  shown s (yes h) false = None
+  shown s (no n) b = None
 
   shows : (s : ℕ) (d : Dec (s < root_entries k)) (b : Bool) → is_plain (standing_of l (slot_at k s)) ≡ b → ShowsAt k l s (shown s d b)
   unfolding shown

@@ -1,5 +1,5 @@
 -- What a call that ends well stores in the open table: a place taken, a pointer moved, a place freed, or nothing.
-use Rattle.std.specs.Prelude.{ℕ, ◌+◌, ◌≤◌, ◌<◌, Bool, cond, ◌&&◌, ◌⊎◌, ◌≢◌, ◌≡◌, eqb, leb, ltb, ℤ, pos, negsuc, ◌+ℤ◌, length}
+use Rattle.std.specs.Prelude.{ℕ, ◌+◌, ◌≤◌, ◌<◌, Bool, cond, ◌&&◌, ◌⊎◌, ◌≢◌, ◌≡◌, eqb, leb, ltb, ℤ, pos, negsuc, ◌+ℤ◌, length, Option, Some, None}
 use Rattle.std.proofs.Common.{arith, sym, ◌∙◌}
 use Rattle.std.proofs.Math.Decide.{ℕ_discrete}
 use Rattle.std.proofs.Math.Bool.{true, false, not}
@@ -11,17 +11,15 @@ use Rattle.holding.proofs.Laws.Chain.{file_at}
 use Rattle.diskette.specs.Places.{slot_at}
 use Rattle.diskette.specs.declared.Kind.{Kind}
 use Rattle.fields.specs.Fields.{size_of}
-use Rattle.names.specs.Reading.{name_given}
+use Rattle.names.specs.Reading.{name_given, name_bytes}
 use Rattle.offset.specs.Offset.{as_pointer, moved_by}
-use Rattle.offset.specs.declared.Moved.TheVariants.{To, Beyond}
 use Rattle.search.specs.Search.{is_found, Lowest, Answers}
 use Rattle.stamps.specs.Stamps.{packed}
-use Rattle.stamps.specs.declared.Packed.{Packed}
-use Rattle.stamps.specs.declared.Packed.TheVariants.{Words, OutOfRange}
 use Rattle.stamps.specs.declared.Stamp.{Stamp}
 use Rattle.opened.specs.Places.{is_open, lowest_unused}
 use Rattle.opened.specs.Records.{place_count, used_of, slot_of, pointer_of, with_record, with_pointer, with_written, cleared}
 use Rattle.opened.proofs.Laws.Places.{unused_answers}
+use Rattle.calls.specs.Answers.{value_told}
 use Rattle.calls.specs.Outcome.{Row, Outcome, refusal, decided}
 use Rattle.calls.specs.Aids.Ready.{OnVolume}
 use Rattle.calls.specs.Refusals.{place_found, the_kind, no_file, file_slot, no_place, free_place, slot_for_new}
@@ -79,15 +77,15 @@ free_lowest : (t : List ℕ) → no_place t ≡ false → Lowest ltb (λ p. (p <
 free_lowest t e = subst (Answers (λ p. (p < place_count t) × (used_of t p ≡ false))) (found_at (lowest_unused t) e) (unused_answers t)
 
 -- where an offset leads
-moved_fits : (base : ℕ) (offset : ℤ) → (answer_of (moved_by base offset)).value < 4294967296
+moved_fits : (base : ℕ) (offset : ℤ) → value_told (answer_of (moved_by base offset)) < 4294967296
 unfolding moved_by
 moved_fits base offset = whole (pos base +ℤ offset)
   where
-    below : (n : ℕ) (b : Bool) → leb n 4294967295 ≡ b → (answer_of (cond b (To n) Beyond)).value < 4294967296
+    below : (n : ℕ) (b : Bool) → leb n 4294967295 ≡ b → value_told (answer_of (cond b (Some n) None)) < 4294967296
     below n true e = omega (arith, leb-true n 4294967295 e)
     below n false e = omega arith
 
-    whole : (z : ℤ) → (answer_of (as_pointer z)).value < 4294967296
+    whole : (z : ℤ) → value_told (answer_of (as_pointer z)) < 4294967296
     whole (pos n) = below n (leb n 4294967295) refl
     whole (negsuc n) = omega arith
 
@@ -124,11 +122,11 @@ module _ (k : Kind) (w : World) (v : OnVolume w.image k) where
     abbrev Makes : Outcome → Type 0
     Makes o = (s : ℕ) × Took k w (create name attr stamp) 2 s o
 
-    made_took : (m : List ℕ) (j : Kind) (s : ℕ) → Names (create name attr stamp) k w s → no_place t ≡ false → (words : Packed)
-        → Makes (made_by m t j s (name_given name).name attr words)
-    made_took m j s named room (Words time date) =
+    made_took : (m : List ℕ) (j : Kind) (s : ℕ) → Names (create name attr stamp) k w s → no_place t ≡ false → (words : Option (ℕ × ℕ))
+        → Makes (made_by m t j s (name_bytes (name_given name)) attr words)
+    made_took m j s named room (Some (time, date)) =
         (s, record { access_fits = omega arith; named = named; lowest = free_lowest t room; table = refl })
-    made_took m j s named room OutOfRange = (s, record { access_fits = omega arith; named = named; lowest = free_lowest t room; table = refl })
+    made_took m j s named room None = (s, record { access_fits = omega arith; named = named; lowest = free_lowest t room; table = refl })
 
     either : (b : Bool) (o q : Outcome) → (b ≡ true → Makes o) → (b ≡ false → Makes q) → Makes (cond b o q)
     either true o q f g = f refl

@@ -1,6 +1,6 @@
 -- Each call spares a read-only file whose places only read: the image stays, or the call names another file; and its places only
 -- read still.
-use Rattle.std.specs.Prelude.{ℕ, ◌<◌, Bool, true, cond, ◌&&◌, ◌⊎◌, ◌≡◌, eqb, ltb, ℤ, length}
+use Rattle.std.specs.Prelude.{ℕ, ◌<◌, Bool, true, cond, ◌&&◌, ◌⊎◌, ◌≡◌, eqb, ltb, ℤ, length, Option, Some, None}
 use Rattle.std.proofs.Common.{arith, sym, ap, subst}
 use Rattle.std.proofs.Math.Decide.{ℕ_discrete}
 use Rattle.std.proofs.Math.Bool.{false, not}
@@ -12,11 +12,9 @@ use Rattle.chains.proofs.Laws.Tests.{clash}
 use Rattle.diskette.specs.Places.{slot_at}
 use Rattle.diskette.specs.declared.Kind.{Kind}
 use Rattle.directory.specs.Slots.{VacantAt}
-use Rattle.names.specs.Reading.{name_given}
+use Rattle.names.specs.Reading.{name_given, name_bytes}
 use Rattle.stamps.specs.Stamps.{packed}
 use Rattle.stamps.specs.declared.Stamp.{Stamp}
-use Rattle.stamps.specs.declared.Packed.{Packed}
-use Rattle.stamps.specs.declared.Packed.TheVariants.{Words, OutOfRange}
 use Rattle.search.specs.Search.{is_found}
 use Rattle.opened.specs.Records.{slot_of, pointer_of, access_of}
 use Rattle.sound.specs.Files.{IsFile}
@@ -188,15 +186,15 @@ module _ (k : Kind) (w : World) (v : OnVolume w.image k) (s : ℕ) (g : Guarded 
     -- a place is taken for another slot, the one that is named
     module _ (slot : ℕ) (small : slot < 4294967296) (other : ¬ (s ≡ slot)) (named : Names (create name attr stamp) k w slot)
         (room : no_place t ≡ false) (m : List ℕ) (j : Kind) where
-      made_spares : (time date : ℕ) → Spares k w s (create name attr stamp) (made m t j slot (name_given name).name attr time date)
+      made_spares : (time date : ℕ) → Spares k w s (create name attr stamp) (made m t j slot (name_bytes (name_given name)) attr time date)
       made_spares time date = record {
         image = inr (λ x. other (names_one k w v s slot (create name attr stamp) x named));
         places = record_watched t s g.places (free_place t) (place_counts t room) 2 slot small (λ e. absurd (other (sym e)));
       }
 
-      made_by_spares : (words : Packed) → Spares k w s (create name attr stamp) (made_by m t j slot (name_given name).name attr words)
-      made_by_spares (Words time date) = made_spares time date
-      made_by_spares OutOfRange = made_spares 0 0
+      made_by_spares : (words : Option (ℕ × ℕ)) → Spares k w s (create name attr stamp) (made_by m t j slot (name_bytes (name_given name)) attr words)
+      made_by_spares (Some (time, date)) = made_spares time date
+      made_by_spares None = made_spares 0 0
 
     new_small : not (is_found (slot_for_new l)) ≡ false → place_found (slot_for_new l) < 4294967296
     new_small e = omega (arith, (new_slot_lem k l v e).0.0, (on_usable l k v).few_slots)

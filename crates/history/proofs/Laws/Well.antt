@@ -1,7 +1,6 @@
 -- A call by its rows: it is refused, or it ended well; and then what it comes to, in the form that its own laws have.
-use Rattle.std.specs.Prelude.{ℕ, List, ◌↔◌, ◌≡◌, refl}
+use Rattle.std.specs.Prelude.{ℕ, List, ◌↔◌, ◌≡◌, refl, Option, Some, None, option_map}
 use Rattle.std.proofs.Common.{inl, inr, sym, ap, ◌∙◌, subst}
-use Rattle.std.proofs.Math.Option.{Option, none, some, map}
 use Rattle.image.specs.Bytes.{Bytes}
 use Rattle.diskette.specs.declared.Kind.{Kind}
 use Rattle.calls.specs.Outcome.{Row, Outcome, refusal, decided}
@@ -36,11 +35,11 @@ module _ (k : Kind) (w : World) (c : Call) where
     })
 
     -- the file that stands there is changed
-    pub came_at : IsFile k w.image s → (h : File → File) → ((f g : Option File) → Becomes f g ↔ (g ≡ map h f))
+    pub came_at : IsFile k w.image s → (h : File → File) → ((f g : Option File) → Becomes f g ↔ (g ≡ option_map h f))
         → ((f : File) → Holds k w.image s f → Holds k m s (h f)) → Came k w c
-    came_at i h becomes holds = came_put (λ f. (map h f, (becomes f (map h f)).1 refl))
+    came_at i h becomes holds = came_put (λ f. (option_map h f, (becomes f (option_map h f)).1 refl))
         (λ f g y p. subst (ShowsAt k m s) (sym ((becomes f g).0 p)) (go f y))
       where
-        go : (o : Option File) → ShowsAt k w.image s o → ShowsAt k m s (map h o)
-        go none y = absurd (y i)
-        go (some f) y = holds f y
+        go : (o : Option File) → ShowsAt k w.image s o → ShowsAt k m s (option_map h o)
+        go None y = absurd (y i)
+        go (Some f) y = holds f y

@@ -1,13 +1,11 @@
 -- The library that hands out slot 0 is refused, on a volume with a second file: its handle does not reach that file.
-use Rattle.std.specs.Prelude.{ℕ, Bool, true, false, List, [], ◌∷◌, ◌≢◌, ◌≡◌, refl, replicate}
+use Rattle.std.specs.Prelude.{ℕ, Bool, true, false, List, [], ◌∷◌, ◌≢◌, ◌≡◌, refl, replicate, Some, is_some}
 use Rattle.std.proofs.Common.{arith, sym, ap, ◌∙◌, subst}
-use Rattle.std.proofs.Math.Option.{some}
 use Rattle.image.proofs.Laws.Store.{bytes_zeros, bytes_one}
 use Rattle.chains.proofs.Laws.Put.{put_same}
 use Rattle.diskette.specs.Kinds.{kind_fe}
 use Rattle.diskette.specs.declared.Kind.{Kind}
-use Rattle.names.specs.Reading.{name_given}
-use Rattle.search.specs.declared.Found.TheVariants.{At}
+use Rattle.names.specs.Reading.{name_given, name_bytes}
 use Rattle.opened.specs.Places.{lowest_unused}
 use Rattle.opened.proofs.Laws.Stores.{record_holds}
 use Rattle.calls.specs.Aids.Ready.{OnVolume}
@@ -29,7 +27,7 @@ use Rattle.history.proofs.Laws.ListingCase.{first_files, one_file, first_made, g
 use Rattle.history.proofs.Laws.Meant.{means, no_name}
 
 -- open for reading, of a file that is there
-module _ (k : Kind) (w : World) (v : OnVolume w.image k) (name : List ℕ) (fits : (name_given name).fits ≡ true) where
+module _ (k : Kind) (w : World) (v : OnVolume w.image k) (name : List ℕ) (fits : is_some (name_given name) ≡ true) where
   there : (s : ℕ) → HasName k w.image name s → no_file w.image name ≡ false
   there s x = cases (no_file w.image name) refl
     where
@@ -37,14 +35,14 @@ module _ (k : Kind) (w : World) (v : OnVolume w.image k) (name : List ℕ) (fits
       cases true e = absurd (no_name k w.image v name fits e s x)
       cases false e = e
 
-  open_well : (s p : ℕ) → HasName k w.image name s → lowest_unused w.table ≡ At p
+  open_well : (s p : ℕ) → HasName k w.image name s → lowest_unused w.table ≡ Some p
       → ours (open_file name 0) w ≡ open_effect w.image w.table name 0
   unfolding open_outcome decided refusal
   open_well s p x place = rw (v.known, v.sound, fits, found_at (file_found w.image name) (there s x), place)
 
 -- the volume has a file of this name in slot n, and the table has no place taken
 module _ (k : Kind) (w : World) (fs : Files) (m free : ℕ) (x : HasFiles k w fs m free) (n : ℕ) (later : n ≢ 0)
-    (f : File) (here : fs n ≡ some f) (name : List ℕ) (fits : (name_given name).fits ≡ true) (named : f.name ≡ (name_given name).name) where
+    (f : File) (here : fs n ≡ Some f) (name : List ℕ) (fits : is_some (name_given name) ≡ true) (named : f.name ≡ name_bytes (name_given name)) where
   has : HasName k w.image name n
   has =
       let y = subst (ShowsAt k w.image n) here (x.stands.shows n) in

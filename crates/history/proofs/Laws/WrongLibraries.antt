@@ -1,8 +1,7 @@
 -- The wrong libraries are refused: each alters a file that its caller did not name. The volume is any that has files in its first
 -- slots, and what is given is fit for a new file.
-use Rattle.std.specs.Prelude.{ℕ, ◌<◌, Bool, true, not, List, [], ◌≢◌, ◌≡◌, refl, length, take}
+use Rattle.std.specs.Prelude.{ℕ, ◌<◌, Bool, true, not, List, [], ◌≢◌, ◌≡◌, refl, length, take, Option, Some, None}
 use Rattle.std.proofs.Common.{arith, inl, inr, sym, ap, ◌∙◌, subst}
-use Rattle.std.proofs.Math.Option.{some}
 use borrow.Author.Tests.{ne_eqb, lt-ltb}
 use Rattle.chains.specs.Write.{written}
 use Rattle.diskette.specs.Places.{root_entries, slot_at}
@@ -10,10 +9,8 @@ use Rattle.diskette.specs.declared.Kind.{Kind}
 use Rattle.fields.specs.Fields.{with_entry}
 use Rattle.directory.proofs.Laws.Entries.{fresh}
 use Rattle.directory.proofs.Laws.Slots.{plain_is}
-use Rattle.names.specs.Reading.{name_given}
+use Rattle.names.specs.Reading.{name_given, name_bytes}
 use Rattle.search.specs.Search.{is_found}
-use Rattle.search.specs.declared.Found.{Found}
-use Rattle.search.specs.declared.Found.TheVariants.{At, Nothing}
 use Rattle.stamps.specs.declared.Stamp.{Stamp}
 use Rattle.opened.specs.Places.{LivePlace, lowest_unused}
 use Rattle.opened.specs.Records.{used_of, slot_of, pointer_of}
@@ -59,7 +56,7 @@ pub record Scene (k : Kind) (w : World) (fs : Files) (f : File) (name : List ℕ
   pub free : ℕ
   pub has : HasFiles k w fs next free
   pub below : next < root_entries k
-  pub here : fs 0 ≡ some f
+  pub here : fs 0 ≡ Some f
   pub good : GoodFile k fs free name attr bs stamp
 
 module _ {k : Kind} {w : World} {fs : Files} {f : File} {name : List ℕ} {attr : ℕ} {bs : List ℕ} {stamp : Stamp}
@@ -92,11 +89,11 @@ module _ {k : Kind} {w : World} {fs : Files} {f : File} {name : List ℕ} {attr 
   file_in_lem : file_in l 0 ≡ true
   file_in_lem = rw (on_kind_lem l k v, lt-ltb 0 (root_entries k) first_file.below, (plain_is l (slot_at k 0)).1 first_file.plain)
 
-  none_named : file_found l name ≡ Nothing
+  none_named : file_found l name ≡ None
   none_named = none_of_name k l v fs shown name g.long g.new_name
 
   no_file_lem : (s : ℕ) → ¬ HasName k l name s
-  no_file_lem = no_name k l v name g.fits (ap (λ (f : Found). not (is_found f)) none_named)
+  no_file_lem = no_name k l v name g.fits (ap (λ (f : Option ℕ). not (is_found f)) none_named)
 
   -- a call that makes the image m, in which slot 0 does not hold f, and does not name slot 0
   spoils : (lib : Library) (c : Call) (m : List ℕ) → Given c → ¬ Names c k u 0 → (step_by lib u c).image ≡ m → ¬ Holds k m 0 f → Spoils lib
@@ -111,7 +108,7 @@ module _ {k : Kind} {w : World} {fs : Files} {f : File} {name : List ℕ} {attr 
     slot = 0;
     below = first_file.below;
     unnamed = unnamed;
-    gone = λ y. gone (subst (λ (i : List ℕ). ShowsAt k i 0 (some f)) e (subst (ShowsAt k (step_by lib u c).image 0) x.here y));
+    gone = λ y. gone (subst (λ (i : List ℕ). ShowsAt k i 0 (Some f)) e (subst (ShowsAt k (step_by lib u c).image 0) x.here y));
   }
 
   -- ---- delete of a name that no file has
@@ -132,7 +129,7 @@ module _ {k : Kind} {w : World} {fs : Files} {f : File} {name : List ℕ} {attr 
   -- ---- create of a new name, with place 0 in use
 
   abbrev remade : List ℕ
-  remade = with_entry (chain_freed k l (slot_at k 0)) (slot_at k 0) (name_given name).name attr g.time g.date 0 0
+  remade = with_entry (chain_freed k l (slot_at k 0)) (slot_at k 0) (name_bytes (name_given name)) attr g.time g.date 0 0
 
   not_named : ¬ Names (create name attr stamp) k u 0
   not_named (inl y) = no_file_lem 0 y
@@ -142,10 +139,10 @@ module _ {k : Kind} {w : World} {fs : Files} {f : File} {name : List ℕ} {attr 
   other_name y =
       let long = (file_emptied k l v begins.bytes 0 first_file).frame.long in
       let fits = slot_within l k v 0 (slot_at k 0) first_file.below refl in
-      let made = fresh (name_given name).name attr g.time g.date 0 0 g.long (chain_freed k l (slot_at k 0)) (slot_at k 0) (rw long fits) in
+      let made = fresh (name_bytes (name_given name)) attr g.time g.date 0 0 g.long (chain_freed k l (slot_at k 0)) (slot_at k 0) (rw long fits) in
       g.new_name 0 f x.here (sym y.name ∙ (made g.small_time g.small_date (omega arith) (omega arith)).name)
 
-  pub takes_first_spoils : used_of t 0 ≡ true → (p : ℕ) → lowest_unused t ≡ At p → Spoils takes_first
+  pub takes_first_spoils : used_of t 0 ≡ true → (p : ℕ) → lowest_unused t ≡ Some p → Spoils takes_first
   takes_first_spoils used p place =
       let lowest = lowest_vacant_lem k l v fs shown x.next x.below x.has.below x.has.never in
       let o = create_well k u v name attr stamp g.time g.date x.next p g.fits g.stamped g.may none_named lowest place in

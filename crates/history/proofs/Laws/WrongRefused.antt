@@ -1,7 +1,6 @@
 -- The wrong libraries on one volume: that of the listing case after its first file, with 40 zeros as the tare.
-use Rattle.std.specs.Prelude.{ℕ, List, [], ◌∷◌, ◌≢◌, ◌≡◌, refl, get_or, replicate}
+use Rattle.std.specs.Prelude.{ℕ, List, [], ◌∷◌, ◌≢◌, ◌≡◌, refl, get_or, replicate, Some}
 use Rattle.std.proofs.Common.{arith, ap}
-use Rattle.std.proofs.Math.Option.{some}
 use Rattle.image.proofs.Laws.Store.{bytes_zeros, bytes_one}
 use Rattle.image.specs.Numbers.{number}
 use Rattle.chains.specs.Write.{written}
@@ -9,7 +8,7 @@ use Rattle.chains.proofs.Laws.Put.{put_same}
 use Rattle.chains.proofs.Laws.Tests.{clash}
 use Rattle.diskette.specs.Kinds.{kind_fe}
 use Rattle.diskette.specs.Places.{slot_at, root_entries}
-use Rattle.names.specs.Reading.{name_given}
+use Rattle.names.specs.Reading.{name_given, name_bytes}
 use Rattle.search.specs.Search.{lowest}
 use Rattle.opened.specs.Places.{LivePlace, lowest_unused}
 use Rattle.opened.specs.Records.{used_of, slot_of, access_of, pointer_of}
@@ -34,7 +33,7 @@ abbrev files : Files
 files = first_files zeros (bytes_zeros 40) refl
 
 abbrev tare : File
-tare = file (name_given tare_given).name (archived 0x01) zeros
+tare = file (name_bytes (name_given tare_given)) (archived 0x01) zeros
 
 scene : Scene kind_fe before files tare day_given 0x00 (1 ∷ []) (time_then 18 5 29)
 scene = record {
@@ -42,7 +41,7 @@ scene = record {
   free = 312;
   has = first_made zeros (bytes_zeros 40) refl;
   below = omega arith;
-  here = put_same _ 0 (some tare) 0 refl;
+  here = put_same _ 0 (Some tare) 0 refl;
   good = good_day zeros (bytes_zeros 40) refl (1 ∷ []) (bytes_one 1 (omega arith)) (omega arith) (omega arith);
 }
 

@@ -1,7 +1,6 @@
 -- What a call comes to. It is refused or only looks; or it names a slot and ends well, and then the image stays, and the file with
 -- it, or that slot is changed.
-use Rattle.std.specs.Prelude.{ℕ, List, ◌≢◌, ◌⊎◌, ◌↔◌, ◌≡◌}
-use Rattle.std.proofs.Math.Option.{Option}
+use Rattle.std.specs.Prelude.{ℕ, List, ◌≢◌, ◌⊎◌, ◌↔◌, ◌≡◌, Option}
 use Rattle.image.specs.Bytes.{Bytes}
 use Rattle.diskette.specs.declared.Kind.{Kind}
 use Rattle.changes.specs.Aids.Changed.{SlotChanged}

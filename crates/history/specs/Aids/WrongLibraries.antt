@@ -1,7 +1,7 @@
 -- Libraries that are ours but for one fault each: they touch a file that their caller did not name.
 use Rattle.std.specs.Prelude.{ℕ, Bool, cond, not, ◌&&◌, List, [], eqb, ltb}
 use Rattle.diskette.specs.Places.{slot_at, root_entries}
-use Rattle.names.specs.Reading.{name_given}
+use Rattle.names.specs.Reading.{name_given, name_bytes}
 use Rattle.stamps.specs.Stamps.{packed}
 use Rattle.stamps.specs.declared.Stamp.{Stamp}
 use Rattle.opened.specs.Aids.Places.{holds_file}
@@ -55,7 +55,7 @@ taking name attr stamp w =
     let l = w.image in
     let o = our_create name attr stamp w in
     cond (eqb o.number 0 && (no_file l name && (used_of w.table 0 && file_in l 0)))
-    (made_by (chain_freed (the_kind l) l (address_of l 0)) w.table (the_kind l) 0 (name_given name).name attr (packed stamp)) o
+    (made_by (chain_freed (the_kind l) l (address_of l 0)) w.table (the_kind l) 0 (name_bytes (name_given name)) attr (packed stamp)) o
 
 abbrev pub takes_first : Library
 takes_first = ours_but taking our_write our_delete

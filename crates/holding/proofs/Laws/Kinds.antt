@@ -1,5 +1,5 @@
 -- An image of a kind, sound or not, in the form of the code's needs.
-use Rattle.std.specs.Prelude.{ℕ, ◌+◌, ◌*◌, ◌≤◌, ◌<◌, List, ◌≡◌, length}
+use Rattle.std.specs.Prelude.{ℕ, ◌+◌, ◌*◌, ◌≤◌, ◌<◌, List, ◌≡◌, length, Some}
 use Rattle.std.proofs.Common.{arith}
 use Rattle.contents.specs.Aids.Contents.{Area}
 use Rattle.contents.proofs.Laws.Kinds.{area_kind}
@@ -8,10 +8,9 @@ use Rattle.diskette.specs.Aids.Usable.{Usable}
 use Rattle.diskette.proofs.Laws.Images.{image_of_kind, image_usable, image_has_area}
 use Rattle.diskette.specs.Places.{first_data, cluster_bytes, last_cluster, root_at, root_entries, slot_at}
 use Rattle.diskette.specs.declared.Kind.{Kind}
-use Rattle.diskette.specs.declared.WhichKind.TheVariants.{Known}
 use Rattle.table.specs.Entries.{word_at}
 
-module _ (img : List ℕ) (k : Kind) (e : kind_of_image img ≡ Known k) where
+module _ (img : List ℕ) (k : Kind) (e : kind_of_image img ≡ Some k) where
   pub usable : Usable k
   usable = image_usable img k e
 

@@ -54,23 +54,8 @@ pub number_apart : (l : List ℕ) (at : ℕ) (s : List ℕ) (b w : ℕ) → Apar
 number_apart l at s b w p =
     number_same (stored l at s) l b b w (λ i k. stored_outside l at s (b + i) (elim p [ inl q ↦ inr (omega arith) | inr q ↦ inl (omega arith) ]))
 
--- ---- in the form of the code's needs
+-- ---- two stores are the run of the two bytes
 
 pub put_word : (l : List ℕ) (at n : ℕ) → n < 65536 → set (set l at (n % 256)) (at + 1) (n / 256) ≡ stored l at (digits n 2)
 unfolding digits stored
 put_word l at n h = let e : n / 256 % 256 ≡ n / 256 = omega arith in rw e
-
-pub get_long : (l : List ℕ) (at r a b : ℕ) → a ≡ number l at 2 → b ≡ number l (at + 2) 2 → r ≡ a + 65536 * b → r ≡ number l at 4
-unfolding number
-get_long l at r a b p q e = let d : at + 1 + 1 ≡ at + 2 = omega arith in rw d (omega arith)
-
-pub put_long : (l m k : List ℕ) (at n : ℕ) → n < 4294967296 → m ≡ stored l at (digits (n % 65536) 2) → k ≡ stored m (at + 2) (digits (n / 65536) 2) → k ≡ stored l at (digits n 4)
-unfolding digits stored
-put_long l m k at n h p q =
-    let a : n % 65536 % 256 ≡ n % 256 = omega arith in
-    let f : n / 256 ≡ 256 * (n / 65536) + n % 65536 / 256 = omega arith in
-    let g : n / 256 / 256 ≡ n / 65536 = omega arith in
-    let z : n % 65536 / 256 / 256 ≡ 0 = omega arith in
-    let b : n % 65536 / 256 % 256 ≡ n / 256 % 256 = omega arith in
-    let e : at + 1 + 1 ≡ at + 2 = omega arith in
-    q ∙ rw (p, a, b, ← g, e)

@@ -1,9 +1,11 @@
 -- What is read after a store: inside it, outside it, the length, the bound of a byte.
 use Rattle.std.specs.Prelude.{ℕ, zero, suc, ◌+◌, ◌-◌, ◌≤◌, ◌<◌, ◌≡◌, refl, List, [], ◌∷◌, ◌++◌, ◌⊎◌}
-use Rattle.std.proofs.Common.{arith, add-one, sym, ◌∙◌, inl, inr, get_or-set_same, get_or-set_other, get_or-take, get_or-drop, drop-cons, ext_get_or}
+use Rattle.std.proofs.Common.{arith, add-one, append_assoc, sym, ◌∙◌, inl, inr, get_or-set_same, get_or-set_other, get_or-take, get_or-drop, drop-cons, ext_get_or}
 use Rattle.std.proofs.Math.Decide.{ℕ_discrete, dec_lt}
-use lib.ListN.{length, get_or, set, drop, replicate, length-set, length-take, length-drop}
+use lib.ListN.{length, get_or, set, take, drop, replicate, length-set, length-take, length-drop}
 use Rattle.std.proofs.Math.Seq.{set_out}
+use Rattle.std.proofs.lemmas.List.Edits.{sets, sets-eq}
+use borrow.Rule.Slice.PartMut.{put_mid, Post-is}
 use Rattle.image.specs.Bytes.{Bytes}
 use Rattle.image.specs.Store.{stored, part}
 use Rattle.image.specs.Aids.Ranges.{Outside, Apart}
@@ -155,9 +157,6 @@ part_apart l at s b n f p =
 
 -- ---- in the form of a loop that stores: what is left of s goes on from here
 
-pub stored_all : (l : List ℕ) (at : ℕ) (s : List ℕ) → stored l (at + 0) (drop 0 s) ≡ stored l at s
-stored_all l at s = let e : at + 0 ≡ at = omega arith in rw e
-
 pub stored_turn : (l m : List ℕ) (at : ℕ) (s : List ℕ) (i : ℕ) → i < length s → stored l (at + i) (drop i s) ≡ m → stored (set l (at + i) (get_or s i 0)) (at + (i + 1)) (drop (i + 1) s) ≡ m
 unfolding stored
 stored_turn l m at s i h inv =
@@ -169,19 +168,13 @@ pub stored_done : (l m : List ℕ) (at : ℕ) (s : List ℕ) (i : ℕ) → lengt
 unfolding stored
 stored_done l m at s i h inv = rw (lib.ListN.drop_of_length-le s h) at inv
 
-pub filled_all : (l : List ℕ) (at n v : ℕ) → stored l (at + 0) (replicate (n - 0) v) ≡ stored l at (replicate n v)
-filled_all l at n v =
-    let e : at + 0 ≡ at = omega arith in
-    let d : n - 0 ≡ n = omega arith in
-    rw (e, d)
+-- ---- in the form of a part that is written whole
 
-pub filled_turn : (l m : List ℕ) (at n v i : ℕ) → i < n → stored l (at + i) (replicate (n - i) v) ≡ m → stored (set l (at + i) v) (at + (i + 1)) (replicate (n - (i + 1)) v) ≡ m
+stored_sets : (l : List ℕ) (at : ℕ) (s : List ℕ) → stored l at s ≡ sets l at s
 unfolding stored
-filled_turn l m at n v i h inv =
-    let e : at + (i + 1) ≡ at + i + 1 = omega arith in
-    let d : n - i ≡ suc (n - (i + 1)) = omega arith in
-    rw e (rw d at inv)
+stored_sets l at [] = refl
+stored_sets l at (x ∷ xs) = rw add-one (stored_sets (set l at x) (suc at) xs)
 
-pub filled_done : (l m : List ℕ) (at n v i : ℕ) → n ≤ i → stored l (at + i) (replicate (n - i) v) ≡ m → l ≡ m
-unfolding stored
-filled_done l m at n v i h inv = let d : n - i ≡ 0 = omega arith in rw d at inv
+pub stored_part : (l w s : List ℕ) (at e : ℕ) → w ≡ s → e ≡ at + length s → e ≤ length l → put_mid at (e - at) l w ≡ stored l at s
+stored_part l w s at e p q h =
+    rw (Post-is at e l (omega arith), p, q) (sym (stored_sets l at s ∙ sets-eq s l at (omega arith) ∙ append_assoc (take at l) s (drop (at + length s) l)))

@@ -1,6 +1,7 @@
--- Two words side by side are the number of the four bytes.
-use Rattle.image.proofs.Laws.Numbers.{get_long}
+use Rattle.std.proofs.Common.{arith, add_assoc}
+use Rattle.image.specs.Numbers.{number}
 use Rattle.image.proofs.get32.Goals as goal
 
 pub returns : goal.returns
-returns c = search get_long
+unfolding number
+returns c = simp add_assoc (omega arith)

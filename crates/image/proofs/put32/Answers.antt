@@ -1,6 +1,8 @@
--- Two words side by side are the run of the four bytes.
-use Rattle.image.proofs.Laws.Numbers.{put_long}
+use Rattle.std.proofs.Common.{rules}
+use Rattle.image.specs.Numbers.{digits}
+use Rattle.image.proofs.Laws.Store.{stored_part}
 use Rattle.image.proofs.put32.Goals as goal
 
 pub returns : goal.returns
-returns c = search put_long
+unfolding digits
+returns c = search (rules, stored_part)

@@ -1,11 +1,12 @@
 -- What is promised over a row: only one outcome fits it, and the call over any bytes that say the row has that outcome.
-use Rattle.std.specs.Prelude.{ℕ, cond, List, ◌≡◌, eqb, ℤ}
+use Rattle.std.specs.Prelude.{ℕ, cond, List, ◌≡◌, refl, eqb, ℤ, Ok, Err}
 use Rattle.std.proofs.Common.{sym, ap, subst, ◌∙◌}
 use Rattle.image.specs.Bytes.{Bytes}
 use Rattle.stamps.specs.declared.Stamp.{Stamp}
 use Rattle.calls.specs.Outcome.{Outcome}
 use Rattle.calls.specs.Refusals.{place_found}
-use Rattle.calls.specs.declared.Answer.{Answer}
+use Rattle.calls.specs.Answers.{Answer, number_told, value_told}
+use Rattle.calls.specs.declared.refusal.Refusal.TheVariants.{InvalidFunction, FileNotFound, TooManyOpen, AccessDenied, InvalidHandle, InvalidAccess, NoMoreFiles, OfNoKind, Unsound, BreaksRules, OutOfRange}
 use Rattle.opening.specs.Open.{open_outcome}
 use Rattle.seeking.specs.Seek.{seek_outcome}
 use Rattle.closing.specs.Close.{close_outcome}
@@ -23,10 +24,40 @@ use Rattle.lending.proofs.Laws.OpenView.{number_by, opened, open_view}
 
 -- ---- only one outcome fits
 
+-- the answer that a number and a value tell
+answer_by : ℕ → ℕ → Answer
+answer_by n v =
+    cond (eqb n 1) (Err InvalidFunction)
+    (cond (eqb n 2) (Err FileNotFound)
+    (cond (eqb n 4) (Err TooManyOpen)
+    (cond (eqb n 5) (Err AccessDenied)
+    (cond (eqb n 6) (Err InvalidHandle)
+    (cond (eqb n 12) (Err InvalidAccess)
+    (cond (eqb n 18) (Err NoMoreFiles)
+    (cond (eqb n 40) (Err OfNoKind) (cond (eqb n 41) (Err Unsound) (cond (eqb n 42) (Err BreaksRules) (cond (eqb n 43) (Err OutOfRange) (Ok v)))))))))))
+
+told_back : (a : Answer) → answer_by (number_told a) (value_told a) ≡ a
+unfolding answer_by
+told_back (Ok v) = refl
+told_back (Err InvalidFunction) = refl
+told_back (Err FileNotFound) = refl
+told_back (Err TooManyOpen) = refl
+told_back (Err AccessDenied) = refl
+told_back (Err InvalidHandle) = refl
+told_back (Err InvalidAccess) = refl
+told_back (Err NoMoreFiles) = refl
+told_back (Err OfNoKind) = refl
+told_back (Err Unsound) = refl
+told_back (Err BreaksRules) = refl
+told_back (Err OutOfRange) = refl
+
+told_only : {a a' : Answer} → number_told a ≡ number_told a' → value_told a ≡ value_told a' → a ≡ a'
+told_only {a} {a'} n v = sym (told_back a) ∙ ap (λ m. answer_by m (value_told a)) n ∙ ap (answer_by (number_told a')) v ∙ told_back a'
+
 pub leaves_only : {o : Outcome} {a a' : Answer} {image image' : List ℕ} {row row' : List OpenRecord} {buffer buffer' : List ℕ}
     → LeavesRow o a image row buffer → LeavesRow o a' image' row' buffer' → (a ≡ a') × (image ≡ image') × (row ≡ row') × (buffer ≡ buffer')
 leaves_only x y = (
-  rw (x.number_is ∙ sym y.number_is, x.value_is ∙ sym y.value_is),
+  told_only (x.number_is ∙ sym y.number_is) (x.value_is ∙ sym y.value_is),
   x.image_is ∙ sym y.image_is,
   x.row_is ∙ sym y.row_is,
   x.buffer_is ∙ sym y.buffer_is,

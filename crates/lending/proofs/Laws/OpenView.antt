@@ -1,9 +1,7 @@
 -- Open over bytes, by the place that is free.
-use Rattle.std.specs.Prelude.{ℕ, ◌<◌, Bool, true, false, cond, not, ◌&&◌, List, [], ◌∷◌, ◌≡◌, refl, eqb, ltb}
+use Rattle.std.specs.Prelude.{ℕ, ◌<◌, Bool, true, false, cond, not, ◌&&◌, List, [], ◌∷◌, ◌≡◌, refl, eqb, ltb, Option, Some, None, Ok}
 use Rattle.std.proofs.Common.{arith, sym, ap, ◌∙◌, eqb-true}
 use Rattle.search.specs.Search.{is_found}
-use Rattle.search.specs.declared.Found.{Found}
-use Rattle.search.specs.declared.Found.TheVariants.{At, Nothing}
 use Rattle.opened.specs.Records.{place_count, record_bytes, with_record}
 use Rattle.opened.specs.Places.{lowest_unused}
 use Rattle.opened.proofs.Laws.Stores.{length_record, whole_place, record_only}
@@ -40,9 +38,9 @@ module _ (t : List ℕ) (p : ℕ) (k : p < place_count t) (access slot pointer :
 pub free_alike : (row : List OpenRecord) → AllFit row → lowest_unused (bytes_of row) ≡ lowest_unused_in row
 free_alike row fits = sym (unused_alike (bytes_of row)) ∙ ap lowest_unused_in (bytes_back row fits)
 
-pub free_fits : (row : List OpenRecord) → AllFit row → (f : Found) → f ≡ lowest_unused_in row → place_found f < 4294967296
-free_fits row fits (At p) e = unused_fits (bytes_of row) (At p) (e ∙ sym (free_alike row fits)) p refl
-free_fits row fits Nothing e = omega arith
+pub free_fits : (row : List OpenRecord) → AllFit row → (f : Option ℕ) → f ≡ lowest_unused_in row → place_found f < 4294967296
+free_fits row fits (Some p) e = unused_fits (bytes_of row) (Some p) (e ∙ sym (free_alike row fits)) (Ok p) refl p refl
+free_fits row fits None e = omega arith
 
 -- ---- open by the place that is free
 
@@ -69,10 +67,10 @@ module _ (img s : List ℕ) (access : ℕ) where
       ∷ []
 
   -- the number that it answers
-  abbrev pub number_by : Found → ℕ
+  abbrev pub number_by : Option ℕ → ℕ
   number_by f = refusal (rows_by (not (is_found f)))
 
-  none_refused : 0 < number_by Nothing
+  none_refused : 0 < number_by None
   none_refused =
       still_refused _ of_no_kind _ (omega arith)
       (still_refused _ unsound _ (omega arith)
@@ -85,24 +83,24 @@ module _ (img s : List ℕ) (access : ℕ) where
   abbrev pub opened : OpenRecord
   opened = record_of (record_bytes true access (file_slot img s) 0 false) 0
 
-  pub record OpenView (t : List ℕ) (f : Found) (o : Outcome) : Type 0 where
+  pub record OpenView (t : List ℕ) (f : Option ℕ) (o : Outcome) : Type 0 where
     pub number : o.number ≡ number_by f
     pub value : o.value ≡ cond (eqb (number_by f) 0) (place_found f) 0
     pub image : o.image ≡ img
     pub buffer : o.buffer ≡ []
     pub row : row_of o.table ≡ cond (eqb (number_by f) 0) (with_record_at (row_of t) (place_found f) opened) (row_of t)
 
-  counted : (t : List ℕ) (f : Found) → lowest_unused t ≡ f → number_by f ≡ 0 → place_found f < place_count t
-  counted t (At p) e z = unused_below t (At p) (sym e) p refl
-  counted t Nothing e z = absurd (omega (arith, none_refused))
+  counted : (t : List ℕ) (f : Option ℕ) → lowest_unused t ≡ f → number_by f ≡ 0 → place_found f < place_count t
+  counted t (Some p) e z = unused_below t (Some p) (sym e) (Ok p) refl p refl
+  counted t None e z = absurd (omega (arith, none_refused))
 
-  by_test : (t : List ℕ) (f : Found) → lowest_unused t ≡ f → (z : Bool) → eqb (number_by f) 0 ≡ z
+  by_test : (t : List ℕ) (f : Option ℕ) → lowest_unused t ≡ f → (z : Bool) → eqb (number_by f) 0 ≡ z
       → OpenView t f (cond z (outcome 0 (place_found f) img (with_record t (place_found f) access (file_slot img s) 0 false) []) (outcome (number_by f) 0 img t []))
   by_test t f e true z =
       let n = eqb-true (number_by f) 0 z in
       record { number = sym n; value = rw z; image = refl; buffer = refl; row = rw z (row_taken t (place_found f) (counted t f e n) access (file_slot img s) 0 false) }
   by_test t f e false z = record { number = refl; value = rw z; image = refl; buffer = refl; row = rw z }
 
-  pub open_view : (t : List ℕ) (f : Found) → lowest_unused t ≡ f → OpenView t f (open_outcome img t s access)
+  pub open_view : (t : List ℕ) (f : Option ℕ) → lowest_unused t ≡ f → OpenView t f (open_outcome img t s access)
   unfolding open_outcome decided
   open_view t f e = rw e (by_test t f e (eqb (number_by f) 0) refl)

@@ -13,6 +13,7 @@ use Rattle.opened.proofs.Laws.Uses.{only_count}
 use Rattle.calls.specs.Outcome.{Row, Outcome, outcome, decided}
 use Rattle.calls.specs.Numbers.{of_no_kind, unsound, invalid_function, out_of_range, invalid_handle, access_denied}
 use Rattle.calls.specs.Refusals.{the_kind, not_of_kind, not_sound, bad_stamp, not_live, address_of}
+use Rattle.calls.specs.Answers.{value_told}
 use Rattle.seeking.specs.Seek.{answer_of, seek_base, seek_moved, is_beyond, seek_effect, seek_outcome}
 use Rattle.closing.specs.Close.{close_effect, close_outcome}
 use Rattle.reading.specs.Read.{read_count, read_effect, read_outcome}
@@ -111,7 +112,7 @@ module _ (t : List ℕ) (h : ℕ) (t' : List ℕ) (h' : ℕ) (e : record_at (row
         (live_row x x' [] _ _
         (λ w.
         let m = leads_same w in
-        let v = ap (λ y. (answer_of y).value) m in
+        let v = ap (λ y. value_told (answer_of y)) m in
         last_row x x' [] _ _ (ap is_beyond m) invalid_function (omega arith) (moved_same w _ _ v _ _ v [] [] refl))))
 
   module _ (buf : List ℕ) where

@@ -3,7 +3,7 @@ use Rattle.std.specs.Prelude.{ℕ, zero, suc, List, [], ◌∷◌, ◌≡◌, re
 use Rattle.std.proofs.Common.{arith, sym, ap, ◌∙◌}
 use Rattle.stamps.specs.declared.Stamp.{Stamp}
 use Rattle.calls.specs.Outcome.{Outcome}
-use Rattle.calls.specs.declared.Answer.{Answer}
+use Rattle.calls.specs.Answers.{Answer}
 use Rattle.seeking.specs.Seek.{seek_outcome}
 use Rattle.closing.specs.Close.{close_outcome}
 use Rattle.reading.specs.Read.{read_outcome}

@@ -1,12 +1,19 @@
 -- The call on the place that is free, put there where it was taken.
-use Rattle.lending.proofs.Laws.OpenView.{free_fits}
-use Rattle.lending.proofs.Laws.OpenThrough.{open_through}
+use Rattle.calls.proofs.Laws.Exits.{exits}
+use Rattle.lending.proofs.Laws.OpenThrough.{open_refused, place_fits, open_well}
 use Rattle.lending.proofs.open.Goals as goal
 
-pub open_at-done-requires : goal.open_at-done-requires
-open_at-done-requires c = free_fits c.args.row.now c.all_fit.ensures.fit c.lowest_unused-free.result c.lowest_unused-free.ensures
+pub returns-in_err-place : goal.returns-in_err-place
+returns-in_err-place c =
+    open_refused c.args.img.now c.args.s.now c.args.access c.args.row.now c.all_fit.ensures.fit c.lowest_unused-free.result c.lowest_unused-free.ensures _ c.open_at.ensures
+    _ c.in_err-place.was _ (exits c.from_residual.ensures.1)
+
+pub overflow_cast-result : goal.overflow_cast-result
+overflow_cast-result c =
+    record {
+      fits = place_fits c.args.img.now c.args.s.now c.args.access c.args.row.now c.all_fit.ensures.fit c.lowest_unused-free.result c.lowest_unused-free.ensures _ c.open_at.ensures
+          _ _ c.in_ok-place.was;
+    }
 
 pub returns : goal.returns
-returns c =
-    open_through c.args.img.now c.args.s.now c.args.access c.args.row.now c.all_fit.ensures.fit c.lowest_unused-free.result c.lowest_unused-free.ensures
-    c.open_at-done.result.answer c.open_at-done.result.place c.open_at-done.result.held c.open_at-done.ensures c.put_record.new.row c.put_record.ensures
+returns c = search (open_well, c.in_ok-place.was, c.all_fit.ensures.fit)

@@ -1,17 +1,15 @@
--- What a place is decides whether the search ends there.
-use Rattle.std.proofs.Common.{arith}
-use Rattle.records.proofs.Laws.Turns.{miss, unused_hit, unused_done}
-use Rattle.records.specs.Row.{unused_in}
+-- The chain asks the places in turn.
+use Rattle.std.proofs.Common.{not, true, false, ◌≡◌, rules}
+use borrow.Author.Tests.{tests}
+use Rattle.std.proofs.lemmas.Iterator.{IsFirst-from_position, YieldsList-from_take, YieldsList-from_slice}
+use Rattle.records.specs.Row.{lowest_unused_in}
+use Rattle.records.specs.declared.OpenRecord.{OpenRecord}
+use Rattle.records.proofs.Laws.Searches.{first_is}
 use Rattle.lent.proofs.lowest_unused.Goals as goal
 
-pub returns-then-not-row-place : goal.returns-then-not-row-place
-returns-then-not-row-place c = unused_hit c.args.row.now c.loop-place.place c.loop-place.invariant.1 c.if-place-lt16.true c.loop-place-test.true (rw c.if-not-row-place.true tt)
-
-pub loop-place-preserved : goal.loop-place-preserved
-loop-place-preserved c = (omega arith, miss (unused_in c.args.row.now) c.args.row.now c.loop-place.place c.loop-place.invariant.1 c.if-place-lt16.true c.loop-place-test.true (rw c.if-not-row-place.false tt))
-
-pub returns-else-place-lt16 : goal.returns-else-place-lt16
-returns-else-place-lt16 c = unused_done c.args.row.now c.loop-place.place c.loop-place.invariant.1 (omega arith)
-
-pub returns-after-loop-place : goal.returns-after-loop-place
-returns-after-loop-place c = unused_done c.args.row.now c.loop-place.place c.loop-place.invariant.1 (omega arith)
+pub returns : goal.returns
+unfolding lowest_unused_in
+returns c =
+    first_is (λ (r : OpenRecord). not r.used) c.args.row.now _
+    (IsFirst-from_position _ _ _ (λ (r : OpenRecord). not r.used ≡ true) (λ (r : OpenRecord). not r.used ≡ false) c.position.ensures.ran (YieldsList-from_take 16 (YieldsList-from_slice c.args.row.now cc) cc)
+    (λ x q k. search (rules, tests)) (λ x q k. search (rules, tests)))

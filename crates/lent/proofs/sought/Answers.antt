@@ -1,12 +1,10 @@
--- A method above 2, a sum beyond the ends, or the pointer that the sum is.
-use Rattle.records.proofs.Laws.Seek.{sought_method, sought_beyond, sought_well}
+-- A method above 2, or what the sum is.
+use Rattle.calls.proofs.Laws.Exits.{exits}
+use Rattle.records.proofs.Laws.Seek.{sought_method, sought_by}
 use Rattle.lent.proofs.sought.Goals as goal
 
-pub returns-then-method-gt2 : goal.returns-then-method-gt2
-returns-then-method-gt2 c = search sought_method
+pub returns-in_err-try_from : goal.returns-in_err-try_from
+returns-in_err-try_from c = search (sought_method, exits c.from_residual.ensures.1, c.in_err-try_from.ensures)
 
-pub returns-in-Beyond : goal.returns-in-Beyond
-returns-in-Beyond c = search sought_beyond
-
-pub returns-in-To : goal.returns-in-To
-returns-in-To c = search sought_well
+pub returns : goal.returns
+returns c = search (sought_by, c.in_ok-try_from.ensures)

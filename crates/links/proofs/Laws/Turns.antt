@@ -1,9 +1,10 @@
 -- The turns of the loops, in the shape of their needs: whole is what a loop shall come to.
 use Prim.Native.Nat.{ℕ, zero, suc, ◌+◌, ◌-◌, ◌≤◌, ◌<◌}
 use native.Mathlib.Omega.{arith}
-use Rattle.std.proofs.Math.Decide.{ℕ_discrete}
-use Rattle.std.specs.Prelude.{cond, List, [], ◌∷◌, ◌≢◌, ◌≡◌, eqb, length, get_or, take}
+use Rattle.std.proofs.Math.Decide.{ℕ_discrete, dec_le}
+use Rattle.std.specs.Prelude.{cond, List, [], ◌∷◌, Option, Some, None, MatchOption, unwrap_or, ◌⊎◌, ◌≢◌, ◌≡◌, eqb, length, get_or, take}
 use Rattle.std.proofs.Common.{inl, inr, ◌∙◌}
+use Rattle.std.proofs.Math.Bool.{and-false}
 use Rattle.std.proofs.Math.Path.{refl, sym, ap}
 use borrow.Author.Tests.{le-leb, lt-leb, eq-eqb, ne_eqb}
 use Rattle.chains.specs.Values.{linkb}
@@ -11,7 +12,7 @@ use Rattle.chains.specs.Free.{free_from, free_clusters}
 use Rattle.chains.proofs.Laws.FreeTurns as free
 use Rattle.table.specs.Entries.{entry_of, set_both, table_of}
 use Rattle.table.specs.Aids.Copies.{Reaches}
-use Rattle.table.proofs.Laws.View.{table_inside, table_outside}
+use Rattle.table.proofs.Laws.View.{table_inside}
 use Rattle.links.specs.Aids.Freed.{freed_from}
 use Rattle.links.specs.Linked.{linked_to}
 use Rattle.links.specs.Aids.Linked.{new_clusters, next_free, linked_from, first_from, Added}
@@ -25,21 +26,15 @@ reaches_long second l m last c r e h = record { low = omega arith; high = omega 
 
 -- ---- a chain freed: i of its n clusters are done
 
-pub freed_all : (second last : ℕ) (l : List ℕ) (n c : ℕ) → freed_from second last l (n - 0) c ≡ freed_from second last l n c
-freed_all second last l n c = let e : n - 0 ≡ n = omega arith in rw e refl
-
 module _ (second last : ℕ) (l : List ℕ) (n i c : ℕ) (whole : List ℕ) (inv : freed_from second last l (n - i) c ≡ whole) (h : i < n) where
   freed_once : freed_from second last l (n - i) c ≡ cond (linkb last c) (freed_from second last (set_both second l c 0) (n - (i + 1)) (entry_of l c)) l
   unfolding freed_from
   freed_once = let e : n - i ≡ suc (n - (i + 1)) = omega arith in ap (λ (k : ℕ). freed_from second last l k c) e
 
-  pub freed_low : c < 2 → l ≡ whole
+  pub freed_stops : (c < 2) ⊎ (last < c) → l ≡ whole
   unfolding linkb
-  freed_low p = sym (freed_once ∙ rw (lt-leb 2 c p)) ∙ inv
-
-  pub freed_high : 2 ≤ c → last < c → l ≡ whole
-  unfolding linkb
-  freed_high q p = sym (freed_once ∙ rw (le-leb 2 c q, lt-leb c last p)) ∙ inv
+  freed_stops (inl p) = sym (freed_once ∙ rw (lt-leb 2 c p)) ∙ inv
+  freed_stops (inr p) = sym (freed_once ∙ rw (lt-leb c last p, and-false)) ∙ inv
 
   pub freed_turn : (m : List ℕ) (e : ℕ) → m ≡ set_both second l c 0 → e ≡ entry_of l c → 2 ≤ c → c ≤ last → freed_from second last m (n - (i + 1)) e ≡ whole
   unfolding linkb
@@ -49,32 +44,39 @@ pub freed_end : (second last : ℕ) (l : List ℕ) (n i c : ℕ) (whole : List �
 unfolding freed_from
 freed_end second last l n i c whole inv h = let e : n - i ≡ 0 = omega arith in rw e at inv
 
--- ---- the value of an entry
-
-module _ (last : ℕ) (l : List ℕ) (c : ℕ) where
-  pub value_low : c < 2 → 0 ≡ table_of last l c
-  value_low h = sym (table_outside last l c (inl h))
-
-  pub value_high : last < c → 0 ≡ table_of last l c
-  value_high h = sym (table_outside last l c (inr h))
-
-  pub value_inside : (e : ℕ) → e ≡ entry_of l c → 2 ≤ c → c ≤ last → e ≡ table_of last l c
-  value_inside e r h k = r ∙ sym (table_inside last l c h k)
-
 -- ---- the search for a free cluster
 
-module _ (last : ℕ) (l : List ℕ) (c whole : ℕ) (inv : next_free last l c ≡ whole) where
-  pub next_hit : (e : ℕ) → e ≡ entry_of l c → 2 ≤ c → c ≤ last → e ≡ 0 → c ≡ whole
+module _ (last : ℕ) (l : List ℕ) where
+  next_hit : (c : ℕ) → 2 ≤ c → c ≤ last → entry_of l c ≡ 0 → c ≡ next_free last l c
   unfolding next_free
-  next_hit e r h k z = free.lowest_hit (table_of last l) last c e whole k (r ∙ sym (table_inside last l c h k)) z inv
+  next_hit c h k z = free.lowest_hit (table_of last l) last c 0 (next_free last l c) k (sym (table_inside last l c h k ∙ z)) refl refl
 
-  pub next_miss : (e : ℕ) → e ≡ entry_of l c → 2 ≤ c → c ≤ last → e ≢ 0 → next_free last l (c + 1) ≡ whole
+  -- none of k clusters is free
+  next_behind : (k c : ℕ) → 2 ≤ c → c + k ≤ last + 1 → ((j : ℕ) → c ≤ j → j < c + k → entry_of l j ≢ 0) → next_free last l (c + k) ≡ next_free last l c
   unfolding next_free
-  next_miss e r h k z = free.lowest_miss (table_of last l) last c e whole k (r ∙ sym (table_inside last l c h k)) z inv
+  next_behind zero c h f taken = let e : c + 0 ≡ c = omega arith in rw e
+  next_behind (suc k) c h f taken =
+      let e : c + suc k ≡ c + 1 + k = omega arith in
+      let one : next_free last l (c + 1) ≡ next_free last l c =
+      free.lowest_miss (table_of last l) last c (entry_of l c) (next_free last l c) (omega arith) (sym (table_inside last l c h (omega arith))) (taken c (omega arith) (omega arith)) refl in
+      rw e (next_behind k (c + 1) (omega arith) (omega arith) (λ j a b. taken j (omega arith) (omega arith)) ∙ one)
 
-  pub next_end : last < c → 0 ≡ whole
+  next_none : (c : ℕ) → last < c → 0 ≡ next_free last l c
   unfolding next_free
-  next_end h = free.lowest_end (table_of last l) last c whole h inv
+  next_none c h = free.lowest_end (table_of last l) last c (next_free last l c) h refl
+
+  pub next_found : (c : ℕ) (r : Option ℕ) → 2 ≤ c
+      → MatchOption r ((k : ℕ) → c ≤ k → k < last + 1 → entry_of l k ≢ 0) (λ i. (c ≤ i) × (i < last + 1) × (entry_of l i ≡ 0) × ((k : ℕ) → c ≤ k → k < i → entry_of l k ≢ 0))
+      → unwrap_or r 0 ≡ next_free last l c
+  next_found c (Some i) h w =
+      let e : c + (i - c) ≡ i = omega (arith, w.0) in
+      next_hit i (omega (arith, w.0)) (omega (arith, w.1)) w.2 ∙ (rw e at (next_behind (i - c) c h (omega (arith, w.0, w.1)) (λ j a b. w.3 j a (omega (arith, w.0)))))
+  next_found c None h w = elim (dec_le c last) [
+    | no d ↦ next_none c (omega arith)
+    | yes d ↦
+        let e : c + (last + 1 - c) ≡ last + 1 = omega arith in
+        next_none (last + 1) (omega arith) ∙ (rw e at (next_behind (last + 1 - c) c h (omega arith) (λ j a b. w j a (omega arith))))
+  ]
 
 -- ---- clusters added
 
@@ -155,8 +157,8 @@ module _ (first last : ℕ) (l : List ℕ) (c n whole : ℕ) (inv : first_from f
 
 module _ (second last : ℕ) (l₀ : List ℕ) (prev₀ n₀ : ℕ) (first : ℕ) (l : List ℕ) (prev c n : ℕ)
     (image : linked_from second last l prev c n ≡ linked_from second last l₀ prev₀ 2 n₀) (answer : first_from first last l c n ≡ get_or (new_clusters last l₀ n₀) 0 0) where
-  pub added_none : 0 < n → (d : ℕ) → d ≡ next_free last l c → d ≡ 0 → Added second last l₀ prev₀ n₀ first l
-  added_none h d r z = record { first = first_none first last l c n _ answer h d r z; image = linked_none second last l prev c n _ image h d r z }
+  pub added_none : 0 < n → 0 ≡ next_free last l c → Added second last l₀ prev₀ n₀ first l
+  added_none h r = record { first = first_none first last l c n _ answer h 0 r refl; image = linked_none second last l prev c n _ image h 0 r refl }
 
   pub added_end : n ≤ 0 → Added second last l₀ prev₀ n₀ first l
   added_end h = record { first = first_end first last l c n _ answer h; image = linked_end second last l prev c n _ image h }

@@ -1,21 +1,13 @@
-use Rattle.std.proofs.Common.{rules}
-use Rattle.links.proofs.Laws.Turns.{reaches_long, freed_all, freed_low, freed_high, freed_turn, freed_end}
+use Rattle.std.proofs.Common.{arith, ◌∙◌}
+use Rattle.std.proofs.lemmas.Grind.{common_steps}
+use Rattle.links.proofs.Laws.Turns.{freed_stops, freed_turn, freed_end}
 use Rattle.links.proofs.free_chain.Goals as goal
 
-pub loop-done-init : goal.loop-done-init
-loop-done-init c = search (rules, freed_all)
+pub returns-then-not-contains : goal.returns-then-not-contains
+returns-then-not-contains c = freed_stops _ _ _ _ _ _ _ c.loop.invariant c.loop-test.true (grind (arith, common_steps))
 
-pub returns-then-cluster-lt2 : goal.returns-then-cluster-lt2
-returns-then-cluster-lt2 c = search freed_low
-
-pub returns-then-last-cluster : goal.returns-then-last-cluster
-returns-then-last-cluster c = search freed_high
-
-pub set_entry-requires : goal.set_entry-requires
-set_entry-requires c = search (rules, reaches_long)
-
-pub loop-done-preserved : goal.loop-done-preserved
-loop-done-preserved c = search (rules, freed_turn)
+pub loop-preserved : goal.loop-preserved
+loop-preserved c = freed_turn _ _ _ _ _ _ _ c.loop.invariant c.loop-test.true _ _ c.set_entry.ensures (c.from-next.ensures ∙ c.entry.ensures) (grind (arith, common_steps)) (grind (arith, common_steps))
 
 pub returns : goal.returns
 returns c = search freed_end

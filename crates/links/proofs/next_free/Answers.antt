@@ -1,12 +1,11 @@
-use Rattle.std.proofs.Common.{rules}
-use Rattle.links.proofs.Laws.Turns.{next_hit, next_miss, next_end}
+-- The first of the clusters from here on whose entry is 0 is the lowest free one.
+use Rattle.std.proofs.Common.{◌≡◌, ◌≢◌, rules, tests}
+use Rattle.std.proofs.lemmas.Iterator.{first_from_Range}
+use Rattle.table.specs.Entries.{entry_of}
+use Rattle.links.proofs.Laws.Turns.{next_found}
 use Rattle.links.proofs.next_free.Goals as goal
 
-pub returns-then-entry-eq0 : goal.returns-then-entry-eq0
-returns-then-entry-eq0 c = search (rules, next_hit)
-
-pub loop-cluster-preserved : goal.loop-cluster-preserved
-loop-cluster-preserved c = search (rules, next_miss)
-
-pub returns : goal.returns
-returns c = search (rules, next_end)
+pub returns-clause-value : goal.returns-clause-value
+returns-clause-value c =
+    let l = c.args.img.now in
+    next_found _ _ _ _ c.requires.le_from (first_from_Range _ _ _ _ (λ x. entry_of l x ≡ 0) (λ x. entry_of l x ≢ 0) c.find.ensures.ran (λ x q k. search (rules, tests)) (λ x q k. search (rules, tests)))

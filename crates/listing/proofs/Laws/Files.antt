@@ -1,71 +1,50 @@
--- The loop over the slots: what is left of the files' text, put from here on, gives the whole.
-use Rattle.std.specs.Prelude.{ℕ, suc, ◌+◌, ◌*◌, ◌-◌, ◌≤◌, ◌<◌, Bool, true, false, List, [], ◌++◌, ◌≡◌, length}
+-- The files' text, slot by slot.
+use Rattle.std.specs.Prelude.{ℕ, zero, suc, ◌+◌, Bool, true, false, List, ◌++◌, ◌≡◌}
 use native.Mathlib.Omega.{arith}
-use Rattle.std.proofs.Common.{sym, ◌∙◌, ap, length-append}
-use Rattle.image.specs.Store.{stored}
-use Rattle.image.proofs.Laws.Store.{stored_append}
+use Rattle.std.proofs.Common.{sym, ◌∙◌}
+use Rattle.std.proofs.lemmas.List.{append_assoc, append-nil}
 use Rattle.fields.specs.Fields.{name_of, attr_of, time_of, date_of, start_of, size_of}
 use Rattle.directory.specs.Slots.{standing_of, is_plain}
-use Rattle.text.specs.Aids.Puts.{PutsIn}
+use Rattle.text.specs.declared.page.Page.{Page}
+use Rattle.text.specs.Aids.Pages.{Adds}
+use Rattle.text.proofs.Laws.Pages.{adds_nothing, adds_then}
 use Rattle.lines.specs.Lines.{file_text}
-use Rattle.lines.specs.Aids.Rooms.{file_room}
-use Rattle.text.proofs.Laws.Puts.{puts_nothing}
 use Rattle.listing.specs.Listing.{entry_text, slot_text, files_text}
 
 -- ---- a slot
 
 -- the fields as they were read
-pub puts_entry : (l : List ℕ) (a : ℕ) (name : List ℕ) (attr size start date time : ℕ) (o : List ℕ) (at r : ℕ) (m : List ℕ)
+pub adds_entry : (l : List ℕ) (a : ℕ) (name : List ℕ) (attr size start date time : ℕ) (p q : Page)
     → name ≡ name_of l a → attr ≡ attr_of l a → size ≡ size_of l a → start ≡ start_of l a → date ≡ date_of l a → time ≡ time_of l a
-    → PutsIn file_room (file_text name attr size start date time) o at r m → PutsIn file_room (entry_text l a) o at r m
+    → Adds (file_text name attr size start date time) p q → Adds (entry_text l a) p q
 unfolding entry_text
-puts_entry l a name attr size start date time o at r m p q s t u v w = rw (← p, ← q, ← s, ← t, ← u, ← v) w
+adds_entry l a name attr size start date time p q e f g h i j k = rw (← e, ← f, ← g, ← h, ← i, ← j) k
 
 module _ (l : List ℕ) (a : ℕ) (b : Bool) (is : b ≡ is_plain (standing_of l a)) where
-  pub puts_slot : (o : List ℕ) (at r : ℕ) (m : List ℕ) → b ≡ true → PutsIn file_room (entry_text l a) o at r m → PutsIn file_room (slot_text l a) o at r m
+  pub adds_slot : (p q : Page) → b ≡ true → Adds (entry_text l a) p q → Adds (slot_text l a) p q
   unfolding slot_text
-  puts_slot o at r m e p = rw (sym is ∙ e) p
+  adds_slot p q e f = rw (sym is ∙ e) f
 
-  pub puts_no_file : (o : List ℕ) (at : ℕ) → b ≡ false → PutsIn file_room (slot_text l a) o at at o
+  pub adds_no_file : (p : Page) → b ≡ false → Adds (slot_text l a) p p
   unfolding slot_text
-  puts_no_file o at e = rw (sym is ∙ e) (record { puts = puts_nothing o at; room = omega arith })
+  adds_no_file p e = rw (sym is ∙ e) (adds_nothing p)
 
 -- ---- the slots
 
-files_next : (l : List ℕ) (way : ℕ → ℕ) (s count : ℕ) → s < count → files_text l way s (count - s) ≡ slot_text l (way s) ++ files_text l way (s + 1) (count - (s + 1))
+pub adds_no_slots : (l : List ℕ) (way : ℕ → ℕ) (s : ℕ) (p : Page) → Adds (files_text l way s 0) p p
 unfolding files_text
-files_next l way s count h = let e : count - s ≡ suc (count - (s + 1)) = omega arith in rw e
+adds_no_slots l way s p = adds_nothing p
 
-files_none : (l : List ℕ) (way : ℕ → ℕ) (s count : ℕ) → count ≤ s → files_text l way s (count - s) ≡ []
+-- one slot more
+files_more : (l : List ℕ) (way : ℕ → ℕ) (s n : ℕ) → files_text l way s (suc n) ≡ files_text l way s n ++ slot_text l (way (s + n))
 unfolding files_text
-files_none l way s count h = let e : count - s ≡ 0 = omega arith in rw e
+files_more l way s zero = let e : s + 0 ≡ s = omega arith in rw e (append-nil (slot_text l (way s)))
+files_more l way s (suc n) =
+    let e : s + suc n ≡ s + 1 + n = omega arith in
+    rw (e, files_more l way (s + 1) n) (sym (append_assoc (slot_text l (way s)) (files_text l way (s + 1) n) (slot_text l (way (s + 1 + n)))))
 
-module _ (l : List ℕ) (way : ℕ → ℕ) (count : ℕ) (o : List ℕ) (at : ℕ) where
-  files_all : files_text l way 0 (count - 0) ≡ files_text l way 0 count
-  files_all = let e : count - 0 ≡ count = omega arith in rw e
-
-  pub all_bytes : stored o at (files_text l way 0 (count - 0)) ≡ stored o at (files_text l way 0 count)
-  all_bytes = rw files_all
-
-  pub all_end : at + length (files_text l way 0 (count - 0)) ≡ at + length (files_text l way 0 count)
-  all_end = rw files_all
-
-module _ (l : List ℕ) (way : ℕ → ℕ) (count : ℕ) (o₀ o : List ℕ) (at next s : ℕ) (bytes : stored o next (files_text l way s (count - s)) ≡ stored o₀ at (files_text l way 0 count)) (end : next + length (files_text l way s (count - s)) ≡ at + length (files_text l way 0 count)) where
-  module _ (r : ℕ) (m : List ℕ) (h : s < count) (p : PutsIn file_room (slot_text l (way s)) o next r m) where
-    pub files_bytes : stored m r (files_text l way (s + 1) (count - (s + 1))) ≡ stored o₀ at (files_text l way 0 count)
-    files_bytes =
-        let t : List ℕ = files_text l way (s + 1) (count - (s + 1)) in
-        rw (p.puts.stores, p.puts.next, ← stored_append o next (slot_text l (way s)) t, ← files_next l way s count h) bytes
-
-    pub files_end : r + length (files_text l way (s + 1) (count - (s + 1))) ≡ at + length (files_text l way 0 count)
-    files_end =
-        let t : List ℕ = files_text l way (s + 1) (count - (s + 1)) in
-        omega (arith, p.puts.next, length-append (slot_text l (way s)) t, ap length (files_next l way s count h), end)
-
-  pub puts_files : count ≤ s → s ≤ count → next ≤ at + file_room * s → PutsIn (file_room * count) (files_text l way 0 count) o₀ at next o
-  unfolding stored
-  puts_files h k f =
-      record {
-        puts = record { stores = rw (files_none l way s count h) at bytes; next = omega (arith, rw (files_none l way s count h) at end) };
-        room = omega arith;
-      }
+pub adds_more_slots : (l : List ℕ) (way : ℕ → ℕ) (n : ℕ) (p q r : Page) → Adds (files_text l way 0 n) p q → Adds (slot_text l (way n)) q r → Adds (files_text l way 0 (n + 1)) p r
+adds_more_slots l way n p q r f g =
+    let d : n + 1 ≡ suc n = omega arith in
+    let e : 0 + n ≡ n = omega arith in
+    rw (d, files_more l way 0 n, e) (adds_then (files_text l way 0 n) (slot_text l (way n)) p q r f g)

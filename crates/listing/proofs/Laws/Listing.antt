@@ -2,10 +2,9 @@
 use Prim.Native.Nat.{ℕ, ◌+◌, ◌*◌, ◌≤◌, ◌<◌}
 use Rattle.std.proofs.Common.{arith, sym, ◌∙◌, subst, le-leb}
 use mathlib.Core.List.{List, []}
-use Rattle.std.specs.Prelude.{◌≡◌, eqb, length}
+use Rattle.std.specs.Prelude.{◌≡◌, eqb, length, Option, Some, None, Result, Ok, Err}
 use Rattle.std.proofs.Math.Path.{ap}
 use Rattle.std.proofs.lemmas.Bool.{lt-leb}
-use Rattle.image.proofs.Laws.Store.{length_stored}
 use Rattle.diskette.specs.Kinds.{named}
 use Rattle.diskette.specs.Aids.Usable.{Usable}
 use Rattle.diskette.specs.Places.{clusters, root_entries, root_at, slot_from, slot_at}
@@ -13,18 +12,17 @@ use Rattle.diskette.specs.Images.{AreaOf, kind_of_area}
 use Rattle.diskette.proofs.Laws.Kinds.{OfKnown, of_cond}
 use Rattle.diskette.proofs.Laws.Images.{area_of_kind, area_usable}
 use Rattle.diskette.specs.declared.Kind.{Kind}
-use Rattle.diskette.specs.declared.WhichKind.{WhichKind}
-use Rattle.diskette.specs.declared.WhichKind.TheVariants.{Known, Unknown}
 use Rattle.sound.specs.Answer.{AnswersBy, CheckedArea}
 use Rattle.sound.specs.Judged.{check_of_area}
 use Rattle.sound.proofs.Laws.OneAnswer.{area_is}
 use Rattle.sound.specs.declared.Counts.{Counts}
-use Rattle.sound.specs.declared.Verdict.{Verdict}
-use Rattle.sound.specs.declared.Verdict.TheVariants.{Sound, Finding}
+use Rattle.sound.specs.Numbers.{number_of, place_of}
+use Rattle.sound.specs.declared.Finding.{Finding}
 use Rattle.lines.specs.Lines.{sound_text, unsound_text}
-use Rattle.lines.specs.Aids.Rooms.{file_room, sound_room, unsound_room}
-use Rattle.text.specs.Aids.Puts.{PutsIn}
-use Rattle.text.proofs.Laws.Puts.{puts_then}
+use Rattle.lines.specs.Aids.Rooms.{file_room, sound_room}
+use Rattle.text.specs.declared.page.Page.{Page}
+use Rattle.text.specs.Aids.Pages.{Adds, AddsIn, has_room}
+use Rattle.text.proofs.Laws.Pages.{adds_then}
 use Rattle.listing.specs.Listing.{files_text, volume_text, listing_by, listing_of, listing_room, Lists}
 
 -- ---- the four kinds have at most 112 slots
@@ -48,75 +46,68 @@ module _ (l : List ℕ) (k : Kind) (a : AreaOf l k) where
   pub kind_usable : Usable k
   kind_usable = area_usable l k ((area_of_kind l k).1 a)
 
-  -- the lines before those of the files
-  abbrev head : ℕ → Counts → List ℕ
-  head all n = sound_text k.byte all n.free n.held n.bad n.reserved n.files
-
   module _ (root count : ℕ) (at_root : root ≡ root_at k) (slots : count ≡ root_entries k) where
     pub root_within : root + 32 * count ≤ length l
     root_within = omega (arith, a.long)
 
     -- s are the lines before those of the files
-    pub files_fit : (s o : List ℕ) (first : ℕ) (m : List ℕ) → PutsIn sound_room s o 0 first m → listing_room ≤ length o → first + file_room * count ≤ length m
-    files_fit s o first m p h = omega (arith, p.room, few_slots, ap length p.puts.stores ∙ length_stored o 0 s)
+    pub files_fit : (s : List ℕ) (p q : Page) → AddsIn sound_room s p q → has_room listing_room p → has_room (file_room * count) q
+    files_fit s p q f h = omega (arith, h, f.room, f.adds.long, few_slots)
 
-    module _ (all : ℕ) (n : Counts) (clusters_are : all ≡ clusters k) (o : List ℕ) (first : ℕ) (m : List ℕ) (p : PutsIn sound_room (head all n) o 0 first m) where
-      pub puts_sound : (r : ℕ) (e : List ℕ) → PutsIn (file_room * count) (files_text l (slot_from root) 0 count) m first r e → PutsIn listing_room (volume_text k l (Sound n)) o 0 r e
-      unfolding volume_text
-      puts_sound r e q =
-          record {
-            puts = rw (← clusters_are) (puts_then (head all n) (files_text l (slot_at k) 0 (root_entries k)) o 0 first m r e p.puts (rw (at_root, slots) at q.puts));
-            room = omega (arith, p.room, q.room, few_slots);
-          }
+    pub adds_volume : (all : ℕ) (n : Counts) (p q r : Page) → all ≡ clusters k → AddsIn sound_room (sound_text k.byte all n.free n.held n.bad n.reserved n.files) p q
+        → AddsIn (file_room * count) (files_text l (slot_from root) 0 count) q r → AddsIn listing_room (volume_text k l (Ok n)) p r
+    unfolding volume_text
+    adds_volume all n p q r e head files =
+        record {
+          adds = rw (← e) (adds_then (sound_text k.byte all n.free n.held n.bad n.reserved n.files) (files_text l (slot_at k) 0 (root_entries k)) p q r head.adds (rw (at_root, slots) at files.adds));
+          room = omega (arith, head.room, files.room, few_slots);
+        }
 
 -- ---- the listing is by check's answer alone
 
 module _ (l : List ℕ) where
-  pub listing_by_check : (k : Kind) (v : Verdict) → AreaOf l k → CheckedArea l v → listing_of l ≡ volume_text k l v
+  pub listing_by_check : (k : Kind) (v : Result Counts Finding) → AreaOf l k → CheckedArea l v → listing_of l ≡ volume_text k l v
   unfolding listing_of
   listing_by_check k v a c = rw ((area_of_kind l k).1 a, ← area_is c)
 
-  finding_by : (w : WhichKind) (number place : ℕ) → check_of_area l ≡ Finding number place → AnswersBy w l (Finding number place) → listing_by w l ≡ unsound_text number place
+  finding_by : (w : Option Kind) (finding : Finding) → check_of_area l ≡ Err finding → AnswersBy w l (Err finding) → listing_by w l ≡ unsound_text (number_of finding) (place_of finding)
   unfolding volume_text
-  finding_by (Known k) number place e a = rw e
-  finding_by Unknown number place e a = ap finding_text (sym a)
+  finding_by (Some k) finding e a = rw e
+  finding_by None finding e a = ap finding_text (sym a)
     where
-      finding_text : Verdict → List ℕ
-      finding_text (Sound n) = []
-      finding_text (Finding n p) = unsound_text n p
+      finding_text : Result Counts Finding → List ℕ
+      finding_text (Ok n) = []
+      finding_text (Err f) = unsound_text (number_of f) (place_of f)
 
   -- also where the area is of no kind
-  pub listing_of_finding : (number place : ℕ) → CheckedArea l (Finding number place) → listing_of l ≡ unsound_text number place
+  pub listing_of_finding : (finding : Finding) → CheckedArea l (Err finding) → listing_of l ≡ unsound_text (number_of finding) (place_of finding)
   unfolding listing_of
-  listing_of_finding number place c = finding_by (kind_of_area l) number place (sym (area_is c)) c.is
+  listing_of_finding finding c = finding_by (kind_of_area l) finding (sym (area_is c)) c.is
 
 -- ---- what is put is the listing; w is the kind that was found, v what check answered
 
-unsound_fits : (number place : ℕ) (o : List ℕ) (r : ℕ) (m : List ℕ) → PutsIn unsound_room (unsound_text number place) o 0 r m → PutsIn listing_room (unsound_text number place) o 0 r m
-unsound_fits number place o r m p = record { puts = p.puts; room = omega (arith, p.room) }
-
-module _ (l : List ℕ) (w : WhichKind) (is : w ≡ kind_of_area l) where
-  pub area_found : (k : Kind) → w ≡ Known k → AreaOf l k
+module _ (l : List ℕ) (w : Option Kind) (is : w ≡ kind_of_area l) where
+  pub area_found : (k : Kind) → w ≡ Some k → AreaOf l k
   area_found k e = (area_of_kind l k).0 (sym is ∙ e)
 
-  pub puts_no_kind : (o : List ℕ) (r : ℕ) (m : List ℕ) → w ≡ Unknown → PutsIn unsound_room (unsound_text 1 0) o 0 r m → PutsIn listing_room (listing_of l) o 0 r m
+  pub adds_no_kind : (p q : Page) → w ≡ None → Adds (unsound_text 1 0) p q → Adds (listing_of l) p q
   unfolding listing_of
-  puts_no_kind o r m e p = rw (sym is ∙ e) (unsound_fits 1 0 o r m p)
+  adds_no_kind p q e f = rw (sym is ∙ e) f
 
-  pub puts_listing : (k : Kind) (v : Verdict) (n : Counts) (o : List ℕ) (r : ℕ) (m : List ℕ)
-      → w ≡ Known k → CheckedArea l v → v ≡ Sound n → PutsIn listing_room (volume_text k l (Sound n)) o 0 r m → PutsIn listing_room (listing_of l) o 0 r m
-  puts_listing k v n o r m e c t p = rw (listing_by_check l k v (area_found k e) c, t) p
+  pub adds_listing : (k : Kind) (v : Result Counts Finding) (n : Counts) (p q : Page) → w ≡ Some k → CheckedArea l v → v ≡ Ok n → Adds (volume_text k l (Ok n)) p q → Adds (listing_of l) p q
+  adds_listing k v n p q e c t f = rw (listing_by_check l k v (area_found k e) c, t) f
 
-pub puts_finding : (l : List ℕ) (v : Verdict) (number place : ℕ) (o : List ℕ) (r : ℕ) (m : List ℕ)
-    → CheckedArea l v → v ≡ Finding number place → PutsIn unsound_room (unsound_text number place) o 0 r m → PutsIn listing_room (listing_of l) o 0 r m
-puts_finding l v number place o r m c t p = rw (listing_of_finding l number place (rw t at c)) (unsound_fits number place o r m p)
+pub adds_finding : (l : List ℕ) (v : Result Counts Finding) (finding : Finding) (p q : Page)
+    → CheckedArea l v → v ≡ Err finding → Adds (unsound_text (number_of finding) (place_of finding)) p q → Adds (listing_of l) p q
+adds_finding l v finding p q c t f = rw (listing_of_finding l finding (rw t at c)) f
 
 -- ---- for C
 
-pub lists : (area l : List ℕ) (r : ℕ) (m : List ℕ) → listing_room ≤ length l → PutsIn listing_room (listing_of area) l 0 r m → Lists area l r m
-lists area l r m h p =
+-- q is the page that was empty as p, on the buffer l, which is then m
+pub lists : (area l m : List ℕ) (p q : Page) → listing_room ≤ length l → p.out.now ≡ l → p.at ≡ 0 → q.out.now ≡ m → Adds (listing_of area) p q → Lists area l q.at m
+lists area l m p q h e z f g =
     let room = le-leb listing_room (length l) h in
-    record { count = rw room (p.puts.next ∙ omega arith); buffer = rw room p.puts.stores }
+    record { count = rw room (g.puts.next ∙ omega (arith, z)); buffer = rw room (sym f ∙ g.puts.stores ∙ rw (e, z)) }
 
 pub lists_nothing : (area l : List ℕ) → length l < listing_room → Lists area l 0 l
 lists_nothing area l h = let short = lt-leb listing_room (length l) h in record { count = rw short; buffer = rw short }

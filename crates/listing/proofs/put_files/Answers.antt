@@ -1,12 +1,9 @@
 use Rattle.std.proofs.Common.{rules}
-use Rattle.listing.proofs.Laws.Files.{all_bytes, all_end, files_bytes, files_end, puts_files}
+use Rattle.listing.proofs.Laws.Files.{adds_no_slots, adds_more_slots}
 use Rattle.listing.proofs.put_files.Goals as goal
 
 pub loop-slot-init : goal.loop-slot-init
-loop-slot-init c = (search rules, search rules, search rules, search all_bytes, search all_end)
+loop-slot-init c = search (rules, adds_no_slots)
 
 pub loop-slot-preserved : goal.loop-slot-preserved
-loop-slot-preserved c = (search rules, search rules, search rules, search files_bytes, search files_end)
-
-pub returns : goal.returns
-returns c = search puts_files
+loop-slot-preserved c = search (rules, adds_more_slots)

@@ -1,11 +1,10 @@
 -- What a match is in words, and that find answers the lowest.
-use Rattle.std.specs.Prelude.{ℕ, ◌-◌, ◌≤◌, ◌<◌, Bool, true, false, not, ◌||◌, List, [], ◌∷◌, ◌↔◌, ◌≡◌, refl, ltb}
+use Rattle.std.specs.Prelude.{ℕ, ◌-◌, ◌≤◌, ◌<◌, Bool, true, false, not, ◌||◌, List, [], ◌∷◌, ◌↔◌, ◌≡◌, refl, ltb, Option, Some, None}
 use Rattle.std.proofs.Common.{arith, sym, ap, subst}
-use Rattle.search.specs.Search.{is_found, Lowest, None, Answers}
+use Rattle.names.specs.Reading.{name_bytes}
+use Rattle.search.specs.Search.{is_found, Lowest, Nowhere, Answers}
 use Rattle.search.proofs.Laws.Answers.{lowest_answers}
 use Rattle.search.proofs.Laws.Turns.{lowest_done}
-use Rattle.search.specs.declared.Found.{Found}
-use Rattle.search.specs.declared.Found.TheVariants.{At, Nothing}
 use Rattle.diskette.specs.Places.{root_entries, slot_at}
 use Rattle.names.proofs.Laws.Tests.{and_left, and_right}
 use Rattle.fields.specs.Fields.{name_of, attr_of}
@@ -15,7 +14,7 @@ use Rattle.directory.proofs.Laws.Slots.{plain_is}
 use Rattle.calls.specs.Outcome.{Outcome, outcome, refusal, decided}
 use Rattle.calls.specs.Numbers.{of_no_kind, unsound, breaks_rules, no_more_files}
 use Rattle.calls.specs.Refusals.{the_kind, not_of_kind, not_sound, place_found}
-use Rattle.calls.specs.declared.Answer.{Answer}
+use Rattle.calls.specs.Answers.{Answer, number_told, value_told}
 use Rattle.matching.specs.Find.{bit_shows, shown_by, is_match, MatchAt, match_from, bad_pattern, match_found, find_outcome, Finds}
 use Rattle.matching.specs.Aids.Search.{match_slot}
 
@@ -64,40 +63,40 @@ match_answers l way count pattern mask from =
 
 -- a slot out of range has none at or after it
 pub out_of_range_lem : (l : List ℕ) (way : ℕ → ℕ) (count : ℕ) (pattern : List ℕ) (mask from : ℕ) → count ≤ from
-    → match_from l way count pattern mask from ≡ Nothing
+    → match_from l way count pattern mask from ≡ None
 unfolding match_from
 out_of_range_lem l way count pattern mask from h = sym (lowest_done (match_slot l way pattern mask) from count _ refl h)
 
 -- ---- the call: what its number says of what was found
 
-found_by : (a b c : Bool) (f : Found) (l : List ℕ) (n v : ℕ)
+found_by : (a b c : Bool) (f : Option ℕ) (l : List ℕ) (n v : ℕ)
     → outcome n v l [] []
     ≡ decided ((a, of_no_kind) ∷ (b, unsound) ∷ (c, breaks_rules) ∷ (not (is_found f), no_more_files) ∷ []) (outcome 0 (place_found f) l [] []) l [] []
-    → (n ≡ 0 → f ≡ At v) × (n ≡ no_more_files → f ≡ Nothing)
+    → (n ≡ 0 → f ≡ Some v) × (n ≡ no_more_files → f ≡ None)
 unfolding decided refusal
 found_by true b c f l n v e = let q : n ≡ 40 = ap (λ (o : Outcome). o.number) e in (λ z. absurd (omega arith), λ z. absurd (omega arith))
 found_by false true c f l n v e = let q : n ≡ 41 = ap (λ (o : Outcome). o.number) e in (λ z. absurd (omega arith), λ z. absurd (omega arith))
 found_by false false true f l n v e = let q : n ≡ 42 = ap (λ (o : Outcome). o.number) e in (λ z. absurd (omega arith), λ z. absurd (omega arith))
-found_by false false false (At i) l n v e =
+found_by false false false (Some i) l n v e =
     let q : n ≡ 0 = ap (λ (o : Outcome). o.number) e in
-    (λ z. ap At (sym (ap (λ (o : Outcome). o.value) e)), λ z. absurd (omega arith))
-found_by false false false Nothing l n v e = let q : n ≡ 18 = ap (λ (o : Outcome). o.number) e in (λ z. absurd (omega arith), λ z. refl)
+    (λ z. ap Some (sym (ap (λ (o : Outcome). o.value) e)), λ z. absurd (omega arith))
+found_by false false false None l n v e = let q : n ≡ 18 = ap (λ (o : Outcome). o.number) e in (λ z. absurd (omega arith), λ z. refl)
 
 module _ (img s : List ℕ) (from mask : ℕ) (r : Answer) (x : Finds img s from mask r) where
-  found : (r.number ≡ 0 → match_found img s from mask ≡ At r.value) × (r.number ≡ no_more_files → match_found img s from mask ≡ Nothing)
+  found : ((number_told r) ≡ 0 → match_found img s from mask ≡ Some (value_told r)) × ((number_told r) ≡ no_more_files → match_found img s from mask ≡ None)
   unfolding find_outcome
-  found = found_by (not_of_kind img) (not_sound img) (bad_pattern s) (match_found img s from mask) img r.number r.value x.is
+  found = found_by (not_of_kind img) (not_sound img) (bad_pattern s) (match_found img s from mask) img (number_told r) (value_told r) x.is
 
   -- slot t of the root, at or after the one given, matches
   abbrev After : ℕ → Type 0
-  After t = (from ≤ t) × (t < root_entries (the_kind img)) × MatchAt img (slot_at (the_kind img) t) (pattern_given s).name mask
+  After t = (from ≤ t) × (t < root_entries (the_kind img)) × MatchAt img (slot_at (the_kind img) t) (name_bytes (pattern_given s)) mask
 
   answers : Answers After (match_found img s from mask)
   unfolding match_found
-  answers = match_answers img (slot_at (the_kind img)) (root_entries (the_kind img)) (pattern_given s).name mask from
+  answers = match_answers img (slot_at (the_kind img)) (root_entries (the_kind img)) (name_bytes (pattern_given s)) mask from
 
-  pub find_answers : r.number ≡ 0 → Lowest ltb After r.value
+  pub find_answers : (number_told r) ≡ 0 → Lowest ltb After (value_told r)
   find_answers z = subst (Answers After) (found.0 z) answers
 
-  pub find_ends : r.number ≡ no_more_files → None After
+  pub find_ends : (number_told r) ≡ no_more_files → Nowhere After
   find_ends z = subst (Answers After) (found.1 z) answers

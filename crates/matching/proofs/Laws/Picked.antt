@@ -2,7 +2,7 @@
 use Prim.Native.Nat.{ℕ, zero, suc, ◌+◌, ◌-◌, ◌≤◌, ◌<◌}
 use native.Mathlib.Omega.{arith}
 use Rattle.std.proofs.Math.Decide.{ℕ_discrete}
-use Rattle.std.specs.Prelude.{Bool, List, [], ◌∷◌, ◌↔◌, ◌≡◌}
+use Rattle.std.specs.Prelude.{Bool, List, [], ◌∷◌, ◌↔◌, ◌≡◌, ℕ, Option, Some, None}
 use Rattle.std.proofs.Math.Bool.{true, false, cond}
 use Rattle.std.proofs.Common.{inl, sym, ◌∙◌}
 use Rattle.std.proofs.Math.Logic.{inr}
@@ -11,14 +11,12 @@ use Rattle.std.proofs.Math.ListN.{length, get_or}
 use Rattle.chains.specs.Lists.{◌∈◌}
 use Rattle.chains.proofs.Laws.Lists.{index_mem}
 use Rattle.search.specs.Search.{lowest}
-use Rattle.search.specs.declared.Found.{Found}
-use Rattle.search.specs.declared.Found.TheVariants.{At, Nothing}
 use Rattle.matching.specs.Aids.Search.{picked}
 
 -- the lowest, and those between it and end
-abbrev pub headed : (ℕ → Bool) → ℕ → Found → List ℕ
-headed p end (At i) = i ∷ picked p (i + 1) (end - (i + 1))
-headed p end Nothing = []
+abbrev pub headed : (ℕ → Bool) → ℕ → Option ℕ → List ℕ
+headed p end (Some i) = i ∷ picked p (i + 1) (end - (i + 1))
+headed p end None = []
 
 pub picked_headed : (p : ℕ → Bool) (s n : ℕ) → picked p s n ≡ headed p (s + n) (lowest p s n)
 unfolding picked lowest
@@ -26,7 +24,7 @@ picked_headed p s zero = refl
 picked_headed p s (suc n) = by (p s) (picked_headed p (s + 1) n)
   where
     by : (b : Bool) → picked p (s + 1) n ≡ headed p (s + 1 + n) (lowest p (s + 1) n)
-        → cond b (s ∷ picked p (s + 1) n) (picked p (s + 1) n) ≡ headed p (s + suc n) (cond b (At s) (lowest p (s + 1) n))
+        → cond b (s ∷ picked p (s + 1) n) (picked p (s + 1) n) ≡ headed p (s + suc n) (cond b (Some s) (lowest p (s + 1) n))
     by true x = let e : s + suc n - (s + 1) ≡ n = omega arith in rw e
     by false x = let e : s + 1 + n ≡ s + suc n = omega arith in x ∙ ap (λ (end : ℕ). headed p end (lowest p (s + 1) n)) e
 

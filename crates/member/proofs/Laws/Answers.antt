@@ -1,69 +1,33 @@
 -- The answers in the form of the code's needs.
-use Rattle.std.specs.Prelude.{ℕ, ◌+◌, ◌*◌, ◌/◌, ◌%◌, ◌≤◌, ◌<◌, Bool, true, false, List, ◌≢◌, ◌≡◌, refl, length}
+use Rattle.std.specs.Prelude.{ℕ, ◌+◌, ◌*◌, ◌/◌, ◌%◌, ◌≤◌, ◌<◌, false, List, ◌≡◌, refl, length, Option, Some, None}
 use Rattle.std.proofs.Common.{arith, sym, ◌∙◌, ap}
-use borrow.Author.Tests.{le-leb, lt-leb, ne_eqb}
+use borrow.Author.Tests.{le-leb, lt-leb}
 use Rattle.diskette.specs.Images.{kind_of_image}
 use Rattle.diskette.specs.Aids.Usable.{Usable}
 use Rattle.diskette.specs.Places.{root_entries, slot_at}
 use Rattle.diskette.proofs.Laws.Images.{image_of_kind, image_usable, image_has_area}
 use Rattle.diskette.proofs.Laws.Places.{slot_before_data}
 use Rattle.diskette.specs.declared.Kind.{Kind}
-use Rattle.diskette.specs.declared.WhichKind.{WhichKind}
-use Rattle.diskette.specs.declared.WhichKind.TheVariants.{Known, Unknown}
 use Rattle.fields.specs.Fields.{attr_of}
-use Rattle.directory.specs.Slots.{standing_of, has_bit}
+use Rattle.directory.specs.Slots.{standing_of}
 use Rattle.directory.specs.declared.Standing.{Standing}
-use Rattle.directory.specs.declared.Standing.TheVariants.{NeverUsed, Erased, Label, Plain}
 use Rattle.stamps.specs.Stamps.{time_read, date_read}
 use Rattle.stamps.proofs.Laws.Ranges.{time_out, date_out}
 use Rattle.stamps.proofs.Laws.Stamps.{read_no_time, read_no_date, time_again, date_again}
-use Rattle.stamps.specs.declared.TimeRead.{TimeRead}
-use Rattle.stamps.specs.declared.TimeRead.TheVariants.{Time, NoTime}
-use Rattle.stamps.specs.declared.DateRead.{DateRead}
-use Rattle.stamps.specs.declared.DateRead.TheVariants.{Date, NoDate}
 use Rattle.calls.specs.Numbers.{of_no_kind, out_of_range}
 use Rattle.member.specs.Answers.{refusal_answer, standing_told, slot_told, date_told, time_told}
 
--- ---- an entry: b says whether it has bit 10
-
-module _ (m : Standing) (attr : ℕ) where
-  pub told_never_used : m ≡ NeverUsed → 1 ≡ standing_told m attr
-  unfolding standing_told
-  told_never_used e = rw e
-
-  pub told_erased : m ≡ Erased → 1 ≡ standing_told m attr
-  unfolding standing_told
-  told_erased e = rw e
-
-  module _ (b : Bool) (p : m ≡ Plain) (t : b ≡ has_bit attr 0x10) where
-    pub told_directory : b ≡ true → 4 ≡ standing_told m attr
-    unfolding standing_told
-    told_directory e = rw (p, ← t, e)
-
-    pub told_file : b ≡ false → 2 ≡ standing_told m attr
-    unfolding standing_told
-    told_file e = rw (p, ← t, e)
-
-  module _ (p : m ≡ Label) where
-    pub told_long_name : attr ≡ 0x0F → 5 ≡ standing_told m attr
-    unfolding standing_told
-    told_long_name e = rw (p, e)
-
-    pub told_label : attr ≢ 0x0F → 3 ≡ standing_told m attr
-    unfolding standing_told
-    told_label e = rw (p, ne_eqb attr 0x0F e)
-
 -- ---- a slot: r is the kind that was found
 
-module _ (l : List ℕ) (s : ℕ) (r : WhichKind) (p : r ≡ kind_of_image l) where
+module _ (l : List ℕ) (s : ℕ) (r : Option Kind) (p : r ≡ kind_of_image l) where
   told_on : (x : ℕ) → x ≡ slot_told r l s → x ≡ slot_told (kind_of_image l) l s
   told_on x h = h ∙ ap (λ w. slot_told w l s) p
 
-  pub not_of_a_kind : (x : ℕ) → x ≡ refusal_answer of_no_kind → r ≡ Unknown → x ≡ slot_told (kind_of_image l) l s
+  pub not_of_a_kind : (x : ℕ) → x ≡ refusal_answer of_no_kind → r ≡ None → x ≡ slot_told (kind_of_image l) l s
   unfolding slot_told
   not_of_a_kind x h q = told_on x (h ∙ rw q)
 
-  module _ (k : Kind) (q : r ≡ Known k) where
+  module _ (k : Kind) (q : r ≡ Some k) where
     pub kind_usable : Usable k
     kind_usable = image_usable l k (sym p ∙ q)
 
@@ -81,32 +45,32 @@ module _ (l : List ℕ) (s : ℕ) (r : WhichKind) (p : r ≡ kind_of_image l) wh
       unfolding slot_told
       slot_told_lem m b x d t y = told_on x (y ∙ rw (q, lt-leb (root_entries k) s (omega arith), d, t, g))
 
--- ---- a stored date and a stored time: a is what was read
+-- ---- a stored date and a stored time: v is the word in 16 bits, a what was read of it
 
 module _ (w : ℕ) where
-  pub date_told_lem : (a : DateRead) (year month day : ℕ) → a ≡ date_read w → a ≡ Date year month day → (1980 + year) * 10000 + month * 100 + day ≡ date_told (date_read w)
+  pub date_told_lem : (v : ℕ) → v ≡ w → (a : Option (ℕ × ℕ × ℕ)) (year month day : ℕ) → a ≡ date_read v → a ≡ Some (year, month, day) → (1980 + year) * 10000 + month * 100 + day ≡ date_told (date_read w)
   unfolding date_told
-  date_told_lem a year month day e f = rw (← e, f)
+  date_told_lem v is a year month day e f = rw (← is, ← e, f)
 
-  pub no_date : (a : DateRead) (x : ℕ) → a ≡ date_read w → a ≡ NoDate → x ≡ refusal_answer out_of_range → x ≡ date_told (date_read w)
+  pub no_date : (v : ℕ) → v ≡ w → (a : Option (ℕ × ℕ × ℕ)) (x : ℕ) → a ≡ date_read v → a ≡ None → x ≡ refusal_answer out_of_range → x ≡ date_told (date_read w)
   unfolding date_told
-  no_date a x e f h = h ∙ rw (← e, f)
+  no_date v is a x e f h = h ∙ rw (← is, ← e, f)
 
   -- a word has 16 bits; a larger number has a year above 119
   pub date_too_large : (x : ℕ) → 65535 < w → x ≡ refusal_answer out_of_range → x ≡ date_told (date_read w)
-  date_too_large x h = no_date NoDate x (read_no_date w false (date_out _ _ _ (λ r. omega arith)) refl) refl
+  date_too_large x h = no_date w refl None x (read_no_date w false (date_out _ _ _ (λ r. omega arith)) refl) refl
 
-  pub time_told_lem : (a : TimeRead) (hour minute step : ℕ) → a ≡ time_read w → a ≡ Time hour minute step → hour * 10000 + minute * 100 + step * 2 ≡ time_told (time_read w)
+  pub time_told_lem : (v : ℕ) → v ≡ w → (a : Option (ℕ × ℕ × ℕ)) (hour minute step : ℕ) → a ≡ time_read v → a ≡ Some (hour, minute, step) → hour * 10000 + minute * 100 + step * 2 ≡ time_told (time_read w)
   unfolding time_told
-  time_told_lem a hour minute step e f = rw (← e, f)
+  time_told_lem v is a hour minute step e f = rw (← is, ← e, f)
 
-  pub no_time : (a : TimeRead) (x : ℕ) → a ≡ time_read w → a ≡ NoTime → x ≡ refusal_answer out_of_range → x ≡ time_told (time_read w)
+  pub no_time : (v : ℕ) → v ≡ w → (a : Option (ℕ × ℕ × ℕ)) (x : ℕ) → a ≡ time_read v → a ≡ None → x ≡ refusal_answer out_of_range → x ≡ time_told (time_read w)
   unfolding time_told
-  no_time a x e f h = h ∙ rw (← e, f)
+  no_time v is a x e f h = h ∙ rw (← is, ← e, f)
 
   -- and an hour above 23
   pub time_too_large : (x : ℕ) → 65535 < w → x ≡ refusal_answer out_of_range → x ≡ time_told (time_read w)
-  time_too_large x h = no_time NoTime x (read_no_time w false (time_out _ _ _ (λ r. omega arith)) refl) refl
+  time_too_large x h = no_time w refl None x (read_no_time w false (time_out _ _ _ (λ r. omega arith)) refl) refl
 
 -- ---- the digits give the three numbers back, and fit the lower half: no refusal is taken for a stamp
 
@@ -118,10 +82,10 @@ pairs a b c p q r =
     let h : (a * 10000 + b * 100 + c) / 100 ≡ a * 100 + b = omega arith in
     (omega arith, omega arith, omega arith, omega arith)
 
-pub date_digits : (w year month day : ℕ) → date_read w ≡ Date year month day → Pairs (date_told (date_read w)) (1980 + year) month day
+pub date_digits : (w year month day : ℕ) → date_read w ≡ Some (year, month, day) → Pairs (date_told (date_read w)) (1980 + year) month day
 unfolding date_told
 date_digits w year month day e = let r = (date_again w year month day e).1 in rw e (pairs (1980 + year) month day (omega arith) (omega arith) (omega arith))
 
-pub time_digits : (w hour minute step : ℕ) → time_read w ≡ Time hour minute step → Pairs (time_told (time_read w)) hour minute (step * 2)
+pub time_digits : (w hour minute step : ℕ) → time_read w ≡ Some (hour, minute, step) → Pairs (time_told (time_read w)) hour minute (step * 2)
 unfolding time_told
 time_digits w hour minute step e = let r = (time_again w hour minute step e).1 in rw e (pairs hour minute (step * 2) (omega arith) (omega arith) (omega arith))

@@ -2,7 +2,7 @@
 use Prim.Native.Nat.{ℕ, zero, suc, ◌+◌, ◌-◌, ◌*◌, ◌≤◌, ◌<◌}
 use native.Mathlib.Omega.{arith}
 use Rattle.std.proofs.Math.Decide.{ℕ_discrete}
-use Rattle.std.specs.Prelude.{Bool, true, false, ◌&&◌, ◌||◌, List, [], ◌∷◌, ◌≢◌, ◌↔◌, ◌≡◌, eqb, length}
+use Rattle.std.specs.Prelude.{Bool, true, false, ◌&&◌, ◌||◌, ◌⊎◌, List, [], ◌∷◌, ◌≢◌, ◌↔◌, ◌≡◌, eqb, length, ℕ, Option, Some, None}
 use Rattle.std.proofs.Common.{inl, inr, sym, ◌∙◌, ap, subst, eq-eqb, ne_eqb, Fits}
 use Rattle.std.proofs.Math.Path.{refl}
 use Rattle.std.specs.Int.{w64}
@@ -15,15 +15,11 @@ use Rattle.chains.proofs.Laws.Tests.{clash, true_says, false_says}
 use Rattle.chains.proofs.Laws.Values.{says_link}
 use Rattle.search.specs.Search.{lowest}
 use Rattle.search.proofs.Laws.Meaning.{LowestIs, lowest_is}
-use Rattle.search.specs.declared.Found.{Found}
-use Rattle.search.specs.declared.Found.TheVariants.{At, Nothing}
 use Rattle.diskette.specs.Images.{kind_of_image}
 use Rattle.diskette.specs.Aids.Usable.{Usable}
 use Rattle.diskette.specs.Places.{first_data, clusters, last_cluster, root_entries, root_at, slot_from}
 use Rattle.diskette.proofs.Laws.Images.{image_of_kind, image_usable, image_has_area}
 use Rattle.diskette.specs.declared.Kind.{Kind}
-use Rattle.diskette.specs.declared.WhichKind.{WhichKind}
-use Rattle.diskette.specs.declared.WhichKind.TheVariants.{Known, Unknown}
 use Rattle.values.specs.Values.{meaning_of}
 use Rattle.values.specs.declared.Meaning.{Meaning}
 use Rattle.table.specs.Entries.{table_of}
@@ -36,72 +32,68 @@ use Rattle.member.specs.Clusters.{meaning_told, cluster_told, comes_to, holds_at
 
 -- ---- an image by its kind: r is the kind that was found
 
-module _ (l : List ℕ) (r : WhichKind) (p : r ≡ kind_of_image l) where
-  pub area_there : (k : Kind) → r ≡ Known k → 512 * first_data k ≤ length l
+module _ (l : List ℕ) (r : Option Kind) (p : r ≡ kind_of_image l) where
+  pub area_there : (k : Kind) → r ≡ Some k → 512 * first_data k ≤ length l
   area_there k q = image_has_area l k ((image_of_kind l k).0 (sym p ∙ q)) (image_usable l k (sym p ∙ q))
 
-  pub cluster_known : (k : Kind) (c x : ℕ) → r ≡ Known k → x ≡ cluster_told (Known k) l c → x ≡ cluster_told (kind_of_image l) l c
+  pub cluster_known : (k : Kind) (c x : ℕ) → r ≡ Some k → x ≡ cluster_told (Some k) l c → x ≡ cluster_told (kind_of_image l) l c
   cluster_known k c x q h = h ∙ ap (λ w. cluster_told w l c) (sym q ∙ p)
 
-  pub cluster_unknown : (c x : ℕ) → r ≡ Unknown → x ≡ refusal_answer of_no_kind → x ≡ cluster_told (kind_of_image l) l c
+  pub cluster_unknown : (c x : ℕ) → r ≡ None → x ≡ refusal_answer of_no_kind → x ≡ cluster_told (kind_of_image l) l c
   unfolding cluster_told
   cluster_unknown c x q h = h ∙ rw (← p, q)
 
-  pub holder_known : (k : Kind) (c s x : ℕ) → r ≡ Known k → x ≡ holder_told (Known k) l c s → x ≡ holder_told (kind_of_image l) l c s
+  pub holder_known : (k : Kind) (c s x : ℕ) → r ≡ Some k → x ≡ holder_told (Some k) l c s → x ≡ holder_told (kind_of_image l) l c s
   holder_known k c s x q h = h ∙ ap (λ w. holder_told w l c s) (sym q ∙ p)
 
-  pub holder_unknown : (c s x : ℕ) → r ≡ Unknown → x ≡ refusal_answer of_no_kind → x ≡ holder_told (kind_of_image l) l c s
+  pub holder_unknown : (c s x : ℕ) → r ≡ None → x ≡ refusal_answer of_no_kind → x ≡ holder_told (kind_of_image l) l c s
   unfolding holder_told
   holder_unknown c s x q h = h ∙ rw (← p, q)
 
 -- ---- the value of a cluster
 
 module _ (k : Kind) (l : List ℕ) (c last : ℕ) (is : last ≡ last_cluster k) where
-  no_cluster : ¬ Link (last_cluster k) c → 0 ≡ cluster_told (Known k) l c
+  no_cluster : ¬ Link (last_cluster k) c → 0 ≡ cluster_told (Some k) l c
   unfolding cluster_told
   no_cluster n = rw (false_says (says_link (last_cluster k) c) n)
 
-  pub cluster_below : c < 2 → 0 ≡ cluster_told (Known k) l c
-  cluster_below h = no_cluster (λ x. omega arith)
-
-  pub cluster_above : last < c → 0 ≡ cluster_told (Known k) l c
-  cluster_above h = no_cluster (λ x. omega arith)
+  pub cluster_outside : (c < 2) ⊎ ((2 ≤ c) × (last < c)) → 0 ≡ cluster_told (Some k) l c
+  cluster_outside (inl h) = no_cluster (λ x. omega arith)
+  cluster_outside (inr h) = no_cluster (λ x. omega arith)
 
   pub cluster_told_lem : (v : ℕ) (m : Meaning) (x : ℕ) → 2 ≤ c → c ≤ last → ValueIs last l c v → m ≡ meaning_of last v → x ≡ meaning_told m
-      → x ≡ cluster_told (Known k) l c
+      → x ≡ cluster_told (Some k) l c
   unfolding cluster_told
   cluster_told_lem v m x a b w e h = h ∙ rw (e, w.is, is, true_says (says_link (last_cluster k) c) (a, omega arith))
 
--- ---- a walk: n steps are left from the value v on
+-- ---- a walk: i of n steps are done, and it has come to the value v
 
 one_step : (last : ℕ) (f : ℕ → ℕ) (c n v : ℕ) → comes_to last f c (suc n) v ≡ (linkb last v && (eqb v c || comes_to last f c n (f v)))
 unfolding comes_to
 one_step last f c n v = refl
 
-module _ (last : ℕ) (l : List ℕ) (c n v : ℕ) (whole : Bool) (inv : comes_to last (table_of last l) c n v ≡ whole) where
-  step : 0 < n → comes_to last (table_of last l) c n v ≡ (linkb last v && (eqb v c || comes_to last (table_of last l) c (n - 1) (table_of last l v)))
+module _ (last : ℕ) (l : List ℕ) (c n i v : ℕ) (whole : Bool) (inv : comes_to last (table_of last l) c (n - i) v ≡ whole) where
+  step : i < n → comes_to last (table_of last l) c (n - i) v ≡ (linkb last v && (eqb v c || comes_to last (table_of last l) c (n - (i + 1)) (table_of last l v)))
   step h =
-      let e : n ≡ suc (n - 1) = omega arith in
-      ap (λ (m : ℕ). comes_to last (table_of last l) c m v) e ∙ one_step last (table_of last l) c (n - 1) v
+      let e : n - i ≡ suc (n - (i + 1)) = omega arith in
+      ap (λ (m : ℕ). comes_to last (table_of last l) c m v) e ∙ one_step last (table_of last l) c (n - (i + 1)) v
 
-  out : 0 < n → ¬ Link last v → false ≡ whole
+  out : i < n → ¬ Link last v → false ≡ whole
   out h x = sym (step h ∙ rw (false_says (says_link last v) x)) ∙ inv
 
-  pub comes_below : 0 < n → v < 2 → false ≡ whole
-  comes_below h b = out h (λ x. omega arith)
+  pub comes_outside : i < n → (v < 2) ⊎ ((2 ≤ v) × (last < v)) → false ≡ whole
+  comes_outside h (inl b) = out h (λ x. omega arith)
+  comes_outside h (inr b) = out h (λ x. omega arith)
 
-  pub comes_above : 0 < n → last < v → false ≡ whole
-  comes_above h b = out h (λ x. omega arith)
-
-  pub comes_spent : n ≤ 0 → false ≡ whole
+  pub comes_spent : n ≤ i → false ≡ whole
   unfolding comes_to
-  comes_spent h = let e : n ≡ 0 = omega arith in rw e at inv
+  comes_spent h = let e : n - i ≡ 0 = omega arith in rw e at inv
 
-  module _ (h : 0 < n) (from : 2 ≤ v) (to : v ≤ last) where
+  module _ (h : i < n) (from : 2 ≤ v) (to : v ≤ last) where
     pub comes_here : v ≡ c → true ≡ whole
     comes_here e = sym (step h ∙ rw (true_says (says_link last v) (from, to), eq-eqb v c e)) ∙ inv
 
-    pub comes_on : (next : ℕ) → v ≢ c → ValueIs last l v next → comes_to last (table_of last l) c (n - 1) next ≡ whole
+    pub comes_on : (next : ℕ) → v ≢ c → ValueIs last l v next → comes_to last (table_of last l) c (n - (i + 1)) next ≡ whole
     comes_on next e r = rw r.is (sym (step h ∙ rw (true_says (says_link last v) (from, to), ne_eqb v c e)) ∙ inv)
 
 -- ---- a slot: b says whether it is a plain file
@@ -112,19 +104,19 @@ module _ (last n : ℕ) (l : List ℕ) (c a : ℕ) (b : Bool) (is : b ≡ is_pla
   unfolding holds_at
   holds_file_lem start x t e h = h ∙ rw (← is, t, e)
 
-  pub holds_nothing : b ≡ false → false ≡ holds_at last n l c a
+  pub holds_nothing : b ≡ false → b ≡ holds_at last n l c a
   unfolding holds_at
-  holds_nothing t = rw (← is, t)
+  holds_nothing t = t ∙ rw (← is, t)
 
 -- ---- the search: the numbers of the kind as they were computed, and what was found
 
 module _ (k : Kind) (l : List ℕ) (c s last n root count : ℕ) (p : last ≡ last_cluster k) (q : n ≡ clusters k) (t : root ≡ root_at k) (u : count ≡ root_entries k) where
-  module _ (f : Found) (e : f ≡ lowest (slot_holds last n l (slot_from root) c) s (count - s)) where
-    found_is : found_told f ≡ holder_told (Known k) l c s
+  module _ (f : Option ℕ) (e : f ≡ lowest (slot_holds last n l (slot_from root) c) s (count - s)) where
+    found_is : found_told f ≡ holder_told (Some k) l c s
     unfolding holder_told
     found_is = rw (e, p, q, t, u)
 
-    module _ (slot : ℕ) (g : f ≡ At slot) where
+    module _ (slot : ℕ) (g : f ≡ Some slot) where
       holder_below : slot < count
       holder_below =
           let test = slot_holds last n l (slot_from root) c in
@@ -134,11 +126,11 @@ module _ (k : Kind) (l : List ℕ) (c s last n root count : ℕ) (p : last ≡ l
       pub holder_fits : Usable k → Fits w64 (slot + 1)
       holder_fits usable = record { fits = omega (arith, holder_below) }
 
-      pub holder_found : slot + 1 ≡ holder_told (Known k) l c s
+      pub holder_found : slot + 1 ≡ holder_told (Some k) l c s
       unfolding found_told
       holder_found = rw g at found_is
 
-    pub holder_none : f ≡ Nothing → 0 ≡ holder_told (Known k) l c s
+    pub holder_none : f ≡ None → 0 ≡ holder_told (Some k) l c s
     unfolding found_told
     holder_none g = rw g at found_is
 

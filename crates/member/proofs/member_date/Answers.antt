@@ -1,12 +1,13 @@
 -- A word that is no date, or none of 16 bits, is refused.
+use Rattle.std.proofs.Common.{◌≡◌, arith}
 use Rattle.member.proofs.Laws.Answers.{date_told_lem, no_date, date_too_large}
 use Rattle.member.proofs.member_date.Goals as goal
 
-pub returns-then-word-gt65535 : goal.returns-then-word-gt65535
-returns-then-word-gt65535 c = search date_too_large
+pub returns-in_default : goal.returns-in_default
+returns-in_default c = date_too_large _ _ (omega (arith, c.in_default.ensures)) c.refused.ensures
 
-pub returns-in-Date : goal.returns-in-Date
-returns-in-Date c = search date_told_lem
+pub returns-in-Some : goal.returns-in-Some
+returns-in-Some c = let h : c.in-Ok.word ≡ c.args.word = omega (arith, c.in-Ok.ensures) in search date_told_lem
 
-pub returns-in-NoDate : goal.returns-in-NoDate
-returns-in-NoDate c = search no_date
+pub returns-in-None : goal.returns-in-None
+returns-in-None c = let h : c.in-Ok.word ≡ c.args.word = omega (arith, c.in-Ok.ensures) in search no_date

@@ -18,8 +18,8 @@ standing_at-requires c = search (rules, slot_within)
 pub attr_at-requires : goal.attr_at-requires
 attr_at-requires c = search (rules, slot_within)
 
-pub returns-else-root_entries-s : goal.returns-else-root_entries-s
-returns-else-root_entries-s c = search slot_told_lem
+pub returns : goal.returns
+returns c = search slot_told_lem
 
-pub returns-in-Unknown : goal.returns-in-Unknown
-returns-in-Unknown c = search not_of_a_kind
+pub returns-in_default : goal.returns-in_default
+returns-in_default c = search not_of_a_kind

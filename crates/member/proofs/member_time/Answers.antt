@@ -1,12 +1,13 @@
 -- A word that is no time, or none of 16 bits, is refused.
+use Rattle.std.proofs.Common.{◌≡◌, arith}
 use Rattle.member.proofs.Laws.Answers.{time_told_lem, no_time, time_too_large}
 use Rattle.member.proofs.member_time.Goals as goal
 
-pub returns-then-word-gt65535 : goal.returns-then-word-gt65535
-returns-then-word-gt65535 c = search time_too_large
+pub returns-in_default : goal.returns-in_default
+returns-in_default c = time_too_large _ _ (omega (arith, c.in_default.ensures)) c.refused.ensures
 
-pub returns-in-Time : goal.returns-in-Time
-returns-in-Time c = search time_told_lem
+pub returns-in-Some : goal.returns-in-Some
+returns-in-Some c = let h : c.in-Ok.word ≡ c.args.word = omega (arith, c.in-Ok.ensures) in search time_told_lem
 
-pub returns-in-NoTime : goal.returns-in-NoTime
-returns-in-NoTime c = search no_time
+pub returns-in-None : goal.returns-in-None
+returns-in-None c = let h : c.in-Ok.word ≡ c.args.word = omega (arith, c.in-Ok.ensures) in search no_time

@@ -1,9 +1,10 @@
 -- What a character of the alphabet is not, and what its capital is.
 use Rattle.std.specs.Prelude.{ℕ, zero, suc, ◌-◌, ◌≤◌, ◌<◌, Bool, true, false, cond, ◌||◌, List, [], ◌∷◌, map, ◌≢◌, ◌≡◌, refl, eqb, leb, ltb, length, get_or}
 use Rattle.std.proofs.Common.{arith, true≢false, inl, inr, sym, ◌∙◌, ap, eqb-true, ltb-true, leb-true, le-leb}
+use Rattle.std.proofs.lemmas.Bool.{or_cases}
 use Rattle.names.specs.Alphabet.{within, large_letter, small_letter, digit, signs, among, plain, allowed, capital}
 use Rattle.names.specs.Spelling.{every}
-use Rattle.names.proofs.Laws.Tests.{and_left, and_right, or_cases}
+use Rattle.names.proofs.Laws.Tests.{and_left, and_right}
 
 -- a test tells two characters apart
 pub told : (p : ℕ → Bool) (c x : ℕ) → p c ≡ true → p x ≡ false → c ≢ x

@@ -1,198 +1,122 @@
--- The definitions in the form of the code's needs. A loop's law says: what is left, from here on, gives what the whole gives.
-use Rattle.std.specs.Prelude.{ℕ, suc, ◌+◌, ◌-◌, ◌≤◌, ◌<◌, Bool, true, false, cond, not, List, [], ◌∷◌, ◌≢◌, ◌≡◌, leb, ltb, length, get_or, set, take, drop, replicate}
-use native.Mathlib.Omega.{arith}
-use Rattle.std.proofs.Common.{add-one, ◌∙◌, length-drop, drop_of_length-le, drop-cons, get_or-set_same, get_or-set_other, ext_get_or, take_all, length-take-le}
+-- The definitions in the form of the code's needs.
+use Rattle.std.specs.Prelude.{ℕ, zero, suc, ◌+◌, ◌-◌, ◌≤◌, ◌<◌, Bool, true, false, cond, not, List, [], ◌∷◌, Option, Some, None, ◌≡◌, eqb, refl, leb, ltb, length, get_or, take, drop, unwrap_or, ◌&&◌, ◌++◌, map}
+use Rattle.std.specs.List.{position, position_or_len}
+use Rattle.std.proofs.Common.{arith, ap, subst, ext_get_or, le_antisymm, ltb-true, sym, ◌∙◌, ltb-false, le-leb, add-one, length-drop, drop_of_length-le, take_all}
+use Rattle.std.specs.Array.{IsFromFnResultFrom, IsFromFnResult}
+use Rattle.std.specs.Fn.{Mut, Called}
+use Rattle.std.proofs.lemmas.List.Sums.{prefix_len-le-length}
+use Rattle.std.proofs.lemmas.List.Recursion.{is_position_or_len}
+use Rattle.names.specs.Alphabet.{within, capital}
+use Rattle.names.specs.Spelling.{dot, filled}
+use Rattle.names.specs.Reading.{before_first, after_first, fitting}
+use Rattle.names.specs.Aids.Bytes.{filled_byte}
 use Rattle.std.proofs.Math.Decide.{ℕ_discrete}
-use Rattle.std.proofs.Math.Bool.{and-false}
-use Rattle.std.proofs.Math.Path.{sym}
-use borrow.Author.Tests.{not-true, not-false, leb-true, eq-eqb, ne_eqb, le-leb, lt-leb, lt-ltb, le-ltb}
-use Rattle.names.specs.Alphabet.{within, large_letter, small_letter, digit, signs, among, plain, allowed, capital}
-use Rattle.names.specs.Spelling.{dot, space, every, Parts, eleven}
-use Rattle.names.specs.Reading.{before_first, after_first, fitting, name_given}
-use Rattle.names.specs.Aids.Reading.{spelled_as}
-use Rattle.names.specs.Aids.Bytes.{filled_byte, name_byte}
-use Rattle.names.proofs.Laws.Tests.{and_left, fitting_parts}
-use Rattle.names.proofs.Laws.Parts.{take_before, drop_after, length_eleven, eleven_at}
-use Rattle.names.specs.declared.Spelled.{Spelled}
-
-pub drop_next : (s : List ℕ) (i : ℕ) → i < length s → drop i s ≡ get_or s i 0 ∷ drop (i + 1) s
-drop_next s i h = rw (add-one i) (drop-cons s i 0 h)
-
--- ---- characters
-
-pub within_below : (low high c : ℕ) → c < low → false ≡ within low high c
-within_below low high c h = rw (lt-leb low c h)
-
-pub within_from : (low high c : ℕ) → low ≤ c → leb c high ≡ within low high c
-within_from low high c h = rw (le-leb low c h)
-
-module _ (s : List ℕ) (c i : ℕ) (b : Bool) where
-  pub among_turn : i < length s → c ≢ get_or s i 0 → among (drop i s) c ≡ b → among (drop (i + 1) s) c ≡ b
-  among_turn h n inv = rw (ne_eqb c (get_or s i 0) n) at (rw (drop_next s i h) at inv)
-
-  pub among_found : i < length s → c ≡ get_or s i 0 → among (drop i s) c ≡ b → true ≡ b
-  among_found h e inv = rw (eq-eqb c (get_or s i 0) e) at (rw (drop_next s i h) at inv)
-
-  pub among_done : length s ≤ i → among (drop i s) c ≡ b → false ≡ b
-  among_done h inv = rw (drop_of_length-le s h) at inv
-
-module _ (c : ℕ) (l d r : Bool) (large : l ≡ large_letter c) where
-  pub plain_large : l ≡ true → true ≡ plain c
-  unfolding plain
-  plain_large e = rw (sym large ∙ e)
-
-  pub plain_digit : l ≡ false → d ≡ digit c → d ≡ true → true ≡ plain c
-  unfolding plain
-  plain_digit e number f = rw (sym large ∙ e, sym number ∙ f)
-
-  pub plain_sign : l ≡ false → d ≡ digit c → d ≡ false → r ≡ among signs c → r ≡ plain c
-  unfolding plain
-  plain_sign e number f sign = sign ∙ rw (sym large ∙ e, sym number ∙ f)
-
-module _ (c : ℕ) (s : Bool) (small : s ≡ small_letter c) where
-  pub allowed_small : s ≡ true → true ≡ allowed c
-  unfolding allowed
-  allowed_small e = rw (sym small ∙ e)
-
-  pub allowed_plain : (r : Bool) → s ≡ false → r ≡ plain c → r ≡ allowed c
-  unfolding allowed
-  allowed_plain r e p = p ∙ rw (sym small ∙ e)
-
-  pub small_from : s ≡ true → 0x61 ≤ c
-  small_from e = leb-true 0x61 c (and_left (leb 0x61 c) (leb c 0x7A) (sym small ∙ e))
-
-  pub capital_small : s ≡ true → c - 32 ≡ capital c
-  unfolding capital
-  capital_small e = rw (sym small ∙ e)
-
-  pub capital_other : s ≡ false → c ≡ capital c
-  unfolding capital
-  capital_other e = rw (sym small ∙ e)
-
--- ---- every character of a list
-
-module _ (p : ℕ → Bool) (s : List ℕ) (i : ℕ) (a b : Bool) (inv : every p (drop i s) ≡ b) (is : a ≡ p (get_or s i 0)) where
-  pub all_turn : i < length s → not a ≡ false → every p (drop (i + 1) s) ≡ b
-  unfolding every
-  all_turn h e = rw (sym is ∙ not-false a e) at (rw (drop_next s i h) at inv)
-
-  pub all_found : i < length s → not a ≡ true → false ≡ b
-  unfolding every
-  all_found h e = rw (sym is ∙ not-true a e) at (rw (drop_next s i h) at inv)
-
-pub all_done : (p : ℕ → Bool) (s : List ℕ) (i : ℕ) (b : Bool) → every p (drop i s) ≡ b → length s ≤ i → true ≡ b
-unfolding every
-all_done p s i b inv h = rw (drop_of_length-le s h) at inv
+use Rattle.names.proofs.Laws.Parts.{take_before, drop_after, length_both, both_at}
+use Rattle.names.specs.Aids.Reading.{answer}
 
 -- ---- the first dot
 
-module _ (d : ℕ) (s : List ℕ) (i m : ℕ) (inv : i + length (before_first d (drop i s)) ≡ m) where
-  pub before_turn : i < length s → get_or s i 0 ≢ d → i + 1 + length (before_first d (drop (i + 1) s)) ≡ m
-  unfolding before_first
-  before_turn h n = let p = rw (ne_eqb (get_or s i 0) d n) at (rw (drop_next s i h) at inv) in omega arith
+-- where the first d stands, and the length where there is none
+first_is : (d : ℕ) (s : List ℕ) → length (before_first d s) ≡ position_or_len (λ c. eqb c d) s
+unfolding before_first
+first_is d s = is_position_or_len (λ t. length (before_first d t)) (λ c. eqb c d) refl (λ c cs. go c cs (eqb c d)) s
+  where
+    go : (c : ℕ) (cs : List ℕ) (b : Bool) → length (cond b [] (c ∷ before_first d cs)) ≡ cond b 0 (1 + length (before_first d cs))
+    go c cs true = refl
+    go c cs false = omega arith
 
-  pub before_found : i < length s → get_or s i 0 ≡ d → i ≡ m
-  unfolding before_first
-  before_found h e = let p = rw (eq-eqb (get_or s i 0) d e) at (rw (drop_next s i h) at inv) in omega arith
+-- what `position` answers, by the place of the first dot
+place_or_none : (s : List ℕ) → position (λ c. eqb c dot) s ≡ cond (ltb (length (before_first dot s)) (length s)) (Some (length (before_first dot s))) None
+place_or_none s = rw (first_is dot s) refl
 
-  pub before_done : length s ≤ i → i ≡ m
-  unfolding before_first
-  before_done h = let p = rw (drop_of_length-le s h) at inv in omega arith
+before_short : (s : List ℕ) → length (before_first dot s) ≤ length s
+before_short s = rw (first_is dot s) (prefix_len-le-length (λ (c : ℕ). not (eqb c dot)) s)
+
+module _ (s : List ℕ) (o : Option ℕ) (is : o ≡ position (λ c. eqb c dot) s) where
+  abbrev at : ℕ
+  at = length (before_first dot s)
+
+  some_place : (i : ℕ) → o ≡ Some i → (i < length s) × (i ≡ length (before_first dot s))
+  some_place i e = go (ltb at (length s)) refl (sym e ∙ is ∙ place_or_none s)
+    where
+      go : (b : Bool) → ltb at (length s) ≡ b → Some i ≡ cond b (Some at) None → (i < length s) × (i ≡ at)
+      go true h f = let k : i ≡ at = cc in (omega (arith, ltb-true at (length s) h), k)
+      go false h f = absurd (cc)
+
+  no_place : o ≡ None → length s ≤ length (before_first dot s)
+  no_place e = go (ltb at (length s)) refl (sym e ∙ is ∙ place_or_none s)
+    where
+      go : (b : Bool) → ltb at (length s) ≡ b → None ≡ cond b (Some at) None → length s ≤ at
+      go true h f = absurd (cc)
+      go false h f = ltb-false at (length s) h
+
+pub dot_place : (s : List ℕ) (o : Option ℕ) (r : ℕ) → o ≡ position (λ c. eqb c dot) s → r ≡ unwrap_or o (length s) → r ≡ length (before_first dot s)
+dot_place s (Some i) r is e = e ∙ (some_place s (Some i) is i refl).1
+dot_place s None r is e = e ∙ le_antisymm (no_place s None is refl) (before_short s)
+
+module _ (s : List ℕ) (o : Option ℕ) (is : o ≡ position (λ c. eqb c dot) s) where
+  pub front_is : (i : ℕ) → o ≡ Some i → take i s ≡ before_first dot s
+  front_is i e = rw (some_place s o is i e).1 (take_before dot s)
+
+  pub rest_is : (i : ℕ) → o ≡ Some i → take (length s - (i + 1)) (drop (i + 1) s) ≡ after_first dot s
+  rest_is i e =
+      let at : i ≡ length (before_first dot s) = (some_place s o is i e).1 in
+      let rest : drop (i + 1) s ≡ after_first dot s = rw (at, add-one (length (before_first dot s))) (drop_after dot s) in
+      take_all (length s - (i + 1)) (drop (i + 1) s) (simp length-drop (omega arith)) ∙ rest
+
+  pub whole_is : o ≡ None → s ≡ before_first dot s
+  whole_is e = sym (take_all (length (before_first dot s)) s (no_place s o is e)) ∙ take_before dot s
+
+  pub nothing_is : o ≡ None → [] ≡ after_first dot s
+  nothing_is e = sym (drop_of_length-le s {i = suc (length (before_first dot s))} (omega (arith, no_place s o is e))) ∙ drop_after dot s
+
+-- both parts, where there is a dot and where there is none
+pub ruleset cut_at_dot = (front_is, rest_is, whole_is, nothing_is)
+
+-- ---- an array made by a closure that changes nothing
+
+module _ {F : Type 0} (g : Mut F (ℕ × Unit {0}) ℕ) (f : F) (ys : List ℕ) (byte : ℕ → ℕ) (calls : (i y : ℕ) (q : F) → Called g f (i, tt) y q → (q ≡ f) × (y ≡ byte i)) where
+  each_from : (i n : ℕ) → IsFromFnResultFrom g f ys i n → (k : ℕ) → i ≤ k → k < i + n → get_or ys k 0 ≡ byte k
+  each_from i zero h k a b = absurd (omega arith)
+  each_from i (suc n) (q, y, el, called, rest) k a b =
+      let one = calls i y q called in
+      elim (ℕ_discrete k i) [
+        | yes e ↦ rw e (el.1 0 ∙ one.1)
+        | no e ↦ each_from (i + 1) n (subst (λ p. IsFromFnResultFrom g p ys (i + 1) n) one.0 rest) k (omega arith) (omega arith)
+      ]
+
+  -- eleven such bytes are those of two parts
+  module _ (filler filler' : ℕ) (base ext : List ℕ) (is : byte ≡ (λ i. cond (ltb i 8) (filled_byte filler base i) (filled_byte filler' ext (i - 8)))) where
+    pub made_eleven : length base ≤ 8 → length ext ≤ 3 → IsFromFnResult g f ys 11 → ys ≡ filled 8 filler (map capital base) ++ filled 3 filler' (map capital ext)
+    made_eleven eight three made =
+        let long : length (filled 8 filler (map capital base) ++ filled 3 filler' (map capital ext)) ≡ 11 = length_both filler filler' base ext eight three in
+        ext_get_or 0 ys (filled 8 filler (map capital base) ++ filled 3 filler' (map capital ext)) (made.long ∙ sym long)
+        (λ k h.
+        let below : k < 11 = omega (arith, made.long) in
+        each_from 0 11 made.each k (omega arith) below ∙ ap (λ b. b k) is ∙ sym (both_at filler filler' base ext eight k below))
 
 -- ---- the parts
 
 module _ (good : List ℕ → Bool) (base ext : List ℕ) where
-  pub fitting_none : length base < 1 → false ≡ fitting good base ext
+  -- each part has as many characters as it may have, and is good
+  fitting_each : fitting good base ext ≡ ((within 1 8 (length base) && good base) && (within 0 3 (length ext) && good ext))
   unfolding fitting
-  fitting_none h = rw (lt-leb 1 (length base) h)
+  fitting_each = rw (le-leb 0 (length ext) (omega arith)) (go (leb 1 (length base)) (leb (length base) 8) (leb (length ext) 3) (good base) (good ext))
+    where
+      go : (a b c d e : Bool) → (a && (b && (c && (d && e)))) ≡ (((a && b) && d) && (c && e))
+      go false b c d e = refl
+      go true false c d e = refl
+      go true true c true e = refl
+      go true true true false e = refl
+      go true true false false e = refl
 
-  pub fitting_long : 8 < length base → false ≡ fitting good base ext
-  unfolding fitting
-  fitting_long h = rw (lt-leb (length base) 8 h, and-false (leb 1 (length base)))
+module _ (good : List ℕ → Bool) (bytes : List ℕ → List ℕ → List ℕ) (s base ext : List ℕ) (is_base : base ≡ before_first dot s) (is_ext : ext ≡ after_first dot s) where
+  pub base_refused : (r : Option (List ℕ)) → false ≡ (within 1 8 (length base) && good base) → r ≡ None → r ≡ answer good bytes s
+  base_refused r e is = is ∙ rw (← is_base, ← is_ext, fitting_each good base ext, ← e)
 
-  pub fitting_longer : 3 < length ext → false ≡ fitting good base ext
-  unfolding fitting
-  fitting_longer h = rw (lt-leb (length ext) 3 h, and-false (leb (length base) 8), and-false (leb 1 (length base)))
+  module _ (fits : true ≡ (within 1 8 (length base) && good base)) where
+    pub ext_refused : (r : Option (List ℕ)) → false ≡ (within 0 3 (length ext) && good ext) → r ≡ None → r ≡ answer good bytes s
+    ext_refused r e is = is ∙ rw (← is_base, ← is_ext, fitting_each good base ext, ← fits, ← e)
 
-  module _ (a : Bool) (is_base : a ≡ good base) where
-    pub fitting_strange : not a ≡ true → false ≡ fitting good base ext
-    unfolding fitting
-    fitting_strange h = rw (sym is_base ∙ not-true a h, and-false (leb (length ext) 3), and-false (leb (length base) 8), and-false (leb 1 (length base)))
-
-    pub fitting_rest : (b : Bool) → 1 ≤ length base → length base ≤ 8 → length ext ≤ 3 → not a ≡ false → b ≡ good ext → b ≡ fitting good base ext
-    unfolding fitting
-    fitting_rest b some eight three h is_ext = is_ext ∙ rw (le-leb 1 (length base) some, le-leb (length base) 8 eight, le-leb (length ext) 3 three, sym is_base ∙ not-false a h)
-
-pub filled_letter : (f : ℕ) (t : List ℕ) (i r : ℕ) → i < length t → r ≡ capital (get_or t i 0) → r ≡ filled_byte f t i
-filled_letter f t i r h e = e ∙ rw (lt-ltb i (length t) h)
-
-pub filled_past : (f : ℕ) (t : List ℕ) (i : ℕ) → length t ≤ i → f ≡ filled_byte f t i
-filled_past f t i h = rw (le-ltb i (length t) h)
-
--- byte i of the eleven: the first part's, or the second's
-pub byte_of_base : (i r x y : ℕ) → i < 8 → r ≡ x → r ≡ cond (ltb i 8) x y
-byte_of_base i r x y h e = e ∙ rw (lt-ltb i 8 h)
-
-pub byte_of_ext : (i r x y : ℕ) → 8 ≤ i → r ≡ y → r ≡ cond (ltb i 8) x y
-byte_of_ext i r x y h e = e ∙ rw (le-ltb i 8 h)
-
--- the bytes of name below i are these
-abbrev pub Done : (ℕ → ℕ) → List ℕ → ℕ → Type 0
-Done byte name i = (k : ℕ) → k < i → get_or name k 0 ≡ byte k
-
-pub done_none : (byte : ℕ → ℕ) (name : List ℕ) → Done byte name 0
-done_none byte name k h = absurd (omega arith)
-
-pub done_turn : (byte : ℕ → ℕ) (name : List ℕ) (i r : ℕ) → length name ≡ 11 → i < 11 → Done byte name i → r ≡ byte i → Done byte (set name i r) (i + 1)
-done_turn byte name i r l h d e k b = elim (ℕ_discrete k i) [
-  | yes p ↦ rw p (get_or-set_same name i r 0 (omega arith) ∙ e)
-  | no p ↦ get_or-set_other name i k r 0 p ∙ d k (omega arith)
-]
-
--- two lists of eleven bytes are one where these are the bytes of both
-pub done_same : (byte : ℕ → ℕ) (name n : List ℕ) → length name ≡ 11 → length n ≡ 11 → Done byte name 11 → Done byte n 11 → name ≡ n
-done_same byte name n l m d e = ext_get_or 0 name n (l ∙ sym m) (λ j h. d j (omega arith) ∙ sym (e j (omega arith)))
-
-pub done_all : (base ext name : List ℕ) (i : ℕ) → Parts (every allowed) base ext → length name ≡ 11 → 11 ≤ i → Done (name_byte base ext) name i → name ≡ eleven base ext
-done_all base ext name i p l g d =
-    done_same (name_byte base ext) name (eleven base ext) l (length_eleven base ext p) (λ k h. d k (omega arith)) (eleven_at base ext p)
-
--- ---- the answer
-
-module _ (good : List ℕ → Bool) (bytes : List ℕ → List ℕ → List ℕ) (base ext : List ℕ) (f : Bool) (fit : f ≡ fitting good base ext) where
-  pub parts_refused : not f ≡ true → record { fits = false; name = replicate 11 space } ≡ spelled_as good bytes base ext
-  parts_refused h = rw (sym fit ∙ not-true f h)
-
-  pub parts_kept : not f ≡ false → Parts good base ext
-  parts_kept h = fitting_parts good base ext (sym fit ∙ not-false f h)
-
-  pub parts_named : (n : List ℕ) → not f ≡ false → n ≡ bytes base ext → record { fits = true; name = n } ≡ spelled_as good bytes base ext
-  parts_named n h e = rw (sym fit ∙ not-false f h, e)
-
-module _ (s : List ℕ) (at : ℕ) where
-  pub length_front : at < length s → at ≡ length (take at s)
-  length_front h = sym (length-take-le at s (omega arith))
-
-  -- what is cut at the first dot, or whole, is what any function of the two parts takes
-  module _ (f : List ℕ → List ℕ → Spelled) (r : Spelled) (is : at ≡ length (before_first dot s)) where
-    pub cut_dot : r ≡ f (take at s) (take (length s - (at + 1)) (drop (at + 1) s)) → r ≡ f (before_first dot s) (after_first dot s)
-    cut_dot e =
-        let a : take at s ≡ before_first dot s = rw is (take_before dot s) in
-        let b : drop (at + 1) s ≡ after_first dot s = rw (is, add-one (length (before_first dot s))) (drop_after dot s) in
-        let t : take (length s - (at + 1)) (drop (at + 1) s) ≡ drop (at + 1) s = take_all (length s - (at + 1)) (drop (at + 1) s) (simp length-drop (omega arith)) in
-        e ∙ rw (t, a, b)
-
-    pub cut_none : length s ≤ at → r ≡ f s [] → r ≡ f (before_first dot s) (after_first dot s)
-    cut_none h e =
-        let a : before_first dot s ≡ s = sym (take_before dot s) ∙ take_all (length (before_first dot s)) s (omega arith) in
-        let b : after_first dot s ≡ [] = sym (drop_after dot s) ∙ drop_of_length-le s {i = suc (length (before_first dot s))} (omega arith) in
-        e ∙ rw (a, b)
-
-  module _ (r : Spelled) (is : at ≡ length (before_first dot s)) where
-    pub given_dot : r ≡ spelled_as (every allowed) eleven (take at s) (take (length s - (at + 1)) (drop (at + 1) s)) → r ≡ name_given s
-    unfolding name_given
-    given_dot = cut_dot (spelled_as (every allowed) eleven) r is
-
-    pub given_plain : length s ≤ at → r ≡ spelled_as (every allowed) eleven s [] → r ≡ name_given s
-    unfolding name_given
-    given_plain = cut_none (spelled_as (every allowed) eleven) r is
+    pub answered : (n : List ℕ) → true ≡ (within 0 3 (length ext) && good ext) → n ≡ bytes base ext → Some n ≡ answer good bytes s
+    answered n e is = rw (← is_base, ← is_ext, fitting_each good base ext, ← fits, ← e, is)

@@ -1,12 +1,12 @@
 -- The function answers what a caller may write, and refuses the rest.
-use Rattle.std.specs.Prelude.{ℕ, Bool, true, false, ◌↔◌, ◌≡◌, eqb, replicate}
-use Rattle.std.proofs.Common.{true≢false, ◌∙◌, ne_eqb}
+use Rattle.std.specs.Prelude.{ℕ, Bool, true, false, Option, Some, None, ◌↔◌, ◌≡◌, eqb}
+use Rattle.std.proofs.Common.{◌∙◌, ne_eqb}
 use Rattle.std.proofs.Math.Bool.{not}
 use mathlib.Core.List.{List, [], ◌∷◌, ◌++◌, append-nil}
 use Rattle.std.proofs.Math.Logic.{inl, inr}
 use Rattle.std.proofs.Math.Path.{refl, sym, ap}
 use Rattle.names.specs.Alphabet.{plain, allowed}
-use Rattle.names.specs.Spelling.{dot, space, every, Spells, eleven, Means}
+use Rattle.names.specs.Spelling.{dot, every, Spells, eleven, Means}
 use Rattle.names.specs.Reading.{before_first, after_first, fitting, spelled_if, name_given}
 use Rattle.names.specs.Aids.Reading.{undotted, answer}
 use Rattle.names.proofs.Laws.Tests.{fitting_parts, parts_fitting}
@@ -34,46 +34,37 @@ module _ (good : List ℕ → Bool) (no_dots : (t : List ℕ) → good t ≡ tru
 
 -- ---- what the answer is, if bytes makes the eleven of two good parts
 
-if_fits : (b : Bool) (n : List ℕ) → (spelled_if b n).fits ≡ b
-if_fits true n = refl
-if_fits false n = refl
+if_some : (b : Bool) (m n : List ℕ) → spelled_if b m ≡ Some n → (b ≡ true) × (m ≡ n)
+if_some true m n e = (refl, cc)
+if_some false m n e = absurd (cc)
 
-if_name : (b : Bool) (n : List ℕ) → (spelled_if b n).fits ≡ true → (spelled_if b n).name ≡ n
-if_name true n e = refl
-if_name false n e = absurd (true≢false (sym e))
-
-if_refused : (b : Bool) (n : List ℕ) → (spelled_if b n).fits ≡ false → (spelled_if b n).name ≡ replicate 11 space
-if_refused true n e = absurd (true≢false e)
-if_refused false n e = refl
+if_none : (b : Bool) (n : List ℕ) → spelled_if b n ≡ None → b ≡ false
+if_none true n e = absurd (cc)
+if_none false n e = refl
 
 module _ (good : List ℕ → Bool) (bytes : List ℕ → List ℕ → List ℕ) (s : List ℕ) where
-  fits_fitting : (answer good bytes s).fits ≡ fitting good (before_first dot s) (after_first dot s)
-  fits_fitting = if_fits (fitting good (before_first dot s) (after_first dot s)) (bytes (before_first dot s) (after_first dot s))
+  module _ (n : List ℕ) (e : answer good bytes s ≡ Some n) where
+    pub answer_name : n ≡ bytes (before_first dot s) (after_first dot s)
+    answer_name = sym (if_some (fitting good (before_first dot s) (after_first dot s)) _ n e).1
 
-  pub answer_name : (answer good bytes s).fits ≡ true → (answer good bytes s).name ≡ bytes (before_first dot s) (after_first dot s)
-  answer_name = if_name (fitting good (before_first dot s) (after_first dot s)) (bytes (before_first dot s) (after_first dot s))
-
-  pub answer_spells : (answer good bytes s).fits ≡ true → Spells good s (before_first dot s) (after_first dot s)
-  answer_spells e = record { parts = fitting_parts good (before_first dot s) (after_first dot s) (sym fits_fitting ∙ e); written = cut dot s }
+    pub answer_spells : Spells good s (before_first dot s) (after_first dot s)
+    answer_spells =
+        let f = if_some (fitting good (before_first dot s) (after_first dot s)) (bytes (before_first dot s) (after_first dot s)) n e in
+        record { parts = fitting_parts good (before_first dot s) (after_first dot s) f.0; written = cut dot s }
 
   module _ (no_dots : (t : List ℕ) → good t ≡ true → undotted t ≡ true) where
-    pub spells_answer : (base ext : List ℕ) → Spells good s base ext → (answer good bytes s).fits ≡ true
-    spells_answer base ext w =
-        let p = spells_parts good no_dots s base ext w in
-        fits_fitting ∙ rw (p.0, p.1) (parts_fitting good base ext w.parts)
+    pub spells_answer : (base ext : List ℕ) → Spells good s base ext → answer good bytes s ≡ Some (bytes base ext)
+    spells_answer base ext w = let p = spells_parts good no_dots s base ext w in rw (p.0, p.1, parts_fitting good base ext w.parts)
 
-    pub answer_bytes : (base ext : List ℕ) → Spells good s base ext → (answer good bytes s).name ≡ bytes base ext
-    answer_bytes base ext w = let p = spells_parts good no_dots s base ext w in answer_name (spells_answer base ext w) ∙ rw (p.0, p.1)
-
-    pub answer_refused : ((answer good bytes s).fits ≡ false) ↔ ((base ext : List ℕ) → Spells good s base ext → ⊥)
-    answer_refused = (there, back (answer good bytes s).fits refl)
+    pub answer_refused : (answer good bytes s ≡ None) ↔ ((base ext : List ℕ) → Spells good s base ext → ⊥)
+    answer_refused = (there, back (answer good bytes s) refl)
       where
-        there : (answer good bytes s).fits ≡ false → (base ext : List ℕ) → Spells good s base ext → ⊥
-        there e base ext w = true≢false (sym (spells_answer base ext w) ∙ e)
+        there : answer good bytes s ≡ None → (base ext : List ℕ) → Spells good s base ext → ⊥
+        there e base ext w = let f = spells_answer base ext w in cc
 
-        back : (b : Bool) → (answer good bytes s).fits ≡ b → ((base ext : List ℕ) → Spells good s base ext → ⊥) → b ≡ false
-        back true e n = absurd (n (before_first dot s) (after_first dot s) (answer_spells e))
-        back false e n = refl
+        back : (o : Option (List ℕ)) → answer good bytes s ≡ o → ((base ext : List ℕ) → Spells good s base ext → ⊥) → o ≡ None
+        back (Some n) e h = absurd (h (before_first dot s) (after_first dot s) (answer_spells n e))
+        back None e h = refl
 
 -- ---- names
 
@@ -86,34 +77,26 @@ allowed_undotted : (t : List ℕ) → every allowed t ≡ true → undotted t �
 allowed_undotted = every_also allowed (λ (c : ℕ). not (eqb c dot)) (λ c a. rw (ne_eqb c dot (told allowed c dot a no_dot)))
 
 module _ (s : List ℕ) where
-  pub fits_name : (name_given s).fits ≡ true → (name_given s).name ≡ eleven (before_first dot s) (after_first dot s)
+  pub fits_name : (n : List ℕ) → name_given s ≡ Some n → n ≡ eleven (before_first dot s) (after_first dot s)
   unfolding name_given
   fits_name = answer_name (every allowed) eleven s
 
-  pub refused_name : (name_given s).fits ≡ false → (name_given s).name ≡ replicate 11 space
-  unfolding name_given
-  refused_name = if_refused (fitting (every allowed) (before_first dot s) (after_first dot s)) (eleven (before_first dot s) (after_first dot s))
-
-  pub fits_spells : (name_given s).fits ≡ true → Spells (every allowed) s (before_first dot s) (after_first dot s)
+  pub fits_spells : (n : List ℕ) → name_given s ≡ Some n → Spells (every allowed) s (before_first dot s) (after_first dot s)
   unfolding name_given
   fits_spells = answer_spells (every allowed) eleven s
 
-  pub spells_fits : (base ext : List ℕ) → Spells (every allowed) s base ext → (name_given s).fits ≡ true
+  pub spells_fits : (base ext : List ℕ) → Spells (every allowed) s base ext → name_given s ≡ Some (eleven base ext)
   unfolding name_given
   spells_fits = spells_answer (every allowed) eleven s allowed_undotted
 
-  spells_name : (base ext : List ℕ) → Spells (every allowed) s base ext → (name_given s).name ≡ eleven base ext
-  unfolding name_given
-  spells_name = answer_bytes (every allowed) eleven s allowed_undotted
-
   -- it is refused exactly where nothing is spelled
-  pub refused : ((name_given s).fits ≡ false) ↔ ((base ext : List ℕ) → Spells (every allowed) s base ext → ⊥)
+  pub refused : (name_given s ≡ None) ↔ ((base ext : List ℕ) → Spells (every allowed) s base ext → ⊥)
   unfolding name_given
   refused = answer_refused (every allowed) eleven s allowed_undotted
 
 -- eleven bytes are answered exactly where s means them
-pub accepted : (s n : List ℕ) → (((name_given s).fits ≡ true) × ((name_given s).name ≡ n)) ↔ Means s n
+pub accepted : (s n : List ℕ) → (name_given s ≡ Some n) ↔ Means s n
 accepted s n = (
-  λ h. record { base = before_first dot s; ext = after_first dot s; spells = fits_spells s h.0; bytes = sym h.1 ∙ fits_name s h.0 },
-  λ m. (spells_fits s m.base m.ext m.spells, spells_name s m.base m.ext m.spells ∙ sym m.bytes),
+  λ e. record { base = before_first dot s; ext = after_first dot s; spells = fits_spells s n e; bytes = fits_name s n e },
+  λ m. spells_fits s m.base m.ext m.spells ∙ ap Some (sym m.bytes),
 )

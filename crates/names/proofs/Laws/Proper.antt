@@ -1,5 +1,5 @@
 -- The eleven bytes of an accepted name can stand in the entry of a live file.
-use Rattle.std.specs.Prelude.{ℕ, ◌-◌, ◌<◌, true, List, ◌⊎◌, ◌≢◌, ◌≡◌, refl, length, get_or}
+use Rattle.std.specs.Prelude.{ℕ, ◌-◌, ◌<◌, true, List, Some, ◌⊎◌, ◌≢◌, ◌≡◌, refl, length, get_or}
 use Rattle.std.proofs.Common.{arith, inl, inr, lt-ltb, le-ltb}
 use Rattle.std.proofs.Math.Decide.{dec_lt}
 use Rattle.std.proofs.Math.ListN.{get_or-eq_default}
@@ -55,9 +55,9 @@ module _ (base ext : List ℕ) (p : Parts (every allowed) base ext) where
         dotted = told plain (get_or (eleven base ext) 0 0) dot opening refl;
       }
 
-pub proper : (s : List ℕ) → (name_given s).fits ≡ true → Proper (name_given s).name
-proper s e = rw (fits_name s e) (proper_eleven (before_first dot s) (after_first dot s) (fits_spells s e).parts)
+pub proper : (s n : List ℕ) → name_given s ≡ Some n → Proper n
+proper s n e = rw (fits_name s n e) (proper_eleven (before_first dot s) (after_first dot s) (fits_spells s n e).parts)
 
 -- Names found on a volume may hold other bytes; they are then out of a caller's reach.
-pub out_of_reach : (n : List ℕ) → (Proper n → ⊥) → (s : List ℕ) → (name_given s).fits ≡ true → (name_given s).name ≢ n
-out_of_reach n h s e q = h (rw q at (proper s e))
+pub out_of_reach : (n : List ℕ) → (Proper n → ⊥) → (s : List ℕ) → name_given s ≢ Some n
+out_of_reach n h s e = h (proper s n e)

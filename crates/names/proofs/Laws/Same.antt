@@ -1,12 +1,12 @@
 -- Two spellings name the same file exactly where they differ at most in the case of letters and a last dot.
-use Rattle.std.specs.Prelude.{ℕ, zero, suc, ◌-◌, true, false, ◌↔◌, ◌≡◌, refl, length, take, drop, replicate}
+use Rattle.std.specs.Prelude.{ℕ, zero, suc, ◌-◌, true, false, Some, ◌↔◌, ◌≡◌, refl, length, take, drop, replicate}
 use Rattle.std.proofs.Common.{arith, inl, inr, ◌∙◌, take_at, drop_at}
 use mathlib.Core.List.{List, [], ◌∷◌, ◌++◌, map, append-nil, map-append}
 use Rattle.std.proofs.Math.Path.{sym, ap}
 use Rattle.std.proofs.lemmas.List.{length-map}
 use Rattle.names.specs.Alphabet.{plain, allowed, capital}
 use Rattle.names.specs.Spelling.{dot, space, every, Parts, Spells, padded, eleven, without_last, plainly}
-use Rattle.names.specs.Reading.{before_first, after_first, fitting, spelled_if, name_given}
+use Rattle.names.specs.Reading.{before_first, after_first, fitting, name_given}
 use Rattle.names.proofs.Laws.Alphabet.{capital_plain, every_map}
 use Rattle.names.proofs.Laws.Parts.{before_skip, after_skip, without_none, length_filled}
 use Rattle.names.proofs.Laws.Meaning.{no_dot, fits_spells, fits_name}
@@ -118,16 +118,16 @@ spells_same s b e t c f w v =
       λ h. same_eleven b e c f w.parts v.parts (sym x ∙ h ∙ y),
     )
 
-pub same : (s t : List ℕ) → (name_given s).fits ≡ true → (name_given t).fits ≡ true → ((name_given s).name ≡ (name_given t).name) ↔ (plainly s ≡ plainly t)
-same s t f g =
-    rw (fits_name s f, fits_name t g)
-    (spells_same s (before_first dot s) (after_first dot s) t (before_first dot t) (after_first dot t) (fits_spells s f) (fits_spells t g))
+pub same : (s t m n : List ℕ) → name_given s ≡ Some m → name_given t ≡ Some n → (m ≡ n) ↔ (plainly s ≡ plainly t)
+same s t m n f g =
+    rw (fits_name s m f, fits_name t n g)
+    (spells_same s (before_first dot s) (after_first dot s) t (before_first dot t) (after_first dot t) (fits_spells s m f) (fits_spells t n g))
 
 -- "TARE." equals "TARE"
 abbrev pub tare : List ℕ
 tare = 0x54 ∷ 0x41 ∷ 0x52 ∷ 0x45 ∷ []
 
-pub tare_bytes : name_given tare ≡ spelled_if true (tare ++ replicate 7 space)
+pub tare_bytes : name_given tare ≡ Some (tare ++ replicate 7 space)
 unfolding name_given before_first after_first fitting every plain allowed capital eleven
 tare_bytes = refl
 

@@ -1,6 +1,5 @@
 -- What the tests answer.
-use Rattle.std.specs.Prelude.{ℕ, Bool, true, false, ◌&&◌, ◌||◌, List, ◌⊎◌, ◌≡◌, refl, leb, length}
-use Rattle.std.proofs.Common.{inl, inr}
+use Rattle.std.specs.Prelude.{ℕ, Bool, true, false, ◌&&◌, List, ◌≡◌, refl, leb, length}
 use borrow.Author.Tests.{leb-true, le-leb}
 use Rattle.names.specs.Spelling.{Parts}
 use Rattle.names.specs.Reading.{fitting}
@@ -13,10 +12,6 @@ pub and_right : (a b : Bool) → (a && b) ≡ true → b ≡ true
 and_right true b e = e
 and_right false true e = refl
 and_right false false e = e
-
-pub or_cases : (a b : Bool) → (a || b) ≡ true → (a ≡ true) ⊎ (b ≡ true)
-or_cases true b e = inl refl
-or_cases false b e = inr e
 
 module _ (good : List ℕ → Bool) (base ext : List ℕ) where
   pub fitting_parts : fitting good base ext ≡ true → Parts good base ext

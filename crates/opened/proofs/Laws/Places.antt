@@ -1,13 +1,11 @@
 -- The tests and searches say what the paper's words say.
-use Rattle.std.specs.Prelude.{ℕ, ◌<◌, Bool, false, cond, ◌&&◌, List, ◌↔◌, refl, eqb, leb, ltb}
+use Rattle.std.specs.Prelude.{ℕ, ◌<◌, Bool, false, cond, ◌&&◌, List, ◌↔◌, refl, eqb, leb, ltb, Option, Some, None}
 use Rattle.std.proofs.Common.{arith, sym, ◌∙◌}
 use Rattle.std.proofs.Math.Bool.{true}
 use Rattle.std.proofs.Math.Path.{◌≡◌}
 use borrow.Author.Tests.{ltb-true, leb-true, eqb-true, lt-ltb, le-leb, eq-eqb, not-true}
 use Rattle.search.specs.Search.{lowest, Answers, is_found}
 use Rattle.search.proofs.Laws.Answers.{below_answers}
-use Rattle.search.specs.declared.Found.{Found}
-use Rattle.search.specs.declared.Found.TheVariants.{At, Nothing}
 use Rattle.directory.specs.Slots.{standing_of, is_plain}
 use Rattle.directory.proofs.Laws.Slots.{plain_is}
 use Rattle.opened.specs.Records.{place_count, used_of, slot_of, access_of}
@@ -44,32 +42,32 @@ module _ (t : List ℕ) (h : ℕ) (l : List ℕ) (way : ℕ → ℕ) (count : �
           rw (lt-ltb h (place_count t) v.counted, v.used, le-leb (access_of t h) 2 v.access, lt-ltb (slot_of t h) count v.slot)
           ((plain_is l (way (slot_of t h))).1 v.plain)
 
-  by : (b : Bool) → is_live t h l way count ≡ b → live_slot t h l way count ≡ cond b (At (slot_of t h)) Nothing
+  by : (b : Bool) → is_live t h l way count ≡ b → live_slot t h l way count ≡ cond b (Some (slot_of t h)) None
   unfolding live_slot
   by b e = rw e
 
   -- a handle reaches the slot that its place names, where the place is live
-  pub live_slot_at : LivePlace t h l way count → live_slot t h l way count ≡ At (slot_of t h)
+  pub live_slot_at : LivePlace t h l way count → live_slot t h l way count ≡ Some (slot_of t h)
   live_slot_at v = by true (live_is.1 v)
 
-  pub live_slot_is : (s : ℕ) → live_slot t h l way count ≡ At s → LivePlace t h l way count × (slot_of t h ≡ s)
+  pub live_slot_is : (s : ℕ) → live_slot t h l way count ≡ Some s → LivePlace t h l way count × (slot_of t h ≡ s)
   live_slot_is s e = cases (is_live t h l way count) refl
     where
       cases : (b : Bool) → is_live t h l way count ≡ b → LivePlace t h l way count × (slot_of t h ≡ s)
       cases true f = (live_is.0 f, same (sym (by true f) ∙ e))
         where
-          same : At (slot_of t h) ≡ At s → slot_of t h ≡ s
+          same : Some (slot_of t h) ≡ Some s → slot_of t h ≡ s
           same g = cc
       cases false f = absurd (let g = sym (by false f) ∙ e in let z : ◌≡◌ {A = ℕ} 0 1 = cc in omega arith)
 
   -- and nothing where it is not
-  pub live_slot_none : (live_slot t h l way count ≡ Nothing) ↔ ¬ LivePlace t h l way count
+  pub live_slot_none : (live_slot t h l way count ≡ None) ↔ ¬ LivePlace t h l way count
   live_slot_none = (λ e v. clash (sym (live_slot_at v) ∙ e), λ n. cases n (is_live t h l way count) refl)
     where
-      clash : At (slot_of t h) ≡ Nothing → ⊥
+      clash : Some (slot_of t h) ≡ None → ⊥
       clash e = let z : ◌≡◌ {A = ℕ} 0 1 = cc in omega arith
 
-      cases : ¬ LivePlace t h l way count → (b : Bool) → is_live t h l way count ≡ b → live_slot t h l way count ≡ Nothing
+      cases : ¬ LivePlace t h l way count → (b : Bool) → is_live t h l way count ≡ b → live_slot t h l way count ≡ None
       cases n true f = absurd (n (live_is.0 f))
       cases n false f = by false f
 
@@ -103,13 +101,13 @@ module _ (t : List ℕ) (slot : ℕ) where
   unfolding is_open
   open_is = (to (lowest (names_slot t slot) 0 (place_count t)) search_answers, λ n. from n (lowest (names_slot t slot) 0 (place_count t)) search_answers)
     where
-      to : (r : Found) → Answers (λ p. (p < place_count t) × NamesAt t slot p) r → is_found r ≡ true → (p : ℕ) × (p < place_count t) × NamesAt t slot p
-      to (At p) a e = (p, a.0.0, a.0.1)
-      to Nothing a e = absurd (let z : ◌≡◌ {A = ℕ} 0 1 = cc in omega arith)
+      to : (r : Option ℕ) → Answers (λ p. (p < place_count t) × NamesAt t slot p) r → is_found r ≡ true → (p : ℕ) × (p < place_count t) × NamesAt t slot p
+      to (Some p) a e = (p, a.0.0, a.0.1)
+      to None a e = absurd (let z : ◌≡◌ {A = ℕ} 0 1 = cc in omega arith)
 
-      from : ((p : ℕ) × (p < place_count t) × NamesAt t slot p) → (r : Found) → Answers (λ p. (p < place_count t) × NamesAt t slot p) r → is_found r ≡ true
-      from n (At p) a = refl
-      from n Nothing a = absurd (a n.0 (n.1, n.2))
+      from : ((p : ℕ) × (p < place_count t) × NamesAt t slot p) → (r : Option ℕ) → Answers (λ p. (p < place_count t) × NamesAt t slot p) r → is_found r ≡ true
+      from n (Some p) a = refl
+      from n None a = absurd (a n.0 (n.1, n.2))
 
   -- no used place names it
   pub closed_is : (is_open t slot ≡ false) ↔ ((p : ℕ) → p < place_count t → ¬ NamesAt t slot p)

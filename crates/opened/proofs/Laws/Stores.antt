@@ -1,6 +1,6 @@
 -- After each of the four stores: what the place holds, that no other has changed, that bytes stay bytes. No law outside this
 -- file and Records knows where a field stands.
-use Rattle.std.specs.Prelude.{ℕ, zero, suc, ◌+◌, ◌*◌, ◌≤◌, ◌<◌, Bool, false, List, [], ◌∷◌, ◌++◌, ◌≡◌, eqb, length, get_or, set, replicate}
+use Rattle.std.specs.Prelude.{ℕ, zero, suc, ◌+◌, ◌*◌, ◌≤◌, ◌<◌, Bool, false, List, [], ◌∷◌, ◌++◌, ◌≡◌, eqb, length, get_or, replicate}
 use native.Mathlib.Omega.{arith}
 use Rattle.std.proofs.Math.Bool.{true, not}
 use Rattle.std.proofs.Common.{inl, inr, ◌∙◌}
@@ -152,15 +152,6 @@ module _ (t : List ℕ) (p : ℕ) (k : p < place_count t) where
   cleared_bytes b = bytes_stored t (place_at p) (replicate 16 0) b (bytes_digits 0 16)
 
 -- ---- the code's needs: stores side by side
-
-pub marks_stored : (t : List ℕ) (p access : ℕ)
-    → set (set (set (set t (16 * p) 1) (16 * p + 1) access) (16 * p + 2) 0) (16 * p + 3) 0
-    ≡ stored t (place_at p) (mark_bytes access false)
-unfolding stored mark_bytes
-marks_stored t p access =
-    let d : 16 * p + 1 + 1 ≡ 16 * p + 2 = omega arith in
-    let e : 16 * p + 2 + 1 ≡ 16 * p + 3 = omega arith in
-    rw (d, e)
 
 zeros : digits 0 4 ≡ replicate 4 0
 unfolding digits

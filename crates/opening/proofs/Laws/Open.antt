@@ -1,39 +1,40 @@
 -- Open: what it refuses and what it leaves, by its rows. Only one outcome fits.
-use Rattle.std.specs.Prelude.{ℕ, ◌≤◌, ◌<◌, Bool, true, false, ◌&&◌, List, [], ◌∷◌, ◌≡◌, refl, ltb}
+use Rattle.std.specs.Prelude.{ℕ, ◌≤◌, ◌<◌, Bool, true, false, ◌&&◌, List, [], ◌∷◌, ◌≡◌, refl, ltb, Option, Result, Ok, Err, ok_or}
 use Rattle.std.proofs.Common.{sym, ap, ◌∙◌}
 use borrow.Author.Tests.{lt-ltb, le-ltb}
-use Rattle.search.specs.declared.Found.{Found}
-use Rattle.search.specs.declared.Found.TheVariants.{At}
 use Rattle.opened.specs.Records.{with_record}
 use Rattle.opened.specs.Places.{lowest_unused}
-use Rattle.calls.specs.Numbers.{access_denied}
+use Rattle.calls.specs.declared.refusal.Refusal.{Refusal}
+use Rattle.calls.specs.declared.refusal.Refusal.TheVariants.{TooManyOpen}
+use Rattle.calls.proofs.Laws.Exits.{had}
+use Rattle.calls.specs.Numbers.{access_denied, refusal_number}
 use Rattle.calls.specs.Outcome.{Row, Outcome, refusal, decided}
-use Rattle.calls.specs.Aids.Answers.{refused_by, answering}
 use Rattle.calls.specs.Refusals.{read_only, file_slot}
 use Rattle.calls.proofs.Laws.Rows.{Stops, stops_at, stops_past, stopped}
 use Rattle.calls.proofs.Laws.Named.{FileNamed}
-use Rattle.calls.specs.declared.Answer.{Answer}
+use Rattle.calls.specs.Answers.{Answer, number_told, value_told}
 use Rattle.opening.specs.Open.{open_rows, open_outcome, Opens}
 
 pub opens_only : {img t s : List ℕ} {access : ℕ} {r r' : Answer} {m m' : List ℕ} → Opens img t s access r m → Opens img t s access r' m'
-    → (r.number ≡ r'.number) × (r.value ≡ r'.value) × (m ≡ m')
+    → (number_told r ≡ number_told r') × (value_told r ≡ value_told r') × (m ≡ m')
 opens_only x y =
     let e = x.is ∙ sym y.is in
     (ap (λ (o : Outcome). o.number) e, ap (λ (o : Outcome). o.value) e, ap (λ (o : Outcome). o.table) e)
 
 -- ---- its rows: one stops it, or all are passed
 
-module _ (img t s : List ℕ) (access : ℕ) (a : Answer) where
-  pub open_refused : (n : ℕ) → a ≡ refused_by n → Stops (open_rows img t s access) n → Opens img t s access a t
-  unfolding open_outcome
-  open_refused n x q = record { is = rw x (sym (stopped _ n q _ img t [])) }
+pub open_refused : {img t s : List ℕ} {access : ℕ} {a : Answer} {e : Refusal} → a ≡ Err e → Stops (open_rows img t s access) (refusal_number e)
+    → Opens img t s access a t
+unfolding open_outcome
+open_refused x q = record { is = rw x (sym (stopped _ _ q _ _ _ [])) }
 
+module _ (img t s : List ℕ) (access : ℕ) (a : Answer) where
   pub open_well : access ≤ 2 → (slot : ℕ) (b : Bool) → b ≡ (ltb 0 access && read_only img slot) → b ≡ false
-      → (p : Found) → p ≡ lowest_unused t → (place : ℕ) → p ≡ At place → (m : List ℕ) → m ≡ with_record t place access slot 0 false → a ≡ answering place
-      → FileNamed img s slot → Opens img t s access a m
+      → (p : Option ℕ) → p ≡ lowest_unused t → (o : Result ℕ Refusal) → o ≡ ok_or p TooManyOpen → (place : ℕ) → o ≡ Ok place
+      → (m : List ℕ) → m ≡ with_record t place access slot 0 false → a ≡ Ok place → FileNamed img s slot → Opens img t s access a m
   unfolding open_outcome decided refusal
-  open_well small slot b barred free p lowest place at m e x i = record {
-    is = rw (x, e, i.known, i.sound, le-ltb 2 access small, i.good, i.found, ← barred, free, ← lowest, at);
+  open_well small slot b barred free p lowest o wanted place there m e x i = record {
+    is = rw (x, e, i.known, i.sound, le-ltb 2 access small, i.good, i.found, ← barred, free, ← lowest, had p TooManyOpen o wanted place there);
   }
 
 -- ---- a read-only file opens with access 0 alone; b is whether it is barred

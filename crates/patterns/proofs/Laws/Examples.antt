@@ -1,12 +1,12 @@
 -- Patterns that a caller may write and such as are refused, what two of them mean, and a name that matches.
-use Rattle.std.specs.Prelude.{ℕ, Bool, true, false, List, [], ◌∷◌, ◌++◌, map, ◌≡◌, refl, replicate}
+use Rattle.std.specs.Prelude.{ℕ, Bool, true, false, List, [], ◌∷◌, ◌++◌, map, Some, is_some, ◌≡◌, refl, replicate}
 use Rattle.names.specs.Alphabet.{plain, allowed, capital}
 use Rattle.names.specs.Spelling.{dot, space, every, eleven, without_last}
-use Rattle.names.specs.Reading.{before_first, after_first, fitting, spelled_if, name_given}
+use Rattle.names.specs.Reading.{before_first, after_first, fitting, name_given}
 use Rattle.patterns.specs.Patterns.{any, star, pattern_sign, pattern_part, eleven_wild, pattern_given, matches_from, matches}
 
 abbrev fits : List ℕ → Bool
-fits s = (pattern_given s).fits
+fits s = is_some (pattern_given s)
 
 -- A to G
 abbrev letters : List ℕ
@@ -16,9 +16,13 @@ letters = 0x41 ∷ 0x42 ∷ 0x43 ∷ 0x44 ∷ 0x45 ∷ 0x46 ∷ 0x47 ∷ []
 abbrev day : List ℕ
 day = 0x44 ∷ 0x41 ∷ 0x59 ∷ []
 
+-- LOG
+abbrev extension : List ℕ
+extension = 0x4C ∷ 0x4F ∷ 0x47 ∷ []
+
 -- .LOG
 abbrev log : List ℕ
-log = dot ∷ 0x4C ∷ 0x4F ∷ 0x47 ∷ []
+log = dot ∷ extension
 
 -- `DAY???.LOG`, `*`, `*.*`, `ABCDEFG*`
 pub good_ones : map fits
@@ -34,15 +38,18 @@ unfolding pattern_given pattern_part pattern_sign without_last before_first afte
 bad_ones = refl
 
 -- `*` leaves the extension blank, `*.*` is all
-pub star_bytes : pattern_given (star ∷ []) ≡ spelled_if true (replicate 8 any ++ replicate 3 space)
+pub star_bytes : pattern_given (star ∷ []) ≡ Some (replicate 8 any ++ replicate 3 space)
 unfolding pattern_given pattern_part pattern_sign without_last before_first after_first fitting every plain allowed capital eleven_wild
 star_bytes = refl
 
-pub all_bytes : pattern_given (star ∷ dot ∷ star ∷ []) ≡ spelled_if true (replicate 11 any)
+pub all_bytes : pattern_given (star ∷ dot ∷ star ∷ []) ≡ Some (replicate 11 any)
 unfolding pattern_given pattern_part pattern_sign without_last before_first after_first fitting every plain allowed capital eleven_wild
 all_bytes = refl
 
 -- `DAY?.LOG` matches DAY.LOG: its `?` meets padding
-pub padding_matches : matches (pattern_given (day ++ (any ∷ log))).name (name_given (day ++ log)).name ≡ true
+pub padding_matches : (p n : List ℕ) → pattern_given (day ++ (any ∷ log)) ≡ Some p → name_given (day ++ log) ≡ Some n → matches p n ≡ true
 unfolding pattern_given name_given pattern_part pattern_sign without_last before_first after_first fitting every plain allowed capital eleven_wild eleven matches matches_from
-padding_matches = refl
+padding_matches p n e f =
+    let p_is : p ≡ day ++ (any ∷ replicate 4 space) ++ extension = cc in
+    let n_is : n ≡ day ++ replicate 5 space ++ extension = cc in
+    rw (p_is, n_is)

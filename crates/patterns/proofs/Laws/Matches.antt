@@ -2,52 +2,41 @@
 use Prim.Native.Nat.{ℕ, zero, suc, ◌+◌, ◌-◌, ◌≤◌, ◌<◌}
 use native.Mathlib.Omega.{arith}
 use Rattle.std.proofs.Math.Decide.{ℕ_discrete}
-use Rattle.std.specs.Prelude.{Bool, true, false, not, ◌&&◌, List, ◌⊎◌, ◌≢◌, ◌↔◌, ◌≡◌, refl, eqb, length, get_or}
+use Rattle.std.specs.Prelude.{Bool, true, ◌&&◌, List, Some, ◌⊎◌, ◌≢◌, ◌↔◌, ◌≡◌, refl, eqb, length, get_or, take, drop, ◌∷◌}
 use Rattle.std.proofs.Math.Bool.{or-true}
-use Rattle.std.proofs.Common.{inl, inr, ⊎_elim, sym, ◌∙◌, ap, ext_get_or, eqb-true, eq-eqb, ne_eqb}
-use Rattle.std.proofs.lemmas.Bool.{not-true, not-false}
-use Rattle.image.proofs.Laws.Store.{part_at}
+use Rattle.std.proofs.Common.{inl, inr, ⊎_elim, sym, ◌∙◌, ap, ext_get_or, add-one, drop-cons, drop_of_length-le, eqb-true, eq-eqb}
+use Rattle.std.specs.List.{list_all, zip}
+use Rattle.image.proofs.Laws.Store.{length_part}
 use Rattle.fields.specs.Fields.{name_of}
+use Rattle.std.proofs.lemmas.Bool.{or_cases}
 use Rattle.names.specs.Alphabet.{plain}
-use Rattle.names.specs.Spelling.{Proper}
 use Rattle.names.specs.Reading.{name_given}
-use Rattle.names.proofs.Laws.Tests.{and_left, and_right, or_cases}
+use Rattle.names.proofs.Laws.Tests.{and_left, and_right}
 use Rattle.names.proofs.Laws.Alphabet.{told}
 use Rattle.names.proofs.Laws.Proper.{proper}
 use Rattle.patterns.specs.Patterns.{any, pattern_given, byte_matches, matches_from, matches}
 use Rattle.patterns.proofs.Laws.Meaning.{name_is_pattern}
 
--- ---- the code's needs: what is left to compare decides
+-- ---- the code's needs: the bytes that stand side by side decide
 
-module _ (p x : ℕ) where
-  pub byte_any : p ≡ any → true ≡ byte_matches p x
-  byte_any e = rw (eq-eqb p any e)
+drop_next : (s : List ℕ) (i : ℕ) → i < length s → drop i s ≡ get_or s i 0 ∷ drop (i + 1) s
+drop_next s i h = rw (add-one i) (drop-cons s i 0 h)
 
-  pub byte_itself : p ≢ any → eqb x p ≡ byte_matches p x
-  byte_itself n = rw (ne_eqb p any n)
+side_by_side : (p x : List ℕ) (i n : ℕ) → i + n ≡ length p → i + n ≡ length x
+    → matches_from p x i n ≡ list_all (λ (b : ℕ × ℕ). byte_matches b.0 b.1) (zip (drop i p) (drop i x))
+unfolding matches_from
+side_by_side p x i zero l m = rw (drop_of_length-le p {i = i} (omega arith)) refl
+side_by_side p x i (suc n) l m =
+    rw (drop_next p i (omega arith), drop_next x i (omega arith))
+    (ap (λ r. byte_matches (get_or p i 0) (get_or x i 0) && r) (side_by_side p x (i + 1) n (omega arith) (omega arith)))
 
-pub matches_all : (p x : List ℕ) → matches_from p x 0 (11 - 0) ≡ matches p x
+pub all_match : (p l : List ℕ) (a : ℕ) (r : Bool) → length p ≡ 11 → a + 32 ≤ length l
+    → r ≡ list_all (λ (b : ℕ × ℕ). byte_matches b.0 b.1) (zip p (take (a + 11 - a) (drop a l))) → r ≡ matches p (name_of l a)
 unfolding matches
-matches_all p x = refl
-
-module _ (p l : List ℕ) (a i : ℕ) (t : Bool) (inv : matches_from p (name_of l a) i (11 - i) ≡ t) where
-  pub matches_end : 11 ≤ i → true ≡ t
-  unfolding matches_from
-  matches_end h = let e : 11 - i ≡ 0 = omega arith in rw e at inv
-
-  -- the name's bytes are read where they stand
-  module _ (m : Bool) (is : m ≡ byte_matches (get_or p i 0) (get_or l (a + i) 0)) (h : i < 11) where
-    turn : (m && matches_from p (name_of l a) (i + 1) (11 - (i + 1))) ≡ t
-    unfolding matches_from
-    turn =
-        let e : 11 - i ≡ suc (11 - (i + 1)) = omega arith in
-        rw (is, ← part_at l a 11 i h) (sym (ap (matches_from p (name_of l a) i) e) ∙ inv)
-
-    pub matches_differs : not m ≡ true → false ≡ t
-    matches_differs n = rw (not-true m n) at turn
-
-    pub matches_more : not m ≡ false → matches_from p (name_of l a) (i + 1) (11 - (i + 1)) ≡ t
-    matches_more n = rw (not-false m n) at turn
+all_match p l a r long inside e =
+    let n : a + 11 - a ≡ 11 = omega arith in
+    let m : 11 ≡ length (name_of l a) = sym (length_part l a 11 (omega arith)) in
+    rw n at e ∙ sym (side_by_side p (name_of l a) 0 11 (sym long) m)
 
 -- ---- what it means
 
@@ -94,12 +83,15 @@ matches_itself p x l m none = (there, back)
     back e = (matches_means p x).1 (λ i h. inr (ap (λ (y : List ℕ). get_or y i 0) e))
 
 -- a name, taken as a pattern, matches itself alone
-pub name_matches : (s x : List ℕ) → (name_given s).fits ≡ true → length x ≡ 11 → (matches (pattern_given s).name x ≡ true) ↔ (x ≡ (name_given s).name)
+pub name_matches : (s n p x : List ℕ) → name_given s ≡ Some n → pattern_given s ≡ Some p → length x ≡ 11 → (matches p x ≡ true) ↔ (x ≡ n)
 unfolding plain
-name_matches s x f m = rw (name_is_pattern s f) (matches_itself (name_given s).name x p.long m none)
+name_matches s n p x f g m = let e : p ≡ n = same in rw e (matches_itself n x long m none)
   where
-    p : Proper (name_given s).name
-    p = proper s f
+    same : p ≡ n
+    same = let h = name_is_pattern s n f in cc
 
-    none : (i : ℕ) → i < 11 → get_or (name_given s).name i 0 ≢ any
-    none i h e = ⊎_elim (λ a. told plain (get_or (name_given s).name i 0) any a refl e) (λ b. absurd (omega arith)) (p.letters i h)
+    long : length n ≡ 11
+    long = (proper s n f).long
+
+    none : (i : ℕ) → i < 11 → get_or n i 0 ≢ any
+    none i h e = ⊎_elim (λ a. told plain (get_or n i 0) any a refl e) (λ b. absurd (omega arith)) ((proper s n f).letters i h)

@@ -1,18 +1,16 @@
--- A part without its last `*`, and the eleven bytes of two parts.
-use Rattle.std.specs.Prelude.{ℕ, suc, ◌-◌, ◌≤◌, ◌<◌, Bool, true, false, cond, not, List, [], ◌∷◌, ◌≡◌, refl, eqb, length, get_or, take}
-use Rattle.std.proofs.Common.{arith, sym, ◌∙◌, ap, get_or-take, eqb-true, ne_eqb}
+-- A part without its last `*`.
+use Rattle.std.specs.Prelude.{ℕ, suc, ◌-◌, ◌<◌, Bool, true, false, cond, not, List, [], ◌∷◌, ◌≡◌, refl, eqb, length, get_or, take}
+use Rattle.std.proofs.Common.{arith, sym, ◌∙◌, ap, take_all, eqb-true, ne_eqb}
 use Rattle.names.specs.Alphabet.{plain, allowed}
-use Rattle.names.specs.Spelling.{dot, space, every, Parts, without_last}
+use Rattle.names.specs.Spelling.{dot, every, without_last}
 use Rattle.names.specs.Aids.Reading.{undotted}
 use Rattle.names.proofs.Laws.Tests.{and_left, and_right}
 use Rattle.names.proofs.Laws.Alphabet.{told, every_also}
-use Rattle.names.proofs.Laws.Parts.{length_both, both_at}
-use Rattle.patterns.specs.Patterns.{any, star, pattern_sign, pattern_part, starred, eleven_wild}
-use Rattle.patterns.specs.Aids.Bytes.{pattern_byte}
+use Rattle.patterns.specs.Patterns.{star, pattern_sign, pattern_part, starred}
 
 -- ---- without a last `*`
 
-pub take_core : (t : List ℕ) → take (length (without_last star t)) t ≡ without_last star t
+take_core : (t : List ℕ) → take (length (without_last star t)) t ≡ without_last star t
 unfolding without_last
 take_core [] = refl
 take_core (c ∷ []) = go (eqb c star)
@@ -40,22 +38,18 @@ length_core (c ∷ (d ∷ cs)) =
     go true e = ap suc e
     go false e = ap suc e
 
-module _ (t : List ℕ) (s : Bool) (is : s ≡ starred t) where
-  pub core_starred : s ≡ true → length t - 1 ≡ length (without_last star t)
-  core_starred e = sym (length_core t ∙ rw (sym is ∙ e))
+pub core_front : (t : List ℕ) → starred t ≡ true → take (length t - 1) t ≡ without_last star t
+core_front t e = let n : length (without_last star t) ≡ length t - 1 = length_core t ∙ rw e in rw (← n) (take_core t)
 
-  pub core_whole : s ≡ false → length t ≡ length (without_last star t)
-  core_whole e = sym (length_core t ∙ rw (sym is ∙ e))
+pub core_all : (t : List ℕ) → starred t ≡ false → t ≡ without_last star t
+core_all t e = let n : length (without_last star t) ≡ length t = length_core t ∙ rw e in sym (take_all (length (without_last star t)) t (omega arith)) ∙ take_core t
 
-pub core_short : (t : List ℕ) → length (without_last star t) ≤ length t
-core_short t = go (starred t) (length_core t)
-  where
-    go : (b : Bool) → length (without_last star t) ≡ cond b (length t - 1) (length t) → length (without_last star t) ≤ length t
-    go true e = omega arith
-    go false e = omega arith
+pub core_none : (t : List ℕ) → length t < 1 → t ≡ without_last star t
+core_none [] h = core_all [] refl
+core_none (c ∷ cs) h = absurd (omega arith)
 
-pub core_at : (t : List ℕ) (i : ℕ) → i < length (without_last star t) → get_or (without_last star t) i 0 ≡ get_or t i 0
-core_at t i h = ap (λ (l : List ℕ). get_or l i 0) (sym (take_core t)) ∙ get_or-take (length (without_last star t)) t i 0 h
+-- the part that is left, with a last `*` and without
+pub ruleset cores = (core_front, core_all, core_none)
 
 -- ---- no part of a pattern has a dot
 
@@ -81,19 +75,3 @@ unfolding pattern_part
 part_undotted t e =
     every_last (λ (c : ℕ). not (eqb c dot)) refl t
     (every_also pattern_sign (λ (c : ℕ). not (eqb c dot)) (λ c s. rw (ne_eqb c dot (told pattern_sign c dot s sign_no_dot))) (without_last star t) e)
-
--- ---- the eleven bytes
-
-module _ (base ext : List ℕ) (p : Parts pattern_part base ext) where
-  eight : length (without_last star base) ≤ 8
-  eight = omega (arith, core_short base, p.eight)
-
-  pub length_wild : length (eleven_wild base ext) ≡ 11
-  unfolding eleven_wild
-  length_wild =
-      length_both (cond (starred base) any space) (cond (starred ext) any space) (without_last star base) (without_last star ext) eight
-      (omega (arith, core_short ext, p.three))
-
-  pub wild_at : (i : ℕ) → i < 11 → get_or (eleven_wild base ext) i 0 ≡ pattern_byte base ext i
-  unfolding eleven_wild
-  wild_at = both_at (cond (starred base) any space) (cond (starred ext) any space) (without_last star base) (without_last star ext) eight

@@ -23,18 +23,7 @@ use Rattle.putting.specs.Longer.{new_for, lengthened}
 use Rattle.putting.specs.Aids.Longer.{CanGrow, AddedBehind, Grows, Lengthens}
 use Rattle.putting.proofs.Laws.Longer.{start_small, linked_length, longer_area, longer_found, after_holds}
 
--- where a chain starts
-module _ (own start first : ℕ) where
-  pub starts_new : own ≡ 0 → first ≡ cond (eqb own 0) first start
-  starts_new e = rw (eq-eqb own 0 e)
-
-  pub starts_old : own ≢ 0 → start ≡ cond (eqb own 0) first start
-  starts_old e = rw (ne_eqb own 0 e)
-
 module _ (img : List ℕ) (k : Kind) (v : OnVolume img k) (end : ℕ) (behind : Behind (last_cluster k) (value_of k img) end) where
-  pub end_small : (last : ℕ) → last ≡ last_cluster k → end ≤ last
-  end_small last el = elim behind [ inl z ↦ omega arith | inr p ↦ omega (arith, p.0.1) ]
-
   pub added_is : Bytes img → (second last n answer : ℕ) (m : List ℕ) → second ≡ copy_two k → last ≡ last_cluster k
       → Added second last img end n answer m → AddedBehind k img end n answer m
   added_is b second last n answer m es el x =
@@ -47,10 +36,6 @@ module _ (img : List ℕ) (k : Kind) (v : OnVolume img k) (end : ℕ) (behind : 
 -- ---- the file grows
 
 module _ (k : Kind) (img : List ℕ) (a size : ℕ) (g : CanGrow k img a size) where
-  start_by : (xs new : List ℕ) (start first : ℕ) → Chain (last_cluster k) (value_of k img) start xs → first ≡ get_or new 0 0 → cond (eqb (length xs) 0) first start ≡ get_or (xs ++ new) 0 0
-  start_by [] new start first p e = e
-  start_by (x ∷ xs) new start first p e = rw (ne_eqb (length (x ∷ xs)) 0 (omega arith)) p.0
-
   module _ (own : Extent) (eo : own ≡ extent_of (file_chain k img a)) where
     end_is : own.end ≡ end_of (file_chain k img a)
     end_is = ap (λ (e : Extent). e.end) eo
@@ -59,24 +44,9 @@ module _ (k : Kind) (img : List ℕ) (a size : ℕ) (g : CanGrow k img a size) w
     end_goes_on = rw end_is
         (end_behind (last_cluster k) (on_usable img k g.on).below_reserved (value_of k img) (start_of img a) (file_chain k img a) g.file.chain)
 
-    pub grown_is : (n more start first then : ℕ) (m : List ℕ) → n ≡ clusters_for (cluster_bytes k) size → more ≡ n - own.clusters → start ≡ start_of img a
-        → AddedBehind k img own.end more first m → then ≡ cond (eqb own.clusters 0) first start → Grows k img a size then m
-    grown_is n more start first then m en em es x e =
-        let many : own.clusters ≡ length (file_chain k img a) = ap (λ (e : Extent). e.clusters) eo in
-        let q : first ≡ get_or (new_for k img a size) 0 0 = rw (em, many, en) at x.first in
-        record {
-          start = e ∙ rw (many, es) (start_by (file_chain k img a) (new_for k img a size) (start_of img a) first g.file.chain q);
-          image = x.image ∙ rw (end_is, em, many, en);
-        }
-
   module _ (start : ℕ) (m : List ℕ) (x : Grows k img a size start m) where
     pub start_fits : start < 65536
     start_fits = rw x.start (start_small k img a size g)
-
-    pub grown_within : a + 32 ≤ length m
-    grown_within =
-        let q : length m ≡ length img = ap length x.image ∙ linked_length k img a size g in
-        rw q g.file.within
 
     pub lengthened_is : (l : List ℕ) → l ≡ with_size (with_start m a start) a size → Lengthens k img a size start l
     unfolding lengthened

@@ -1,5 +1,5 @@
 -- Read: the bytes of a file of a sound volume, and what it refuses, by its rows. Only one outcome fits.
-use Rattle.std.specs.Prelude.{ℕ, ◌+◌, ◌-◌, ◌*◌, ◌≤◌, List, ◌∷◌, ◌≢◌, ◌≡◌, refl, eqb, length, get_or}
+use Rattle.std.specs.Prelude.{ℕ, ◌+◌, ◌-◌, ◌*◌, ◌≤◌, List, ◌∷◌, ◌≢◌, ◌≡◌, refl, eqb, length, get_or, Option, Result, Ok, Err, ok_or}
 use native.Mathlib.Omega.{arith}
 use Rattle.std.proofs.Math.Decide.{dec_lt}
 use Rattle.std.proofs.Common.{inr, sym, ap, ◌∙◌}
@@ -13,14 +13,13 @@ use Rattle.contents.specs.Aids.Contents.{chain_from, fetched}
 use Rattle.contents.proofs.Laws.Read.{fetched_content}
 use Rattle.diskette.specs.Places.{first_data, cluster_bytes, last_cluster, root_entries, slot_at}
 use Rattle.diskette.specs.declared.Kind.{Kind}
-use Rattle.search.specs.declared.Found.{Found}
-use Rattle.search.specs.declared.Found.TheVariants.{At}
 use Rattle.fields.specs.Fields.{start_of, size_of}
 use Rattle.opened.specs.Records.{access_of, pointer_of, with_pointer}
 use Rattle.opened.specs.Aids.Places.{live_slot}
+use Rattle.calls.specs.declared.refusal.Refusal.{Refusal}
+use Rattle.calls.specs.declared.refusal.Refusal.TheVariants.{InvalidHandle}
 use Rattle.calls.specs.Outcome.{Row, Outcome, refusal, decided}
-use Rattle.calls.specs.Aids.Answers.{refused_by, answering}
-use Rattle.calls.specs.Numbers.{access_denied}
+use Rattle.calls.specs.Numbers.{access_denied, refusal_number}
 use Rattle.calls.specs.Aids.Ready.{OnVolume}
 use Rattle.holding.specs.Holding.{file_chain, file_bytes}
 use Rattle.sound.specs.Files.{IsFile}
@@ -30,21 +29,13 @@ use Rattle.reading.specs.Read.{read_count, read_rows, read_outcome, Reads}
 use Rattle.calls.proofs.Laws.Rows.{Stops, stops_at, stopped}
 use Rattle.calls.proofs.Laws.Ready.{on_kind_lem, known_passed, sound_passed}
 use Rattle.calls.proofs.Laws.Files.{live_passed, live_slot_lem}
-use Rattle.calls.specs.declared.Answer.{Answer}
+use Rattle.calls.specs.Answers.{Answer, number_told, value_told}
 
 pub reads_only : {img t : List ℕ} {h : ℕ} {buf : List ℕ} {r r' : Answer} {m m' b b' : List ℕ} → Reads img t h buf r m b → Reads img t h buf r' m' b'
-    → (r.number ≡ r'.number) × (r.value ≡ r'.value) × (m ≡ m') × (b ≡ b')
+    → (number_told r ≡ number_told r') × (value_told r ≡ value_told r') × (m ≡ m') × (b ≡ b')
 reads_only x y =
     let e = x.is ∙ sym y.is in
     (ap (λ (o : Outcome). o.number) e, ap (λ (o : Outcome). o.value) e, ap (λ (o : Outcome). o.table) e, ap (λ (o : Outcome). o.buffer) e)
-
--- ---- the count
-
-pub count_roomy : (room size pointer n : ℕ) → n ≡ read_count room size pointer → n ≤ room
-count_roomy room size pointer n e = omega arith
-
-pub count_short : (img : List ℕ) (k : Kind) (slot room size pointer n : ℕ) → n ≡ read_count room size pointer → (a : ℕ) → size ≡ size_of img a → a ≡ slot_at k slot → n ≤ size_of img (slot_at k slot) - pointer
-count_short img k slot room size pointer n e a sized ae = rw (← ae, ← sized) (omega arith)
 
 -- ---- the bytes of a file of a volume that is ready
 
@@ -70,18 +61,20 @@ copied_none k img slot pointer n buf e = rw e
 
 -- ---- one row stops it, or all are passed
 
-module _ (img t : List ℕ) (h : ℕ) (buf : List ℕ) (a : Answer) where
-  pub read_refused : (n : ℕ) → a ≡ refused_by n → Stops (read_rows img t h) n → Reads img t h buf a t buf
-  unfolding read_outcome
-  read_refused n x q = record { is = rw x (sym (stopped _ n q _ img t buf)) }
+pub read_refused : {img t : List ℕ} {h : ℕ} {buf : List ℕ} {a : Answer} {e : Refusal} → a ≡ Err e → Stops (read_rows img t h) (refusal_number e)
+    → Reads img t h buf a t buf
+unfolding read_outcome
+read_refused {buf = buf} x q = record { is = rw x (sym (stopped _ _ q _ _ _ buf)) }
 
-  pub read_well : (k : Kind) → OnVolume img k → (f : Found) → f ≡ live_slot t h img (slot_at k) (root_entries k) → (slot : ℕ) → f ≡ At slot
+module _ (img t : List ℕ) (h : ℕ) (buf : List ℕ) (a : Answer) where
+  pub read_well : (k : Kind) → OnVolume img k → (f : Option ℕ) → f ≡ live_slot t h img (slot_at k) (root_entries k)
+      → (o : Result ℕ Refusal) → o ≡ ok_or f InvalidHandle → (slot : ℕ) → o ≡ Ok slot
       → (access : ℕ) → access ≡ access_of t h → access ≢ 1 → (pointer : ℕ) → pointer ≡ pointer_of t h
       → (e size : ℕ) → e ≡ slot_at k slot → size ≡ size_of img e → (n : ℕ) → n ≡ read_count (length buf) size pointer
-      → (b m : List ℕ) → b ≡ stored buf 0 (part (file_bytes k img (slot_at k slot)) pointer n) → m ≡ with_pointer t h (pointer + n) → a ≡ answering n → Reads img t h buf a m b
+      → (b m : List ℕ) → b ≡ stored buf 0 (part (file_bytes k img (slot_at k slot)) pointer n) → m ≡ with_pointer t h (pointer + n) → a ≡ Ok n → Reads img t h buf a m b
   unfolding read_outcome decided refusal
-  read_well k v f found slot at access has may pointer from e size ee sized n count b m be me x = record {
-    is = rw (x, be, me, known_passed img k v, sound_passed img k v, live_passed img k t h f found slot at v, ← has, ne_eqb access 1 may, on_kind_lem img k v, ← live_slot_lem img k t h f found slot at, ← from, ← ee, ← sized, ← count);
+  read_well k v f found o wanted slot there access has may pointer from e size ee sized n count b m be me x = record {
+    is = rw (x, be, me, known_passed img k v, sound_passed img k v, live_passed img k t h f found o wanted slot there v, ← has, ne_eqb access 1 may, on_kind_lem img k v, ← live_slot_lem img k t h f found o wanted slot there, ← from, ← ee, ← sized, ← count);
   }
 
 pub read_stops : (t : List ℕ) (h access : ℕ) → access ≡ access_of t h → access ≡ 1 → (rows : List Row) → Stops ((eqb (access_of t h) 1, access_denied) ∷ rows) access_denied

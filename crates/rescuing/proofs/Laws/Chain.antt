@@ -1,5 +1,5 @@
 -- The chain of one file: the test says what finding 5 says, and a chain that passes it has room for the file.
-use Rattle.std.specs.Prelude.{ℕ, ◌+◌, ◌-◌, ◌*◌, ◌≤◌, ◌<◌, Bool, true, ◌&&◌, ◌||◌, ◌≢◌, ◌⊎◌, ◌↔◌, ◌≡◌, refl, leb, length, take}
+use Rattle.std.specs.Prelude.{ℕ, ◌+◌, ◌-◌, ◌*◌, ◌≤◌, ◌<◌, Bool, true, ◌&&◌, ◌||◌, ◌≢◌, ◌⊎◌, ◌↔◌, ◌≡◌, refl, leb, length, take, Some}
 use Rattle.std.proofs.Common.{arith, inr, ◌∙◌}
 use Rattle.std.proofs.Math.Bool.{false}
 use mathlib.Core.List.{List, []}
@@ -25,7 +25,6 @@ use Rattle.contents.proofs.Laws.Read.{fetched_content}
 use Rattle.diskette.specs.Images.{kind_of_image}
 use Rattle.diskette.specs.Places.{first_data, cluster_bytes, last_cluster, slot_at}
 use Rattle.diskette.specs.declared.Kind.{Kind}
-use Rattle.diskette.specs.declared.WhichKind.TheVariants.{Known}
 use Rattle.fields.specs.Fields.{start_of, size_of}
 use Rattle.table.specs.Entries.{table_of}
 use Rattle.table.proofs.Laws.View.{table_outside}
@@ -45,7 +44,7 @@ no_other true b = refl
 no_other false true = refl
 no_other false false = refl
 
-module _ (img : List ℕ) (k : Kind) (e : kind_of_image img ≡ Known k) (slot : ℕ) where
+module _ (img : List ℕ) (k : Kind) (e : kind_of_image img ≡ Some k) (slot : ℕ) where
   abbrev G : Geometry
   G = geometry k (usable img k e)
 
@@ -135,9 +134,9 @@ module _ (img : List ℕ) (k : Kind) (e : kind_of_image img ≡ Known k) (slot :
       asked : n ≡ needed
       asked = ne ∙ ap (clusters_for (cluster_bytes k)) sized
 
-      pub too_short : own.clusters < n → false ≡ good_chain k img slot
+      pub too_short : own.clusters < n → leb n own.clusters ≡ good_chain k img slot
       unfolding good_chain
-      too_short h = rw (there, lt-leb needed (length cs) (omega (arith, many, asked)))
+      too_short h = rw (there, lt-leb n own.clusters h, lt-leb needed (length cs) (omega (arith, many, asked)))
 
       pub ends_good : n ≤ own.clusters → (last v : ℕ) → last ≡ last_cluster k → v ≡ table_of last img own.end → (b : Bool) → b ≡ endb v → b ≡ good_chain k img slot
       unfolding good_chain

@@ -1,24 +1,14 @@
--- An end value, in the form of the code's needs; and a chain whose last cluster has one.
-use Rattle.std.specs.Prelude.{ℕ, zero, suc, ◌≤◌, ◌<◌, Bool, true, false, cond, List, [], ◌∷◌, ◌≡◌, refl, leb, length}
-use Rattle.std.proofs.Common.{arith, ap, ◌∙◌, le-leb}
-use Rattle.std.proofs.lemmas.Bool.{lt-leb}
+-- A chain whose last cluster has an end value.
+use Rattle.std.specs.Prelude.{ℕ, zero, suc, ◌≤◌, ◌<◌, Bool, true, false, cond, List, [], ◌∷◌, ◌≡◌, refl, length}
+use Rattle.std.proofs.Common.{arith, ap, ◌∙◌}
 use Rattle.chains.specs.Aids.Chain.{Chain, Leads}
 use Rattle.chains.specs.Aids.Lists.{last_of}
 use Rattle.chains.specs.Chain.{clusters_from}
-use Rattle.chains.specs.Values.{End, endb, linkb}
+use Rattle.chains.specs.Values.{End, linkb}
 use Rattle.chains.proofs.Laws.Tests.{says_true}
 use Rattle.chains.proofs.Laws.Values.{says_link}
 use Rattle.links.specs.Linked.{end_of}
 use Rattle.links.proofs.Laws.Linked.{end_none, end_last}
-
-module _ (v : ℕ) where
-  pub end_below : v < 0xFF8 → false ≡ endb v
-  unfolding endb
-  end_below h = rw (lt-leb 0xFF8 v h)
-
-  pub end_within : 0xFF8 ≤ v → leb v 0xFFF ≡ endb v
-  unfolding endb
-  end_within h = rw (le-leb 0xFF8 v h)
 
 -- c was met last, and clusters from its value on: where the last of all has an end value, that value leads to them
 met_leads : (last : ℕ) (f : ℕ → ℕ) (n c : ℕ) → End (f (last_of c (clusters_from last f n (f c)))) → Leads last f (f c) (clusters_from last f n (f c))

@@ -1,12 +1,11 @@
 -- What both images of a torn disk have the same stands on it.
-use Rattle.std.specs.Prelude.{ℕ, List, ◌≡◌}
+use Rattle.std.specs.Prelude.{ℕ, List, ◌≡◌, Some}
 use Rattle.std.proofs.Common.{arith, sym, ◌∙◌, subst}
 use Rattle.image.specs.Bytes.{Bytes}
 use Rattle.chains.specs.Lists.{◌∈◌}
 use Rattle.diskette.specs.Images.{kind_of_image}
 use Rattle.diskette.proofs.Laws.Images.{image_of_kind}
 use Rattle.diskette.specs.declared.Kind.{Kind}
-use Rattle.diskette.specs.declared.WhichKind.TheVariants.{Known}
 use Rattle.sound.specs.Files.{IsFile, ChainOf}
 use Rattle.sound.specs.Findings.{InChain}
 use Rattle.sound.proofs.Laws.Sound.{chain_only}
@@ -20,7 +19,7 @@ use Rattle.reset.proofs.Laws.Same.{same_then, same_torn, same_file, same_holds}
 
 module _ (k : Kind) (old new m : List ℕ) (vo : OnVolume old k) (vn : OnVolume new k) (t : Torn old new m) where
   -- the disk is of the kind
-  pub torn_kind : kind_of_image m ≡ Known k
+  pub torn_kind : kind_of_image m ≡ Some k
   torn_kind =
       let o = on_of_kind old k vo in
       let n = on_of_kind new k vn in

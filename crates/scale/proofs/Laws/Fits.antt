@@ -1,11 +1,11 @@
 -- Every number that check and free space answer fits 32 bits.
-use Rattle.std.specs.Prelude.{ℕ, zero, suc, ◌≤◌, ◌<◌, Bool, true, false, List, [], ◌∷◌, ◌≡◌, refl, ltb, eqb, length, get_or}
-use Rattle.std.proofs.Common.{arith, inl, inr, sym, subst}
+use Rattle.std.specs.Prelude.{ℕ, zero, suc, ◌≤◌, ◌<◌, Bool, true, false, List, [], ◌∷◌, ◌≡◌, refl, ltb, eqb, length, get_or, Option, Some, None, Result, Ok, Err}
+use Rattle.std.proofs.Common.{arith, inl, inr, sym, subst, ◌∙◌}
 use Rattle.chains.specs.Lists.{◌∈◌}
 use Rattle.chains.specs.Sums.{tally, bit}
 use Rattle.chains.specs.Values.{Link}
 use Rattle.chains.specs.Verdict.{OrElse}
-use Rattle.search.specs.Search.{None}
+use Rattle.search.specs.Search.{Nowhere}
 use Rattle.chains.proofs.Laws.Tests.{says_dec}
 use Rattle.diskette.specs.Images.{kind_of_image, kind_of_area}
 use Rattle.diskette.specs.Kinds.{named}
@@ -14,9 +14,7 @@ use Rattle.diskette.specs.Places.{last_cluster, root_entries}
 use Rattle.diskette.proofs.Laws.Images.{image_of_kind, area_of_kind, image_usable, area_usable}
 use Rattle.diskette.proofs.Laws.Kinds.{OfKnown, of_cond}
 use Rattle.diskette.specs.declared.Kind.{Kind}
-use Rattle.diskette.specs.declared.WhichKind.{WhichKind}
-use Rattle.diskette.specs.declared.WhichKind.TheVariants.{Known, Unknown}
-use Rattle.sound.specs.Counts.{is_file}
+use Rattle.sound.specs.Counts.{is_file, free_of}
 use Rattle.sound.specs.Answer.{AnswersOf, AnswersBy, Checked, CheckedArea}
 use Rattle.sound.specs.Files.{ChainOf, none_of_it, enough}
 use Rattle.sound.specs.Findings.{TablesDiffer, NoValue, BadSlot, BadChain, InTwoChains, Lost}
@@ -25,11 +23,13 @@ use Rattle.sound.specs.Sound.{NoFinding}
 use Rattle.sound.proofs.Laws.IsSound.{known_says}
 use Rattle.sound.proofs.Laws.Sound.{sound_exactly}
 use Rattle.sound.proofs.Laws.Total.{total}
-use Rattle.sound.specs.declared.Verdict.{Verdict}
-use Rattle.sound.specs.declared.Verdict.TheVariants.{Finding}
-use Rattle.calls.specs.Numbers.{of_no_kind, unsound}
-use Rattle.freespace.specs.FreeSpace.{no_space, free_space, Spaced}
-use Rattle.freespace.specs.declared.FreeAnswer.{FreeAnswer}
+use Rattle.sound.specs.Numbers.{found, number_of, place_of}
+use Rattle.sound.specs.declared.Counts.{Counts}
+use Rattle.sound.specs.declared.Finding.{Finding}
+use Rattle.sound.specs.declared.Finding.TheVariants.{OfNoKind, CopiesDiffer, BadValue, BadEntry, WrongChain, SharedCluster, LostCluster}
+use Rattle.calls.specs.declared.refusal.Refusal.{Refusal}
+use Rattle.freespace.specs.FreeSpace.{space_with, Spaced}
+use Rattle.freespace.specs.declared.Space.{Space}
 use Rattle.freespace.proofs.Laws.FreeSpace.{space_unknown, space_unsound, space_sound}
 use Rattle.scale.specs.Aids.Fits.{Fits, VerdictFits, SpaceFits}
 
@@ -46,7 +46,7 @@ few_sectors b =
     (of_cond P (eqb b 0xFD) _ _ (λ e. omega arith)
     tt)))
 
-few : (k : Kind) → named k.byte ≡ Known k → k.fat ≤ 2
+few : (k : Kind) → named k.byte ≡ Some k → k.fat ≤ 2
 few k e = subst (OfKnown (λ (x : Kind). x.fat ≤ 2)) e (few_sectors k.byte)
 
 -- a tally is at most what it counts over
@@ -71,16 +71,16 @@ chain_link k l s c cs (enough z n q) m = each (Link (last_cluster k)) cs q.in_ra
 
 -- ---- a verdict
 
-finding_fits : (number place : ℕ) → Fits number → Fits place → VerdictFits (Finding number place)
-finding_fits number place n p = record { numbers = (n, p) }
+finding_fits : (f : Finding) → Fits (number_of f) → Fits (place_of f) → VerdictFits (Err f)
+finding_fits f n p = record { numbers = (n, p) }
 
 module _ (k : Kind) (u : Usable k) (f : k.fat ≤ 2) (l : List ℕ) where
-  after : (B : ℕ → Type 0) (n : ℕ) (Rest : Verdict → Type 0) (v : Verdict) → n < 8 → ((p : ℕ) → B p → Fits p) → (None B → Rest v → VerdictFits v)
-      → OrElse ltb B (Finding n) Rest v → VerdictFits v
-  after B n Rest v h fits rest (inl x) = subst VerdictFits (sym x.2) (finding_fits n x.0 (omega arith) (fits x.0 x.1.0))
-  after B n Rest v h fits rest (inr x) = rest x.0 x.1
+  after : (B : ℕ → Type 0) (finding : ℕ → Finding) (Rest : Result Counts Finding → Type 0) (v : Result Counts Finding)
+      → ((p : ℕ) → B p → Fits (number_of (finding p)) × Fits (place_of (finding p))) → (Nowhere B → Rest v → VerdictFits v) → OrElse ltb B (found finding) Rest v → VerdictFits v
+  after B finding Rest v fits rest (inl x) = subst VerdictFits (sym x.2) (record { numbers = fits x.0 x.1.0 })
+  after B finding Rest v fits rest (inr x) = rest x.0 x.1
 
-  counts_fit : (v : Verdict) → NoFinding k l → Counted k l v → VerdictFits v
+  counts_fit : (v : Result Counts Finding) → NoFinding k l → Counted k l v → VerdictFits v
   counts_fit v n e =
       let t = total k u l ((sound_exactly k u l).1 n) e.0 e.1 in
       let files = tally_low (is_file k l) (root_entries k) 0 in
@@ -88,46 +88,50 @@ module _ (k : Kind) (u : Usable k) (f : k.fat ≤ 2) (l : List ℕ) where
       let r = u.few_slots in
       subst VerdictFits (sym e.2) (record { numbers = (omega arith, omega arith, omega arith, omega arith, omega arith) })
 
-  answer_fits : (v : Verdict) → AnswersOf k l v → VerdictFits v
+  answer_fits : (v : Result Counts Finding) → AnswersOf k l v → VerdictFits v
   answer_fits v =
-      after (TablesDiffer k l) 2 (FromValues k l) v (omega arith) (λ p b. let x = b.0 in omega arith) (λ n2.
-      after (NoValue k l) 3 (FromSlots k l) v (omega arith) (λ p b. let x = b.0.1 in omega (arith, u.below_reserved)) (λ n3.
-      after (BadSlot k l) 4 (FromChains k l) v (omega arith) (λ p b. let x = b.0 in omega (arith, u.few_slots)) (λ n4.
-      after (BadChain k l) 5 (FromTwo k l) v (omega arith) (λ p b. let x = b.0.below in omega (arith, u.few_slots)) (λ n5.
-      after (InTwoChains k l) 6 (FromLost k l) v (omega arith) (λ p b. let x = (chain_link k l b.0 p b.3.1.0 b.3.1.1 b.3.1.2).1 in omega (arith, u.below_reserved)) (λ n6.
-      after (Lost k l) 7 (Counted k l) v (omega arith) (λ p b. let x = b.0.1 in omega (arith, u.below_reserved)) (λ n7.
+      after (TablesDiffer k l) CopiesDiffer (FromValues k l) v (λ p b. let x = b.0 in (omega arith, omega arith)) (λ n2.
+      after (NoValue k l) BadValue (FromSlots k l) v (λ p b. let x = b.0.1 in (omega arith, omega (arith, u.below_reserved))) (λ n3.
+      after (BadSlot k l) BadEntry (FromChains k l) v (λ p b. let x = b.0 in (omega arith, omega (arith, u.few_slots))) (λ n4.
+      after (BadChain k l) WrongChain (FromTwo k l) v (λ p b. let x = b.0.below in (omega arith, omega (arith, u.few_slots))) (λ n5.
+      after (InTwoChains k l) SharedCluster (FromLost k l) v (λ p b. let x = (chain_link k l b.0 p b.3.1.0 b.3.1.1 b.3.1.2).1 in (omega arith, omega (arith, u.below_reserved))) (λ n6.
+      after (Lost k l) LostCluster (Counted k l) v (λ p b. let x = b.0.1 in (omega arith, omega (arith, u.below_reserved))) (λ n7.
       counts_fit v (record { tables = n2; values = n3; slots = n4; chains = n5; two = n6; lost = n7 })))))))
 
-fits_by : (w : WhichKind) (l : List ℕ) (v : Verdict) → ((k : Kind) → w ≡ Known k → Usable k × (k.fat ≤ 2)) → AnswersBy w l v → VerdictFits v
-fits_by (Known k) l v known a = answer_fits k (known k refl).0 (known k refl).1 l v a
-fits_by Unknown l v known a = subst VerdictFits (sym a) (finding_fits 1 0 (omega arith) (omega arith))
+fits_by : (w : Option Kind) (l : List ℕ) (v : Result Counts Finding) → ((k : Kind) → w ≡ Some k → Usable k × (k.fat ≤ 2)) → AnswersBy w l v → VerdictFits v
+fits_by (Some k) l v known a = answer_fits k (known k refl).0 (known k refl).1 l v a
+fits_by None l v known a = subst VerdictFits (sym a) (finding_fits OfNoKind (omega arith) (omega arith))
 
-pub check_fits : (img : List ℕ) (v : Verdict) → Checked img v → VerdictFits v
+pub check_fits : (img : List ℕ) (v : Result Counts Finding) → Checked img v → VerdictFits v
 check_fits img v a = fits_by (kind_of_image img) img v (λ k e. (image_usable img k e, few k ((image_of_kind img k).0 e).listed)) a.is
 
-pub area_fits : (area : List ℕ) (v : Verdict) → CheckedArea area v → VerdictFits v
+pub area_fits : (area : List ℕ) (v : Result Counts Finding) → CheckedArea area v → VerdictFits v
 area_fits area v a = fits_by (kind_of_area area) area v (λ k e. (area_usable area k e, few k ((area_of_kind area k).0 e).listed)) a.is
 
 -- so a finding and its place can be handed on as 32 bits each
-module _ (v : Verdict) (f : VerdictFits v) (number place : ℕ) (e : v ≡ Finding number place) where
-  pub number_fits : number < 4294967296
-  number_fits = (subst VerdictFits e f).numbers.0
+module _ (v : Result Counts Finding) (h : VerdictFits v) (f : Finding) (e : v ≡ Err f) (n : ℕ) where
+  pub number_fits : n ≡ number_of f → n < 4294967296
+  number_fits q = rw q (subst VerdictFits e h).numbers.0
 
-  pub place_fits : place < 4294967296
-  place_fits = (subst VerdictFits e f).numbers.1
+  pub place_fits : n ≡ place_of f → n < 4294967296
+  place_fits q = rw q (subst VerdictFits e h).numbers.1
 
 -- ---- free space
 
-refused_fits : (n : ℕ) → Fits n → SpaceFits (no_space n)
-refused_fits n h = record { number_fits = h; free_fits = omega arith; clusters_fit = omega arith; sector_fits = omega arith; per_fits = omega arith }
-
-pub space_fits : (img : List ℕ) (a : FreeAnswer) → Spaced img a → SpaceFits a
-space_fits img a t = subst SpaceFits (sym t.is) (go (kind_of_image img) refl)
+pub space_fits : (img : List ℕ) (a : Result Space Refusal) → Spaced img a → (s : Space) → a ≡ Ok s → SpaceFits s
+space_fits img a t s q = go (kind_of_image img) refl
   where
-    go : (w : WhichKind) → kind_of_image img ≡ w → SpaceFits (free_space img)
-    go (Known k) e = elim (says_dec (known_says img k e)) [
-      | yes s ↦ let u = image_usable img k e in let t = total k u img s s.0 s.1.chains in
-          subst SpaceFits (sym (space_sound img k e s)) (record { number_fits = omega arith; free_fits = omega (arith, u.below_reserved); clusters_fit = omega (arith, u.below_reserved); sector_fits = omega arith; per_fits = omega (arith, u.per_high) })
-      | no n ↦ subst SpaceFits (sym (space_unsound img k e n)) (refused_fits unsound (omega arith))
+    go : (w : Option Kind) → kind_of_image img ≡ w → SpaceFits s
+    go (Some k) e = elim (says_dec (known_says img k e)) [
+      | yes v ↦
+          let u = image_usable img k e in
+          let b = total k u img v v.0 v.1.chains in
+          let p : s ≡ space_with k (free_of k img) = let z = sym q ∙ t.is ∙ space_sound img k e v in cc in
+          subst SpaceFits (sym p) (record { free_fits = omega (arith, u.below_reserved); clusters_fit = omega (arith, u.below_reserved); sector_fits = omega arith; per_fits = omega (arith, u.per_high) })
+      | no n ↦ absurd (let z = sym q ∙ t.is ∙ space_unsound img k e n in let y : ◌≡◌ {A = ℕ} 0 1 = cc in omega arith)
     ]
-    go Unknown e = subst SpaceFits (sym (space_unknown img e)) (refused_fits of_no_kind (omega arith))
+    go None e = absurd (let z = sym q ∙ t.is ∙ space_unknown img e in let y : ◌≡◌ {A = ℕ} 0 1 = cc in omega arith)
+
+-- so the free clusters can be handed on as 32 bits
+pub free_fits : (img : List ℕ) (a : Result Space Refusal) → Spaced img a → (s : Space) → a ≡ Ok s → s.free < 4294967296
+free_fits img a t s q = (space_fits img a t s q).free_fits

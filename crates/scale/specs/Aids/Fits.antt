@@ -1,22 +1,22 @@
 -- What fits 32 bits: of such numbers answers and words lose nothing.
-use Rattle.std.specs.Prelude.{ℕ, ◌<◌}
-use Rattle.sound.specs.declared.Verdict.{Verdict}
-use Rattle.sound.specs.declared.Verdict.TheVariants.{Sound, Finding}
-use Rattle.freespace.specs.declared.FreeAnswer.{FreeAnswer}
+use Rattle.std.specs.Prelude.{ℕ, ◌<◌, Result, Ok, Err}
+use Rattle.sound.specs.Numbers.{number_of, place_of}
+use Rattle.sound.specs.declared.Counts.{Counts}
+use Rattle.sound.specs.declared.Finding.{Finding}
+use Rattle.freespace.specs.declared.Space.{Space}
 
 abbrev pub Fits : ℕ → Type 0
 Fits n = n < 4294967296
 
-abbrev pub NumbersFit : Verdict → Type 0
-NumbersFit (Sound n) = Fits n.files × Fits n.free × Fits n.held × Fits n.bad × Fits n.reserved
-NumbersFit (Finding number place) = Fits number × Fits place
+abbrev pub NumbersFit : Result Counts Finding → Type 0
+NumbersFit (Ok n) = Fits n.files × Fits n.free × Fits n.held × Fits n.bad × Fits n.reserved
+NumbersFit (Err f) = Fits (number_of f) × Fits (place_of f)
 
-pub record VerdictFits (v : Verdict) : Type 0 where
+pub record VerdictFits (v : Result Counts Finding) : Type 0 where
   pub numbers : NumbersFit v
 
-pub record SpaceFits (a : FreeAnswer) : Type 0 where
-  pub number_fits : Fits a.number
-  pub free_fits : Fits a.free
-  pub clusters_fit : Fits a.clusters
-  pub sector_fits : Fits a.sector
-  pub per_fits : Fits a.per
+pub record SpaceFits (s : Space) : Type 0 where
+  pub free_fits : Fits s.free
+  pub clusters_fit : Fits s.clusters
+  pub sector_fits : Fits s.sector
+  pub per_fits : Fits s.per

@@ -1,17 +1,17 @@
--- What is told by an answer that came before: r and the buffer m, whichever image has that answer.
-use Rattle.std.specs.Prelude.{ℕ, List, [], ◌≡◌}
-use Rattle.sound.specs.declared.Verdict.{Verdict}
-use Rattle.entries.specs.Entry.{entry_told}
-use Rattle.entries.specs.declared.EntryAnswer.{EntryAnswer}
-use Rattle.freespace.specs.FreeSpace.{free_space}
-use Rattle.freespace.specs.declared.FreeAnswer.{FreeAnswer}
+-- What is told by an answer that came before: r is the answer that is handed on, m the buffer after it.
+use Rattle.std.specs.Prelude.{ℕ, List, [], ◌≡◌, Result}
+use Rattle.sound.specs.declared.Counts.{Counts}
+use Rattle.sound.specs.declared.Finding.{Finding}
+use Rattle.calls.specs.Answers.{Answer, number_told, value_told}
+use Rattle.calls.specs.Outcome.{outcome}
 use Rattle.scale.specs.Calls.{Leaves, verdict_told, free_space_call, entry_call}
 
-pub record TellsVerdict (v : Verdict) (out : List ℕ) (r : ℕ) (m : List ℕ) : Type 0 where
+-- whichever image has that verdict
+pub record TellsVerdict (v : Result Counts Finding) (out : List ℕ) (r : ℕ) (m : List ℕ) : Type 0 where
   pub of : (l : List ℕ) → Leaves (verdict_told l v out) r l [] m
 
-pub record TellsSpace (a : FreeAnswer) (out : List ℕ) (r : ℕ) (m : List ℕ) : Type 0 where
-  pub of : (img : List ℕ) → a ≡ free_space img → Leaves (free_space_call img out) r img [] m
+pub record TellsSpace (img out : List ℕ) (r : Answer) (m : List ℕ) : Type 0 where
+  pub is : outcome (number_told r) (value_told r) img [] m ≡ free_space_call img out
 
-pub record TellsEntry (e : EntryAnswer) (out : List ℕ) (r : ℕ) (m : List ℕ) : Type 0 where
-  pub of : (img : List ℕ) (slot : ℕ) → e ≡ entry_told img slot → Leaves (entry_call img slot out) r img [] m
+pub record TellsEntry (img : List ℕ) (slot : ℕ) (out : List ℕ) (r : Answer) (m : List ℕ) : Type 0 where
+  pub is : outcome (number_told r) (value_told r) img [] m ≡ entry_call img slot out

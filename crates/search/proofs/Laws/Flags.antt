@@ -1,13 +1,11 @@
 -- A loop from i up to end that looks at all and says whether none passes the test; now is its answer after the turn.
-use Rattle.std.specs.Prelude.{ℕ, ◌+◌, ◌-◌, ◌≤◌, ◌<◌, Bool, true, false, not, ◌≡◌, refl}
+use Rattle.std.specs.Prelude.{ℕ, ◌+◌, ◌-◌, ◌≤◌, ◌<◌, Bool, true, false, not, ◌≡◌, refl, Option, Some, None}
 use Rattle.std.proofs.Common.{arith, sym, ap, ◌∙◌}
 use Rattle.search.specs.Search.{lowest, is_found}
 use Rattle.search.specs.Aids.Flags.{NoneTo}
 use Rattle.search.proofs.Laws.Turns.{lowest_hit, lowest_miss, lowest_done}
-use Rattle.search.specs.declared.Found.{Found}
-use Rattle.search.specs.declared.Found.TheVariants.{At, Nothing}
 
-module _ (p : ℕ → Bool) (i end : ℕ) (whole : Found) where
+module _ (p : ℕ → Bool) (i end : ℕ) (whole : Option ℕ) where
   pub none_from : lowest p i (end - i) ≡ whole → NoneTo p i end whole true
   none_from e = record { yes = λ x. e; no = λ x. absurd (let z : ◌≡◌ {A = ℕ} 0 1 = cc in omega arith) }
 
@@ -31,6 +29,6 @@ module _ (p : ℕ → Bool) (i end : ℕ) (whole : Found) where
         told false v = ap not (sym (v.no refl))
 
 -- what the answer says
-pub none_found : (f : Found) (none : Bool) → none ≡ not (is_found f) → none ≡ true → Nothing ≡ f
-none_found Nothing none e t = refl
-none_found (At i) none e t = absurd (let z : ◌≡◌ {A = ℕ} 0 1 = cc in omega arith)
+pub none_found : (f : Option ℕ) (none : Bool) → none ≡ not (is_found f) → none ≡ true → None ≡ f
+none_found None none e t = refl
+none_found (Some i) none e t = absurd (let z : ◌≡◌ {A = ℕ} 0 1 = cc in omega arith)

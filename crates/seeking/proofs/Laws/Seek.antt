@@ -1,49 +1,64 @@
 -- Seek: what it refuses and what it leaves, by its rows. Only one outcome fits.
-use Rattle.std.specs.Prelude.{ℕ, ◌≤◌, List, [], ◌∷◌, ◌≢◌, ◌≡◌, refl, ℤ}
-use Rattle.std.proofs.Common.{sym, ap, ◌∙◌, subst, SFits, to_z, of_z, to_z-of_z}
+use Rattle.std.specs.Prelude.{ℕ, ◌≤◌, List, [], ◌∷◌, ◌≡◌, refl, ltb, ℤ, Option, Result, Ok, Err, ok_or}
+use Rattle.std.proofs.Common.{arith, sym, ap, ◌∙◌, subst, SFits, to_z, of_z, to_z-of_z}
 use Rattle.std.specs.Int.{w32}
-use borrow.Author.Tests.{le-ltb, eq-eqb, ne_eqb}
+use borrow.Author.Tests.{le-ltb}
 use Rattle.diskette.specs.Places.{root_entries, slot_at}
 use Rattle.diskette.specs.declared.Kind.{Kind}
-use Rattle.search.specs.declared.Found.{Found}
-use Rattle.search.specs.declared.Found.TheVariants.{At}
 use Rattle.fields.specs.Fields.{size_of}
 use Rattle.offset.specs.Offset.{moved_by}
-use Rattle.offset.specs.declared.Moved.{Moved}
-use Rattle.offset.specs.declared.Moved.TheVariants.{To, Beyond}
 use Rattle.opened.specs.Records.{slot_of, pointer_of, with_pointer}
 use Rattle.opened.specs.Aids.Places.{live_slot}
+use Rattle.calls.specs.declared.refusal.Refusal.{Refusal}
+use Rattle.calls.specs.declared.refusal.Refusal.TheVariants.{InvalidFunction, InvalidHandle}
+use Rattle.calls.proofs.Laws.Exits.{lacked, had}
 use Rattle.calls.specs.Outcome.{Row, Outcome, refusal, decided}
-use Rattle.calls.specs.Aids.Answers.{refused_by, answering}
-use Rattle.calls.specs.Numbers.{invalid_function}
+use Rattle.calls.specs.Numbers.{invalid_function, refusal_number}
 use Rattle.calls.specs.Aids.Ready.{OnVolume}
+use Rattle.seeking.specs.declared.seek.Method.{Method}
+use Rattle.seeking.specs.declared.seek.Method.TheVariants.{Start, Pointer, Size}
+use Rattle.seeking.specs.Aids.Seek.{number_of, CountsBy}
 use Rattle.seeking.specs.Seek.{seek_base, seek_moved, is_beyond, seek_rows, seek_outcome, Seeks}
-use Rattle.calls.proofs.Laws.Rows.{Stops, stops_at, stopped}
+use Rattle.calls.proofs.Laws.Rows.{Stops, stops_at, stopped, above_stops, above_past}
 use Rattle.calls.proofs.Laws.Ready.{on_kind_lem, known_passed, sound_passed}
 use Rattle.calls.proofs.Laws.Files.{live_passed}
-use Rattle.calls.specs.declared.Answer.{Answer}
+use Rattle.calls.specs.Answers.{Answer, number_told, value_told}
 
 pub seeks_only : {img t : List ℕ} {h method : ℕ} {offset : ℤ} {r r' : Answer} {m m' : List ℕ} → Seeks img t h method offset r m → Seeks img t h method offset r' m'
-    → (r.number ≡ r'.number) × (r.value ≡ r'.value) × (m ≡ m')
+    → (number_told r ≡ number_told r') × (value_told r ≡ value_told r') × (m ≡ m')
 seeks_only x y =
     let e = x.is ∙ sym y.is in
     (ap (λ (o : Outcome). o.number) e, ap (λ (o : Outcome). o.value) e, ap (λ (o : Outcome). o.table) e)
 
+-- ---- the method: r is whose number it is
+
+most : (m : Method) → number_of m ≤ 2
+most Start = omega arith
+most Pointer = omega arith
+most Size = omega arith
+
+module _ (method : ℕ) (r : Result Method Refusal) (counts : CountsBy method r) where
+  pub method_stops : (e : Refusal) → r ≡ Err e → (rows : List Row) → Stops ((ltb 2 method, invalid_function) ∷ rows) (refusal_number e)
+  method_stops e q rows = let h = rw q at counts in rw h.0 (above_stops 2 method invalid_function rows h.1 refl)
+
+  pub method_past : (m : Method) → r ≡ Ok m → (i n : ℕ) (rows : List Row) → Stops rows n → Stops ((ltb 2 method, i) ∷ rows) n
+  method_past m q i n rows x = let h = rw q at counts in above_past 2 method i rows (rw (← h) (most m)) n x
+
 -- ---- from where the offset counts
 
-module _ (img t : List ℕ) (h method : ℕ) where
-  pub base_zero : method ≡ 0 → 0 ≡ seek_base img t h method
+module _ (img t : List ℕ) (h : ℕ) (m : Method) where
+  pub base_start : m ≡ Start → 0 ≡ seek_base img t h (number_of m)
   unfolding seek_base
-  base_zero e = rw (eq-eqb method 0 e)
+  base_start e = rw e
 
-  module _ (later : method ≢ 0) where
-    pub base_pointer : method ≡ 1 → (r : ℕ) → r ≡ pointer_of t h → r ≡ seek_base img t h method
-    unfolding seek_base
-    base_pointer e r q = rw (ne_eqb method 0 later, eq-eqb method 1 e, q)
+  pub base_pointer : m ≡ Pointer → (r : ℕ) → r ≡ pointer_of t h → r ≡ seek_base img t h (number_of m)
+  unfolding seek_base
+  base_pointer e r q = rw (e, q)
 
-    pub base_size : method ≢ 1 → (k : Kind) → OnVolume img k → (slot a : ℕ) → slot ≡ slot_of t h → a ≡ slot_at k slot → (r : ℕ) → r ≡ size_of img a → r ≡ seek_base img t h method
-    unfolding seek_base
-    base_size d k v slot a e f r q = rw (ne_eqb method 0 later, ne_eqb method 1 d, on_kind_lem img k v, q, f, e)
+  pub base_size : m ≡ Size → (k : Kind) → OnVolume img k → (slot a : ℕ) → slot ≡ slot_of t h → a ≡ slot_at k slot → (r : ℕ) → r ≡ size_of img a
+      → r ≡ seek_base img t h (number_of m)
+  unfolding seek_base
+  base_size e k v slot a f g r q = rw (e, on_kind_lem img k v, q, g, f)
 
 -- ---- a signed number as it is handed on
 
@@ -55,20 +70,25 @@ seek_handed img t h method offset a m fits x = subst (λ (z : ℤ). Seeks img t 
 
 -- ---- one row stops it, or all are passed: w is where the code found that it leads
 
-pub seek_refused : (img t : List ℕ) (h method : ℕ) (offset : ℤ) (a : Answer) (n : ℕ) → a ≡ refused_by n → Stops (seek_rows img t h method offset) n → Seeks img t h method offset a t
+pub seek_refused : {img t : List ℕ} {h method : ℕ} {offset : ℤ} {a : Answer} {e : Refusal} → a ≡ Err e → Stops (seek_rows img t h method offset) (refusal_number e)
+    → Seeks img t h method offset a t
 unfolding seek_outcome
-seek_refused img t h method offset a n x q = record { is = rw x (sym (stopped _ n q _ img t [])) }
+seek_refused x q = record { is = rw x (sym (stopped _ _ q _ _ _ [])) }
 
-module _ (img t : List ℕ) (h method : ℕ) (offset : ℤ) (base : ℕ) (from : base ≡ seek_base img t h method) (fits : SFits w32 offset) (w : Moved) (moved : w ≡ moved_by base (handed offset)) where
+module _ (img t : List ℕ) (h method : ℕ) (m : Method) (asked : number_of m ≡ method) (offset : ℤ) (base : ℕ) (from : base ≡ seek_base img t h (number_of m))
+    (fits : SFits w32 offset) (w : Option ℕ) (moved : w ≡ moved_by base (handed offset)) (o : Result ℕ Refusal) (wanted : o ≡ ok_or w InvalidFunction) where
   leads : w ≡ seek_moved img t h method offset
-  leads = moved ∙ rw (to_z-of_z {w = w32} fits, from)
+  leads = moved ∙ rw (to_z-of_z {w = w32} fits, from, asked)
 
-  pub beyond_stops : w ≡ Beyond → (rows : List Row) → Stops ((is_beyond (seek_moved img t h method offset), invalid_function) ∷ rows) invalid_function
-  beyond_stops q rows = stops_at _ invalid_function rows (rw (← leads, q)) refl
+  pub beyond_stops : (e : Refusal) → o ≡ Err e → (rows : List Row) → Stops ((is_beyond (seek_moved img t h method offset), invalid_function) ∷ rows) (refusal_number e)
+  beyond_stops e q rows =
+      let l = lacked w InvalidFunction o wanted e q in
+      rw (← l.1) (stops_at _ invalid_function rows (rw (← leads, l.0)) refl)
 
-  pub seek_well : (k : Kind) → OnVolume img k → method ≤ 2 → (f : Found) → f ≡ live_slot t h img (slot_at k) (root_entries k) → (slot : ℕ) → f ≡ At slot
-      → (p : ℕ) → w ≡ To p → (m : List ℕ) → m ≡ with_pointer t h p → (a : Answer) → a ≡ answering p → Seeks img t h method offset a m
+  pub seek_well : (k : Kind) → OnVolume img k → (f : Option ℕ) → f ≡ live_slot t h img (slot_at k) (root_entries k)
+      → (g : Result ℕ Refusal) → g ≡ ok_or f InvalidHandle → (slot : ℕ) → g ≡ Ok slot
+      → (p : ℕ) → o ≡ Ok p → (l : List ℕ) → l ≡ with_pointer t h p → (a : Answer) → a ≡ Ok p → Seeks img t h method offset a l
   unfolding seek_outcome decided refusal
-  seek_well k v small f found slot at p q m e a x = record {
-    is = rw (x, known_passed img k v, sound_passed img k v, le-ltb 2 method small, live_passed img k t h f found slot at v, ← leads, q, e);
+  seek_well k v f found g live slot at p q l e a x = record {
+    is = rw (x, known_passed img k v, sound_passed img k v, ← asked, le-ltb 2 (number_of m) (most m), live_passed img k t h f found g live slot at v, asked, ← leads, had w InvalidFunction o wanted p q, e);
   }

@@ -1,14 +1,14 @@
 -- A call on a table of one record: what its code has found out where it ends.
-use Rattle.std.specs.Prelude.{ℕ, false, List, [], ◌∷◌, ◌≡◌, ℤ, length, set, replicate}
+use Rattle.std.specs.Prelude.{ℕ, Bool, true, false, refl, List, [], ◌∷◌, ◌≡◌, ℤ, length, set, replicate}
 use Rattle.std.proofs.Common.{ap, ◌∙◌, SFits, to_z, of_z, to_z-of_z}
-use Rattle.std.specs.Int.{w32}
+use Rattle.std.specs.Int.{w32, from_bool}
 use Rattle.image.specs.Store.{stored}
 use Rattle.image.specs.Numbers.{digits}
 use Rattle.opened.specs.Records.{record_bytes, with_record}
 use Rattle.chains.specs.Sums.{bit}
 use Rattle.stamps.specs.declared.Stamp.{Stamp}
 use Rattle.calls.specs.Outcome.{Outcome, outcome}
-use Rattle.calls.specs.declared.Answer.{Answer}
+use Rattle.calls.specs.Answers.{Answer, number_told, value_told}
 use Rattle.opening.specs.Open.{open_outcome, Opens}
 use Rattle.seeking.specs.Seek.{seek_outcome, Seeks}
 use Rattle.closing.specs.Close.{close_outcome, Closes}
@@ -21,10 +21,14 @@ use Rattle.single.specs.Rows.{place_bytes, bytes_of, LeavesRow}
 -- ---- the table made
 
 -- a used record's bytes, with the two marks as they are to be
+mark : (b : Bool) → from_bool b ≡ bit b
+mark true = refl
+mark false = refl
+
 pub table_made : (held : OpenRecord) (t : List ℕ) → t ≡ with_record (replicate 16 0) 0 held.access held.slot held.pointer false
-    → (u : ℕ) → u ≡ bit held.used → (w : ℕ) → w ≡ bit held.written → set (set t 0 u) 2 w ≡ bytes_of (held ∷ [])
+    → (u : ℕ) → u ≡ from_bool held.used → (w : ℕ) → w ≡ from_bool held.written → set (set t 0 u) 2 w ≡ bytes_of (held ∷ [])
 unfolding bytes_of place_bytes with_record stored record_bytes digits
-table_made held t e u x w y = rw (e, x, y)
+table_made held t e u x w y = rw (e, x, y, mark held.used, mark held.written)
 
 -- ---- the calls
 
@@ -33,7 +37,7 @@ one_record : (m : List ℕ) → length m ≡ 16 → record_at (row_of m) 0 ∷ [
 unfolding row_of row_from record_at
 one_record m e = rw e
 
-left : (o : Outcome) (a : Answer) (image m buffer : List ℕ) → outcome a.number a.value image m buffer ≡ o → length m ≡ 16
+left : (o : Outcome) (a : Answer) (image m buffer : List ℕ) → outcome (number_told a) (value_told a) image m buffer ≡ o → length m ≡ 16
     → (r : OpenRecord) → r ≡ record_at (row_of m) 0 → LeavesRow o a image (r ∷ []) buffer
 left o a image m buffer is e r x = record {
   number_is = ap (λ (y : Outcome). y.number) is;

@@ -1,11 +1,11 @@
 -- The checksums of names, byte by byte, and what their marks tell of a slot's name.
-use Prim.Native.Nat.{ℕ, suc, ◌+◌, ◌*◌, ◌-◌, ◌≤◌, ◌<◌}
+use Prim.Native.Nat.{ℕ, ◌+◌, ◌*◌, ◌≤◌, ◌<◌}
 use native.Mathlib.Omega.{arith}
 use Rattle.std.proofs.Math.Decide.{ℕ_discrete}
-use Rattle.std.specs.Prelude.{Bool, true, false, not, List, ◌≢◌, ◌≡◌, refl, length, get_or, set, replicate}
+use Rattle.std.specs.Prelude.{Bool, true, false, not, List, ◌≢◌, ◌≡◌, refl, length, get_or, set, replicate, ℕ, Option}
 use Rattle.std.proofs.Common.{sym, ◌∙◌, ap, length-set, get_or-set_same, get_or-set_other}
 use Rattle.std.proofs.lemmas.List.{length-replicate}
-use Rattle.image.proofs.Laws.Store.{length_part, part_at}
+use Rattle.image.proofs.Laws.Store.{length_part}
 use Rattle.chains.specs.Aids.Tests.{aye, nay}
 use Rattle.chains.proofs.Laws.Tests.{clash, not-true, not-false}
 use Rattle.fields.specs.Fields.{name_of}
@@ -14,46 +14,28 @@ use Rattle.directory.specs.Search.{slot_named}
 use Rattle.diskette.specs.Places.{slot_from}
 use Rattle.directory.proofs.Laws.Slots.{plain_is}
 use Rattle.directory.proofs.Laws.Search.{slot_named_answers}
-use Rattle.search.specs.declared.Found.{Found}
 use Rattle.slotcheck.specs.Aids.Slots.{bad_slot_by}
 use Rattle.search.specs.Search.{is_found}
-use Rattle.slotcheck.specs.Aids.Checksums.{with_byte, checksum_from, checksum, NamesMet, NameTold, SlotTold}
+use Rattle.slotcheck.specs.Aids.Checksums.{checksum, NamesMet, NameTold, SlotTold}
 use Rattle.slotcheck.proofs.Laws.Slots.{says_found, twice_other, twice_plain}
-
--- ---- a checksum, byte by byte: bytes from i on are left
-
-pub checksum_begin : (name : List ℕ) → checksum_from name 0 (11 - 0) 0 ≡ checksum name
-unfolding checksum
-checksum_begin name = refl
-
-module _ (l : List ℕ) (a i sum : ℕ) (inv : checksum_from (name_of l a) i (11 - i) sum ≡ checksum (name_of l a)) where
-  pub checksum_more : i < 11 → (r : ℕ) → r ≡ with_byte sum (get_or l (a + i) 0) → checksum_from (name_of l a) (i + 1) (11 - (i + 1)) r ≡ checksum (name_of l a)
-  unfolding checksum_from
-  checksum_more h r p =
-      let e : 11 - i ≡ suc (11 - (i + 1)) = omega arith in
-      rw (p, ← part_at l a 11 i h) (sym (ap (λ (n : ℕ). checksum_from (name_of l a) i n sum) e) ∙ inv)
-
-  pub checksum_end : 11 ≤ i → sum ≡ checksum (name_of l a)
-  unfolding checksum_from
-  checksum_end h = let e : 11 - i ≡ 0 = omega arith in rw e at inv
 
 -- ---- the marks
 
-pub none_met : (l : List ℕ) (way : ℕ → ℕ) → NamesMet l way 0 (replicate 256 0)
+pub none_met : (l : List ℕ) (way : ℕ → ℕ) → NamesMet l way 0 (replicate 256 false)
 none_met l way = record {
-  long = length-replicate {A = ℕ} 256 0;
+  long = length-replicate {A = Bool} 256 false;
   marked = λ t h p. absurd (omega arith);
 }
 
-set_marked : (m : List ℕ) (i : ℕ) → i < length m → (j : ℕ) → (j ≢ i → get_or m j 0 ≢ 0) → get_or (set m i 1) j 0 ≢ 0
+set_marked : (m : List Bool) (i : ℕ) → i < length m → (j : ℕ) → (j ≢ i → get_or m j false ≡ true) → get_or (set m i true) j false ≡ true
 set_marked m i h j else = elim (ℕ_discrete j i) [
-  | yes e ↦ λ z. let one : get_or (set m i 1) i 0 ≡ 1 = get_or-set_same m i 1 0 h in let z' : get_or (set m i 1) i 0 ≡ 0 = rw e at z in omega arith
-  | no n ↦ λ z. else n (sym (get_or-set_other m i j 1 0 n) ∙ z)
+  | yes e ↦ rw e (get_or-set_same m i true false h)
+  | no n ↦ get_or-set_other m i j true false n ∙ else n
 ]
 
-module _ (l : List ℕ) (way : ℕ → ℕ) (s : ℕ) (m : List ℕ) (met : NamesMet l way s m) where
+module _ (l : List ℕ) (way : ℕ → ℕ) (s : ℕ) (m : List Bool) (met : NamesMet l way s m) where
   -- the marks after slot s, where its own file, if it is one, has its mark set
-  met_more : (PlainAt l (way s) → get_or m (checksum (name_of l (way s))) 0 ≢ 0) → NamesMet l way (s + 1) m
+  met_more : (PlainAt l (way s) → get_or m (checksum (name_of l (way s))) false ≡ true) → NamesMet l way (s + 1) m
   met_more here = record {
     long = met.long;
     marked = λ t h p. elim (ℕ_discrete t s) [
@@ -71,20 +53,20 @@ module _ (l : List ℕ) (way : ℕ → ℕ) (s : ℕ) (m : List ℕ) (met : Name
 
     module _ (x : not plain ≡ false) (long : (t : ℕ) → t < s + 1 → way t + 32 ≤ length l) (sum : ℕ) (sums : sum ≡ checksum (name_of l (way s))) (small : sum < 256) where
       -- no file below has the name: its mark would be set
-      unmet : get_or m sum 0 ≡ 0 → is_found (slot_named l way s (name_of l (way s))) ≡ false
+      unmet : get_or m sum false ≡ false → is_found (slot_named l way s (name_of l (way s))) ≡ false
       unmet zeros =
           let name = name_of l (way s) in
           elim (says_found (λ t. (t < s) × (PlainAt l (way t) × (name_of l (way t) ≡ name))) (slot_named l way s name)
           (slot_named_answers l way s (λ t h. long t (omega arith)) name (length_part l (way s) 11 (omega (arith, long s (omega arith)))))) [
-            | aye y f ↦ absurd (met.marked f.0 f.1.0 f.1.1.0 (ap (λ (n : List ℕ). get_or m (checksum n) 0) f.1.1.1 ∙ (rw (sums) at zeros)))
+            | aye y f ↦ absurd (clash (met.marked f.0 f.1.0 f.1.1.0) (ap (λ (n : List ℕ). get_or m (checksum n) false) f.1.1.1 ∙ (rw (sums) at zeros)))
             | nay f n ↦ f
           ]
 
-      pub told_new : get_or m sum 0 ≡ 0 → NameTold l way s false (set m sum 1)
+      pub told_new : get_or m sum false ≡ false → NameTold l way s false (set m sum true)
       told_new zeros = record {
         is = twice_plain l way s plain is (not-false plain x) (name_of l (way s)) refl (slot_named l way s (name_of l (way s))) refl false (sym (unmet zeros));
         met = record {
-          long = length-set m sum 1 ∙ met.long;
+          long = length-set m sum true ∙ met.long;
           marked = λ t h p. set_marked m sum (omega (arith, met.long)) (checksum (name_of l (way t)))
               (λ other. elim (ℕ_discrete t s) [
                 | yes e ↦ absurd (other (rw e (sym (sums))))
@@ -93,7 +75,7 @@ module _ (l : List ℕ) (way : ℕ → ℕ) (s : ℕ) (m : List ℕ) (met : Name
         };
       }
 
-      pub told_met : get_or m sum 0 ≢ 0 → (name : List ℕ) → name ≡ name_of l (way s) → (f : Found) → f ≡ slot_named l way s name
+      pub told_met : get_or m sum false ≡ true → (name : List ℕ) → name ≡ name_of l (way s) → (f : Option ℕ) → f ≡ slot_named l way s name
           → (r : Bool) → r ≡ is_found f → NameTold l way s r m
       told_met marked name e f q r p = record {
         is = twice_plain l way s plain is (not-false plain x) name e f q r p;
@@ -102,10 +84,10 @@ module _ (l : List ℕ) (way : ℕ → ℕ) (s : ℕ) (m : List ℕ) (met : Name
 
 -- ---- a slot by the four tests
 
-pub told_bad : (l : List ℕ) (way : ℕ → ℕ) (s : ℕ) (never label : Bool) (m : List ℕ) → true ≡ bad_slot_by l way s never label → SlotTold l way s never label true m
-told_bad l way s never label m e = record { is = e; met = λ f. absurd (clash refl f) }
+pub told_bad : (l : List ℕ) (way : ℕ → ℕ) (s : ℕ) (never label r : Bool) (m : List Bool) → r ≡ true → r ≡ bad_slot_by l way s never label → SlotTold l way s never label r m
+told_bad l way s never label r m t e = record { is = e; met = λ f. absurd (clash t f) }
 
-pub told_last : (l : List ℕ) (way : ℕ → ℕ) (s : ℕ) (never label r : Bool) (m : List ℕ) → NameTold l way s r m → r ≡ bad_slot_by l way s never label → SlotTold l way s never label r m
+pub told_last : (l : List ℕ) (way : ℕ → ℕ) (s : ℕ) (never label r : Bool) (m : List Bool) → NameTold l way s r m → r ≡ bad_slot_by l way s never label → SlotTold l way s never label r m
 told_last l way s never label r m told e = record { is = e; met = λ f. told.met }
 
 -- ---- entries that stand one after the other lie in the image where the last does

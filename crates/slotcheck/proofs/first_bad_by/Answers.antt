@@ -13,7 +13,7 @@ returns-then-is_bad c = search bad_found
 
 pub loop-s-preserved : goal.loop-s-preserved
 loop-s-preserved c = let tested = c.is_bad.ensures in
-    (search rules, search any_more, search any_more, bad_not_here _ _ _ _ _ _ tested.is (search rules) (search rules) _ _ (search rules) (search rules) (search rules), search rules, tested.met (search rules))
+    (search any_more, search any_more, bad_not_here _ _ _ _ _ _ tested.is (search rules) (search rules) _ _ (search rules) (search rules) (search rules), search rules, tested.met (search rules))
 
 pub returns : goal.returns
 returns c = search lowest_done

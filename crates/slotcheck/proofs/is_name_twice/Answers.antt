@@ -5,8 +5,8 @@ use Rattle.slotcheck.proofs.is_name_twice.Goals as goal
 pub returns-then-not-plain_at : goal.returns-then-not-plain_at
 returns-then-not-plain_at c = search told_other
 
-pub returns-then-met-sum-eq0 : goal.returns-then-met-sum-eq0
-returns-then-met-sum-eq0 c = search (told_new, row_within)
+pub returns-then-not-met-sum : goal.returns-then-not-met-sum
+returns-then-not-met-sum c = search (told_new, row_within)
 
 pub returns : goal.returns
 returns c = search (told_met, row_within)

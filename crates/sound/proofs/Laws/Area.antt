@@ -1,5 +1,5 @@
 -- What check answers is settled by the system area: the data and what follows it have no part in it.
-use Rattle.std.specs.Prelude.{ℕ, ◌+◌, ◌<◌, List, ◌⊎◌, ◌↔◌, ◌≡◌, get_or}
+use Rattle.std.specs.Prelude.{ℕ, ◌+◌, ◌<◌, List, ◌⊎◌, ◌↔◌, ◌≡◌, get_or, Result}
 use Rattle.std.proofs.Common.{arith, inl, inr, sym, ◌∙◌}
 use Rattle.std.proofs.Math.Path.{ap}
 use Rattle.chains.specs.Sums.{bit}
@@ -16,7 +16,8 @@ use Rattle.sound.specs.Counts.{is_file, file_count, held_by, held_of}
 use Rattle.sound.specs.Files.{value_of, IsFile, ChainOf}
 use Rattle.sound.specs.Findings.{TablesDiffer, NoValue, BadSlot, AfterNeverUsed, StrangeEntry, SecondLabel, NameTwice, BadChain, InChain, InTwoChains, Lost}
 use Rattle.sound.specs.Aids.FromFinding.{Counted}
-use Rattle.sound.specs.declared.Verdict.{Verdict}
+use Rattle.sound.specs.declared.Counts.{Counts}
+use Rattle.sound.specs.declared.Finding.{Finding}
 
 pub area_back : (k : Kind) (m l : List ℕ) → SameArea k m l → SameArea k l m
 area_back k m l e = record { left_long = e.right_long; right_long = e.left_long; bytes = λ j h. sym (e.bytes j h) }
@@ -125,7 +126,7 @@ module _ (k : Kind) (u : Usable k) (m l : List ℕ) (e : SameArea k m l) where
   unfolding held_by
   held_as lists s h = rw (plain_as s h)
 
-  pub counted_as : (v : Verdict) → Counted k m v → Counted k l v
+  pub counted_as : (v : Result Counts Finding) → Counted k m v → Counted k l v
   counted_as v q =
       let files : file_count k m ≡ file_count k l = tally_as in
       let held : held_of k m q.0 ≡ held_of k l q.0 = sum_cong (root_entries k) _ _ (held_as q.0) in (

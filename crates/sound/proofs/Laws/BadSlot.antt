@@ -5,7 +5,7 @@ use Rattle.std.proofs.Math.Decide.{ℕ_discrete}
 use Rattle.std.proofs.Math.Path.{◌≡◌, refl}
 use Rattle.image.proofs.Laws.Store.{length_part}
 use Rattle.chains.specs.Aids.Tests.{Says, aye, nay}
-use Rattle.chains.specs.Aids.Verdict.{optional, Finds}
+use Rattle.chains.specs.Aids.Verdict.{Finds}
 use Rattle.chains.proofs.Laws.Tests.{says_eq, says_and, says_or, says_not, says_map, by_test, clash}
 use Rattle.chains.proofs.Laws.Verdict.{lowest_finds}
 use Rattle.diskette.specs.Places.{first_data, root_entries, slot_at}
@@ -114,7 +114,7 @@ module _ (k : Kind) (l : List ℕ) (s : ℕ) where
 
 -- The search answers the lowest bad slot.
 pub found_bad_slot : (k : Kind) (l : List ℕ) → 512 * first_data k ≤ length l
-    → Finds ltb (BadSlot k l) (optional (lowest (bad_slot_at l (slot_at k)) 0 (root_entries k)))
+    → Finds ltb (BadSlot k l) (lowest (bad_slot_at l (slot_at k)) 0 (root_entries k))
 found_bad_slot k l long =
     lowest_finds (BadSlot k l) (bad_slot_at l (slot_at k)) 0 (root_entries k)
     (λ s b. let h : s < root_entries k = b.0 in (omega arith, omega arith))

@@ -4,8 +4,8 @@ use Rattle.std.specs.Prelude.{ℕ, ◌+◌, ◌*◌, ◌<◌, List, ◌⊎◌, �
 use Rattle.std.proofs.Common.{arith, inl, inr, ap, ◌∙◌}
 use Rattle.std.proofs.Math.Decide.{ℕ_discrete}
 use Rattle.chains.specs.Aids.Tests.{Says}
-use Rattle.search.specs.Search.{lowest, None}
-use Rattle.chains.specs.Aids.Verdict.{optional, Finds}
+use Rattle.search.specs.Search.{lowest, Nowhere}
+use Rattle.chains.specs.Aids.Verdict.{Finds}
 use Rattle.chains.proofs.Laws.Tests.{says_eq, says_and, says_or, says_not, says_map}
 use Rattle.chains.proofs.Laws.Verdict.{lowest_finds}
 use Rattle.diskette.specs.Aids.Usable.{Usable}
@@ -23,12 +23,12 @@ says_differs k l j h =
     says_map (λ r. (h, elim r [ inl x ↦ inr x | inr x ↦ inl x ])) (λ r. elim r.1 [ inl x ↦ inr x | inr x ↦ inl x ])
     (says_or (says_not (says_eq one two)) (says_and (says_or (says_eq j 1) (says_eq j 2)) (says_not (says_eq one 0xFF))))
 
-pub found_difference : (k : Kind) (l : List ℕ) → Finds ltb (TablesDiffer k l) (optional (lowest (differs_at (copy_two k) l) 0 (512 * k.fat)))
+pub found_difference : (k : Kind) (l : List ℕ) → Finds ltb (TablesDiffer k l) (lowest (differs_at (copy_two k) l) 0 (512 * k.fat))
 found_difference k l =
     lowest_finds (TablesDiffer k l) (differs_at (copy_two k) l) 0 (512 * k.fat) (λ j b. (omega arith, omega (arith, b.0))) (λ j h i. says_differs k l j (omega arith))
 
 module _ (k : Kind) (l : List ℕ) where
-  pub no_difference : Usable k → None (TablesDiffer k l) → Agree (copy_two k) (512 * k.fat) l × (get_or l (copy_one + 1) 0 ≡ 0xFF) × (get_or l (copy_one + 2) 0 ≡ 0xFF)
+  pub no_difference : Usable k → Nowhere (TablesDiffer k l) → Agree (copy_two k) (512 * k.fat) l × (get_or l (copy_one + 1) 0 ≡ 0xFF) × (get_or l (copy_one + 2) 0 ≡ 0xFF)
   no_difference u n = (agree, byte 1 (omega (arith, u.reaches)) (inl refl), byte 2 (omega (arith, u.reaches)) (inr refl))
     where
       agree : (j : ℕ) → j < 512 * k.fat → get_or l (copy_one + j) 0 ≡ get_or l (copy_two k + j) 0
@@ -37,7 +37,7 @@ module _ (k : Kind) (l : List ℕ) where
       byte : (j : ℕ) → j < 512 * k.fat → (j ≡ 1) ⊎ (j ≡ 2) → get_or l (copy_one + j) 0 ≡ 0xFF
       byte j h w = elim (ℕ_discrete (get_or l (copy_one + j) 0) 0xFF) [ yes e ↦ e | no d ↦ absurd (n j (h, inl (w, d))) ]
 
-  pub no_difference_from : Agree (copy_two k) (512 * k.fat) l → get_or l (copy_one + 1) 0 ≡ 0xFF → get_or l (copy_one + 2) 0 ≡ 0xFF → None (TablesDiffer k l)
+  pub no_difference_from : Agree (copy_two k) (512 * k.fat) l → get_or l (copy_one + 1) 0 ≡ 0xFF → get_or l (copy_one + 2) 0 ≡ 0xFF → Nowhere (TablesDiffer k l)
   no_difference_from agree one two j (h, inl ((inl e), d)) = d (ap (λ (x : ℕ). get_or l (copy_one + x) 0) e ∙ one)
   no_difference_from agree one two j (h, inl ((inr e), d)) = d (ap (λ (x : ℕ). get_or l (copy_one + x) 0) e ∙ two)
   no_difference_from agree one two j (h, inr d) = d (agree j h)

@@ -1,5 +1,5 @@
 -- What the walks find is held.
-use Rattle.std.specs.Prelude.{ℕ, Bool, ◌≡◌}
+use Rattle.std.specs.Prelude.{ℕ, Bool, ◌≡◌, Result}
 use Rattle.std.proofs.Math.Bool.{true, false, cond}
 use mathlib.Core.List.{List, []}
 use Rattle.std.proofs.Math.Path.{refl, sym, subst}
@@ -11,7 +11,7 @@ use Rattle.chains.specs.Aids.Sizes.{Geometry}
 use Rattle.chains.proofs.Laws.Check.{says_owned}
 use Rattle.chains.proofs.Laws.Sums.{sum_cong}
 use Rattle.chains.proofs.Laws.Tests.{by_test, says_true, true_says, clash}
-use Rattle.search.specs.Search.{None}
+use Rattle.search.specs.Search.{Nowhere}
 use Rattle.diskette.specs.Aids.Usable.{Usable}
 use Rattle.diskette.specs.Places.{cluster_bytes, last_cluster, root_entries, slot_at}
 use Rattle.diskette.specs.declared.Kind.{Kind}
@@ -28,7 +28,8 @@ use Rattle.sound.specs.Aids.Judged.{sound_with, held_found, voice}
 use Rattle.sound.proofs.Laws.Chains.{file_owns_chain}
 use Rattle.sound.proofs.Laws.Geometry.{geometry}
 use Rattle.sound.proofs.Laws.Sound.{held_same}
-use Rattle.sound.specs.declared.Verdict.{Verdict}
+use Rattle.sound.specs.declared.Counts.{Counts}
+use Rattle.sound.specs.declared.Finding.{Finding}
 
 module _ (k : Kind) (u : Usable k) (l : List ℕ) where
   G : Geometry
@@ -39,7 +40,7 @@ module _ (k : Kind) (u : Usable k) (l : List ℕ) where
   abbrev found : ℕ → List ℕ
   found s = chain_at (last_cluster k) (cluster_bytes k) l (slot_at k s)
 
-  pub found_chains : None (BadChain k l) → AreChains k l found
+  pub found_chains : Nowhere (BadChain k l) → AreChains k l found
   unfolding chain_at G
   found_chains n s i =
       let h = holder_at (cluster_bytes k) l (slot_at k s) in
@@ -66,11 +67,11 @@ module _ (k : Kind) (u : Usable k) (l : List ℕ) where
 
   -- ---- the counts
 
-  abbrev with : ℕ → Verdict
+  abbrev with : ℕ → Result Counts Finding
   with held = sound_with (file_count k l) (free_of k l) held (bad_of k l) (reserved_of k l)
 
-  pub found_counted : None (BadChain k l) → (v : Verdict) → v ≡ (voice k l).fine → Counted k l v
+  pub found_counted : Nowhere (BadChain k l) → (v : Result Counts Finding) → v ≡ (voice k l).fine → Counted k l v
   found_counted n v e = (found, found_chains n, e ∙ ap with (sym held_found_lem))
 
-  pub counted_only : (v w : Verdict) → Counted k l v → Counted k l w → v ≡ w
+  pub counted_only : (v w : Result Counts Finding) → Counted k l v → Counted k l w → v ≡ w
   counted_only v w x y = x.2 ∙ ap with (held_same k u l x.0 y.0 x.1 y.1) ∙ sym y.2

@@ -1,14 +1,12 @@
 -- The test that the calls make: true exactly where the image is of a kind and sound, false exactly where it isn't.
-use Rattle.std.specs.Prelude.{ℕ, true, false, List, ◌↔◌, ◌≡◌, refl, ltb}
+use Rattle.std.specs.Prelude.{ℕ, true, false, List, ◌↔◌, ◌≡◌, refl, ltb, Option, Some, None, Result}
 use Rattle.std.proofs.Common.{arith, inl, inr, sym, ap, ◌∙◌, subst}
 use Rattle.chains.specs.Aids.Tests.{Says, aye, nay}
 use Rattle.chains.specs.Verdict.{OrElse}
-use Rattle.search.specs.Search.{None}
+use Rattle.search.specs.Search.{Nowhere}
 use Rattle.chains.proofs.Laws.Tests.{says_true, says_false, true_says, false_says, says_map}
 use Rattle.diskette.specs.Images.{kind_of_image, kind_of_area, OfKind, AreaOf}
 use Rattle.diskette.specs.declared.Kind.{Kind}
-use Rattle.diskette.specs.declared.WhichKind.{WhichKind}
-use Rattle.diskette.specs.declared.WhichKind.TheVariants.{Known, Unknown}
 use Rattle.diskette.proofs.Laws.Images.{image_of_kind, area_of_kind, image_usable, area_usable}
 use Rattle.diskette.specs.Aids.Usable.{Usable}
 use Rattle.sound.specs.Answer.{AnswersOf, AnswersBy}
@@ -19,31 +17,33 @@ use Rattle.sound.specs.Aids.Judged.{is_sound_verdict}
 use Rattle.sound.specs.Sound.{Sound, NoFinding}
 use Rattle.sound.proofs.Laws.Answer.{check_answers, area_answers}
 use Rattle.sound.proofs.Laws.Sound.{sound_exactly}
-use Rattle.sound.specs.declared.Verdict.{Verdict}
-use Rattle.sound.specs.declared.Verdict.TheVariants.{Finding}
+use Rattle.sound.specs.Numbers.{found}
+use Rattle.sound.specs.declared.Counts.{Counts}
+use Rattle.sound.specs.declared.Finding.{Finding}
+use Rattle.sound.specs.declared.Finding.TheVariants.{CopiesDiffer, BadValue, BadEntry, WrongChain, SharedCluster, LostCluster}
 
 -- a finding is no answer of a sound volume
-after : (B : ℕ → Type 0) (n : ℕ) (Rest : Verdict → Type 0) (P : Type 0) (v : Verdict) → (P → None B) → (None B → Rest v → Says (is_sound_verdict v) P)
-    → OrElse ltb B (Finding n) Rest v → Says (is_sound_verdict v) P
-after B n Rest P v none rest (inl x) = nay (ap is_sound_verdict x.2) (λ p. none p x.0 x.1.0)
-after B n Rest P v none rest (inr x) = rest x.0 x.1
+after : (B : ℕ → Type 0) (finding : ℕ → Finding) (Rest : Result Counts Finding → Type 0) (P : Type 0) (v : Result Counts Finding) → (P → Nowhere B) → (Nowhere B → Rest v → Says (is_sound_verdict v) P)
+    → OrElse ltb B (found finding) Rest v → Says (is_sound_verdict v) P
+after B finding Rest P v none rest (inl x) = nay (ap is_sound_verdict x.2) (λ p. none p x.0 x.1.0)
+after B finding Rest P v none rest (inr x) = rest x.0 x.1
 
-pub says_no_finding : (k : Kind) (l : List ℕ) (v : Verdict) → AnswersOf k l v → Says (is_sound_verdict v) (NoFinding k l)
+pub says_no_finding : (k : Kind) (l : List ℕ) (v : Result Counts Finding) → AnswersOf k l v → Says (is_sound_verdict v) (NoFinding k l)
 says_no_finding k l v =
     let P = NoFinding k l in
-    after (TablesDiffer k l) 2 (FromValues k l) P v (λ n. n.tables) (λ n2.
-    after (NoValue k l) 3 (FromSlots k l) P v (λ n. n.values) (λ n3.
-    after (BadSlot k l) 4 (FromChains k l) P v (λ n. n.slots) (λ n4.
-    after (BadChain k l) 5 (FromTwo k l) P v (λ n. n.chains) (λ n5.
-    after (InTwoChains k l) 6 (FromLost k l) P v (λ n. n.two) (λ n6.
-    after (Lost k l) 7 (Counted k l) P v (λ n. n.lost) (λ n7 e.
+    after (TablesDiffer k l) CopiesDiffer (FromValues k l) P v (λ n. n.tables) (λ n2.
+    after (NoValue k l) BadValue (FromSlots k l) P v (λ n. n.values) (λ n3.
+    after (BadSlot k l) BadEntry (FromChains k l) P v (λ n. n.slots) (λ n4.
+    after (BadChain k l) WrongChain (FromTwo k l) P v (λ n. n.chains) (λ n5.
+    after (InTwoChains k l) SharedCluster (FromLost k l) P v (λ n. n.two) (λ n6.
+    after (Lost k l) LostCluster (Counted k l) P v (λ n. n.lost) (λ n7 e.
     aye (ap is_sound_verdict e.2) (record { tables = n2; values = n3; slots = n4; chains = n5; two = n6; lost = n7 })))))))
 
 -- a volume of the kind that was found, if one was
-says_by : (w : WhichKind) (l : List ℕ) (v : Verdict) → ((k : Kind) → w ≡ Known k → Usable k) → AnswersBy w l v → Says (is_sound_verdict v) ((k : Kind) × (w ≡ Known k) × Sound k l)
-says_by (Known k) l v usable a =
+says_by : (w : Option Kind) (l : List ℕ) (v : Result Counts Finding) → ((k : Kind) → w ≡ Some k → Usable k) → AnswersBy w l v → Says (is_sound_verdict v) ((k : Kind) × (w ≡ Some k) × Sound k l)
+says_by (Some k) l v usable a =
     says_map (λ n. (k, refl, (sound_exactly k (usable k refl) l).1 n)) (λ r. let e : r.0 ≡ k = cc r.1 in (sound_exactly k (usable k refl) l).0 (subst (λ (x : Kind). Sound x l) e r.2)) (says_no_finding k l v a)
-says_by Unknown l v usable a = nay (ap is_sound_verdict a) (λ r. let z : ◌≡◌ {A = ℕ} 0 1 = cc r.1 in omega arith)
+says_by None l v usable a = nay (ap is_sound_verdict a) (λ r. let z : ◌≡◌ {A = ℕ} 0 1 = cc r.1 in omega arith)
 
 module _ (l : List ℕ) where
   pub says_sound : Says (is_sound l) ((k : Kind) × OfKind l k × Sound k l)
@@ -52,11 +52,11 @@ module _ (l : List ℕ) where
       (says_by (kind_of_image l) l (check_of l) (image_usable l) (check_answers l).is)
 
   -- in the form of the calls' need: the kind is known already
-  pub known_says : (k : Kind) → kind_of_image l ≡ Known k → Says (is_sound l) (Sound k l)
+  pub known_says : (k : Kind) → kind_of_image l ≡ Some k → Says (is_sound l) (Sound k l)
   known_says k e = says_map (λ r. subst (λ (x : Kind). Sound x l) (same r.0 r.1) r.2) (λ v. (k, (image_of_kind l k).0 e, v)) says_sound
     where
       same : (x : Kind) → OfKind l x → x ≡ k
-      same x o = let q : Known x ≡ Known k = sym ((image_of_kind l x).1 o) ∙ e in cc
+      same x o = let q : Some x ≡ Some k = sym ((image_of_kind l x).1 o) ∙ e in cc
 
   -- Sound means that none of the seven holds. (The first is that the image is of no kind.)
   pub sound_means : (k : Kind) → OfKind l k → Sound k l ↔ NoFinding k l

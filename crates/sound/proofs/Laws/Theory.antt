@@ -5,7 +5,7 @@ use Rattle.std.proofs.Common.{subst}
 use Rattle.std.proofs.Math.Dec.{ltb}
 use Rattle.chains.specs.Aids.Holders.{NamesAll, FitTogether}
 use Rattle.chains.specs.Lists.{◌∈◌}
-use Rattle.search.specs.Search.{None}
+use Rattle.search.specs.Search.{Nowhere}
 use Rattle.chains.proofs.Laws.Findings.{none_sound}
 use Rattle.chains.proofs.Laws.Holders.{sound_names}
 use Rattle.diskette.specs.Aids.Usable.{Usable}
@@ -44,7 +44,7 @@ module _ (k : Kind) (u : Usable k) (l : List ℕ) where
     pub owner_file : (a c : ℕ) → c ∈ χ a → (s : ℕ) × (a ≡ slot_at k s) × IsFile k l s
     owner_file a c m = let r = listed_from k u l (root_holders k l) (root_holder k l) a c (root_names.all a c m) (χ a, v.owns a, m) in (r.0, r.1, r.2.0)
 
-    pub theory_sound : None (TablesDiffer k l) → None (BadSlot k l) → SoundBy k l (λ s. χ (slot_at k s))
+    pub theory_sound : Nowhere (TablesDiffer k l) → Nowhere (BadSlot k l) → SoundBy k l (λ s. χ (slot_at k s))
     theory_sound n2 n4 = record {
       tables = n2;
       values = λ c b. b.1 (v.valid c b.0);

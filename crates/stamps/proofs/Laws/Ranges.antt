@@ -44,7 +44,7 @@ module _ (year month day : ℕ) where
       let d = and_le 1 day _ c.1 in
       record { years = a.0; month_low = b.0; month_high = c.0; day_low = d.0; day_high = leb-true day 31 d.1 }
 
--- ---- in the form of the code's needs: the tests are made one after the other
+-- ---- out of range
 
 not-true : (b : Bool) → (b ≡ true → ⊥) → false ≡ b
 not-true true n = absurd (n refl)
@@ -55,11 +55,3 @@ time_out hour minute step n = not-true (time_fits hour minute step) (λ e. n (ti
 
 pub date_out : (year month day : ℕ) → (DateInRange year month day → ⊥) → false ≡ date_fits year month day
 date_out year month day n = not-true (date_fits year month day) (λ e. n (date_in_range year month day e))
-
-pub time_last : (hour minute step : ℕ) → hour ≤ 23 → minute ≤ 59 → leb step 29 ≡ time_fits hour minute step
-unfolding time_fits
-time_last hour minute step h m = rw (le-leb hour 23 h, le-leb minute 59 m)
-
-pub date_last : (year month day : ℕ) → year ≤ 119 → 1 ≤ month → month ≤ 12 → 1 ≤ day → leb day 31 ≡ date_fits year month day
-unfolding date_fits
-date_last year month day y l h d = rw (le-leb year 119 y, le-leb 1 month l, le-leb month 12 h, le-leb 1 day d)

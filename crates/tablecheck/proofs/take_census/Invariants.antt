@@ -4,7 +4,7 @@ use Rattle.tablecheck.specs.Aids.Values.{Met}
 use Rattle.tablecheck.proofs.take_census.Given as goal
 
 abbrev pub invariant-loop-c : goal.invariant-loop-c
-invariant-loop-c l = Met l.last l.img l.free l.bad l.reserved l.c
+invariant-loop-c l = Met l.last l.img l.tally l.c
 
 abbrev pub decreases-loop-c : goal.decreases-loop-c
 decreases-loop-c l = l.last + 1 - l.c

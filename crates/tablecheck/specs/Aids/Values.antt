@@ -1,21 +1,18 @@
 -- Finding 3 as the code searches for it: the lowest cluster without a value, or how many are free, bad and reserved.
-use Rattle.std.specs.Prelude.{ℕ, ◌+◌, ◌-◌, ◌≤◌, Bool, ◌≡◌, List}
+use Rattle.std.specs.Prelude.{ℕ, ◌+◌, ◌-◌, ◌≤◌, Bool, ◌≡◌, List, Option, Some, None, Result, Ok, Err}
 use Rattle.search.specs.Search.{lowest}
-use Rattle.search.specs.declared.Found.{Found}
-use Rattle.search.specs.declared.Found.TheVariants.{At, Nothing}
 use Rattle.chains.specs.Values.{freeb, badb, reservedb, value_count}
 use Rattle.chains.specs.Aids.Check.{no_value}
 use Rattle.chains.specs.Aids.Values.{passes_at}
 use Rattle.chains.specs.Sums.{tally}
 use Rattle.table.specs.Entries.{table_of}
-use Rattle.tablecheck.specs.declared.Census.{Census}
-use Rattle.tablecheck.specs.declared.Census.TheVariants.{NoValue, Values}
+use Rattle.tablecheck.specs.declared.Tally.{Tally}
 
-abbrev pub census_by : Found → ℕ → ℕ → ℕ → Census
-census_by Nothing free bad reserved = Values free bad reserved
-census_by (At c) free bad reserved = NoValue c
+abbrev pub census_by : Option ℕ → ℕ → ℕ → ℕ → Result Tally ℕ
+census_by None free bad reserved = Ok (record { free = free; bad = bad; reserved = reserved })
+census_by (Some c) free bad reserved = Err c
 
-unfoldable pub census_of : ℕ → List ℕ → Census
+unfoldable pub census_of : ℕ → List ℕ → Result Tally ℕ
 census_of last l =
     let f = table_of last l in
     census_by (lowest (no_value last f) 2 (last - 1)) (value_count freeb last f) (value_count badb last f) (value_count reservedb last f)
@@ -28,14 +25,14 @@ pub record Tallied (t : ℕ → Bool) (last : ℕ) (f : ℕ → ℕ) (n c : ℕ)
   pub whole : n + tally (passes_at t f) (last + 1 - c) c ≡ value_count t last f
 
 -- where the loop stands at cluster c: what it has counted, and that each cluster before has a value
-pub record Met (last : ℕ) (l : List ℕ) (free bad reserved c : ℕ) : Type 0 where
+pub record Met (last : ℕ) (l : List ℕ) (t : Tally) (c : ℕ) : Type 0 where
   pub from : 2 ≤ c
-  pub free_are : Tallied freeb last (table_of last l) free c
-  pub bad_are : Tallied badb last (table_of last l) bad c
-  pub reserved_are : Tallied reservedb last (table_of last l) reserved c
+  pub free_are : Tallied freeb last (table_of last l) t.free c
+  pub bad_are : Tallied badb last (table_of last l) t.bad c
+  pub reserved_are : Tallied reservedb last (table_of last l) t.reserved c
   pub valued : lowest (no_value last (table_of last l)) c (last + 1 - c) ≡ lowest (no_value last (table_of last l)) 2 (last - 1)
 
 -- what a count has come to, once the clusters before c are counted
-abbrev pub CountedTo : ℕ → List ℕ → ℕ → Census → Type 0
-CountedTo last l c (NoValue d) = NoValue d ≡ census_of last l
-CountedTo last l c (Values free bad reserved) = Met last l free bad reserved c
+abbrev pub CountedTo : ℕ → List ℕ → ℕ → Result Tally ℕ → Type 0
+CountedTo last l c (Err d) = Err d ≡ census_of last l
+CountedTo last l c (Ok t) = Met last l t c

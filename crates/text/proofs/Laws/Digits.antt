@@ -1,11 +1,12 @@
--- How many digits a number has, and digits stored from the last to the first.
-use Rattle.std.specs.Prelude.{ℕ, zero, suc, ◌+◌, ◌-◌, ◌*◌, ◌/◌, ◌%◌, ◌≤◌, ◌<◌, List, [], ◌∷◌, ◌≡◌, refl, length, set}
-use Rattle.std.proofs.Common.{arith, mod-lt, inr, sym, ◌∙◌, ap, length-append, lt-ltb, le-ltb}
+-- How many digits a number has, and digits put on a page.
+use Rattle.std.specs.Prelude.{ℕ, zero, suc, ◌+◌, ◌-◌, ◌*◌, ◌/◌, ◌%◌, ◌^◌, ◌≤◌, ◌<◌, [], ◌∷◌, ◌≡◌, refl, max}
+use Rattle.std.proofs.Common.{arith, mod-lt, ◌∙◌, lt-ltb, le-ltb}
 use Rattle.std.proofs.Math.Decide.{dec_lt}
-use Rattle.image.specs.Store.{stored}
-use Rattle.image.proofs.Laws.Store.{stored_append, stored_swap}
-use Rattle.text.specs.Aids.Puts.{Puts, PutsIn}
+use Rattle.std.proofs.Math.Nat.{pow-suc}
+use Rattle.text.specs.declared.page.Page.{Page}
 use Rattle.text.specs.Digits.{digit_sign, in_digits, width_in, width, decimal}
+use Rattle.text.specs.Aids.Pages.{Adds, AddsIn}
+use Rattle.text.proofs.Laws.Pages.{adds_nothing, adds_then}
 
 -- ---- a sign
 
@@ -53,60 +54,41 @@ width_below (suc k) n h = elim (dec_lt n 10) [
 pub width_most : (n : ℕ) → n < 0x1_0000_0000_0000_0000 → width n ≤ 20
 width_most n h = width_below 19 n (omega arith)
 
--- ---- in the form of the loop: what is left counts the rest's digits
+some_ten : (k : ℕ) → 0 < 10 ^ k
+some_ten zero = omega arith
+some_ten (suc k) = omega (arith, pow-suc 10 k, some_ten k)
 
-pub width_turn : (n m w : ℕ) → 9 < n → m + width n ≡ w + 1 → m + 1 + width (n / 10) ≡ w + 1
-width_turn n m w h inv = omega (arith, width_more n h)
+-- by the power of ten that n reaches; 0 has one digit as 1 has
+pub width_at : (n k : ℕ) → 10 ^ k ≤ max n 1 → max n 1 < 10 * 10 ^ k → width n ≡ k + 1
+width_at n zero p q = width_one n (omega arith)
+width_at n (suc k) p q =
+    let power : 10 ^ suc k ≡ 10 ^ k * 10 = pow-suc 10 k in
+    let some : 0 < 10 ^ k = some_ten k in
+    omega (arith, width_more n (omega (arith, power, some, p)), width_at (n / 10) k (omega (arith, power, some, p)) (omega (arith, power, q)))
 
-pub width_done : (n m w : ℕ) → n ≤ 9 → m + width n ≡ w + 1 → m ≡ w
-width_done n m w h inv = omega (arith, width_one n (omega arith))
-
--- ---- digits stored
-
-pub length_digits : (base w n : ℕ) → length (in_digits base w n) ≡ w
-unfolding in_digits
-length_digits base zero n = refl
-length_digits base (suc w) n = rw (length-append (in_digits base w (n / base)) (digit_sign (n % base) ∷ [])) (omega (arith, length_digits base w (n / base)))
+-- ---- digits on a page
 
 pub below_base : (n base : ℕ) → 1 < base → base ≤ 16 → n % base < 16
 below_base n base h k = omega (arith, mod-lt n {m = base} (omega arith))
 
-digits_step : (l : List ℕ) (at base n i : ℕ) → at + (i + 1) ≤ length l
-    → stored (set l (at + i) (digit_sign (n % base))) at (in_digits base i (n / base)) ≡ stored l at (in_digits base (suc i) n)
-unfolding stored in_digits
-digits_step l at base n i f =
-    let ds : List ℕ = in_digits base i (n / base) in
-    let x : List ℕ = digit_sign (n % base) ∷ [] in
-    let e : length ds ≡ i = length_digits base i (n / base) in
-    stored_swap l (at + i) x at ds (omega arith) (omega arith) (inr (omega arith)) ∙ ap (λ (k : ℕ). stored (stored l at ds) (at + k) x) (sym e) ∙ sym (stored_append l at ds x)
+pub adds_no_digits : (base n count : ℕ) (p : Page) → count ≤ 0 → Adds (in_digits base count n) p p
+unfolding in_digits
+adds_no_digits base n zero p h = adds_nothing p
+adds_no_digits base n (suc count) p h = absurd (omega arith)
 
--- ---- in the form of the loop: what is left is stored before what stands there
+pub adds_digits : (base n count c : ℕ) (p q r : Page) → 0 < count → c ≡ digit_sign (n % base)
+    → Adds (in_digits base (count - 1) (n / base)) p q → Adds (c ∷ []) q r → Adds (in_digits base count n) p r
+unfolding in_digits
+adds_digits base n zero c p q r h e f g = absurd (omega arith)
+adds_digits base n (suc count) c p q r h e f g =
+    let d : suc count - 1 ≡ count = omega arith in
+    adds_then (in_digits base count (n / base)) (digit_sign (n % base) ∷ []) p q r (rw d at f) (rw e at g)
 
-pub digits_turn : (l l₀ m : List ℕ) (at base n w i b : ℕ) → 0 < i → i ≤ w → length l ≡ length l₀ → at + w ≤ length l₀ → b ≡ digit_sign (n % base)
-    → stored l at (in_digits base i n) ≡ m → stored (set l (at + (i - 1)) b) at (in_digits base (i - 1) (n / base)) ≡ m
-digits_turn l l₀ m at base n w zero b h k e f d inv = absurd (omega arith)
-digits_turn l l₀ m at base n w (suc i) b h k e f d inv =
-    let p : suc i - 1 ≡ i = omega arith in
-    rw (p, d) (digits_step l at base n i (omega arith) ∙ inv)
+-- a number of 64 bits
+module _ (n w : ℕ) (e : w ≡ width n) (h : n < 2 ^ 64) where
+  pub decimal_fits : w ≤ 20
+  decimal_fits = omega (arith, width_most n (omega arith))
 
-digits_done : (l m : List ℕ) (at base n i : ℕ) → i ≤ 0 → stored l at (in_digits base i n) ≡ m → l ≡ m
-unfolding stored in_digits
-digits_done l m at base n zero h inv = inv
-digits_done l m at base n (suc i) h inv = absurd (omega arith)
-
-pub puts_digits : (l l₀ : List ℕ) (at base w n i rest : ℕ) → i ≤ 0 → stored l at (in_digits base i rest) ≡ stored l₀ at (in_digits base w n) → Puts (in_digits base w n) l₀ at (at + w) l
-puts_digits l l₀ at base w n i rest h inv =
-    record {
-      stores = digits_done l (stored l₀ at (in_digits base w n)) at base rest i h inv;
-      next = omega (arith, length_digits base w n);
-    }
-
--- ---- as many digits as the number has
-
-module _ (n w : ℕ) (e : w ≡ width n) (h : n < 0x1_0000_0000_0000_0000) where
-  pub decimal_fits : (at k : ℕ) → at + 20 ≤ k → at + w ≤ k
-  decimal_fits at k f = omega (arith, width_most n h)
-
-  pub puts_decimal : (l : List ℕ) (at r : ℕ) (m : List ℕ) → PutsIn w (in_digits 10 w n) l at r m → PutsIn 20 (decimal n) l at r m
+  pub adds_decimal : (p q : Page) → AddsIn w (in_digits 10 w n) p q → AddsIn 20 (decimal n) p q
   unfolding decimal
-  puts_decimal l at r m p = record { puts = rw e at p.puts; room = omega (arith, width_most n h) }
+  adds_decimal p q f = record { adds = rw e at f.adds; room = omega (arith, f.room, decimal_fits) }

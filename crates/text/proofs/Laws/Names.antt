@@ -1,31 +1,24 @@
 -- A name's parts, byte by byte.
-use Rattle.std.specs.Prelude.{ℕ, ◌+◌, ◌-◌, ◌≤◌, ◌<◌, Bool, true, false, List, [], ◌∷◌, ◌≢◌, ◌≡◌, refl, length, get_or, set, take, drop}
+use Rattle.std.specs.Prelude.{ℕ, suc, ◌+◌, ◌≤◌, ◌<◌, Bool, true, false, cond, ◌&&◌, List, [], ◌∷◌, ◌++◌, map, ◌≢◌, ◌≡◌, refl, eqb, length, get_or, take}
+use Rattle.std.specs.List.{list_all}
 use native.Mathlib.Omega.{arith}
-use Rattle.std.proofs.Common.{add-one, sym, ◌∙◌, ap, length-drop, drop_of_length-le, drop-cons, take_all, eq-eqb, ne_eqb}
-use Rattle.image.specs.Store.{stored}
-use Rattle.names.specs.Alphabet.{plain}
+use Rattle.std.proofs.Common.{add-one, sym, ◌∙◌, ap, take_all, ne_eqb}
+use Rattle.std.proofs.Math.Seq.{take-suc}
+use Rattle.std.proofs.lemmas.List.{map-append, nil_from_length}
+use Rattle.std.proofs.lemmas.Bool.Decides.{nat_tests}
 use Rattle.names.specs.Spelling.{dot, space, every}
+use Rattle.names.specs.Alphabet.{plain}
+use Rattle.text.specs.declared.page.Page.{Page}
 use Rattle.text.specs.Names.{only_spaces, trimmed, shown, part_text, ext_text}
-use Rattle.text.specs.Aids.Puts.{Puts, PutsIn}
-use Rattle.text.proofs.Laws.Puts.{puts_nothing, puts_then}
-
-drop_next : (s : List ℕ) (i : ℕ) → i < length s → drop i s ≡ get_or s i 0 ∷ drop (i + 1) s
-drop_next s i h = rw (add-one i) (drop-cons s i 0 h)
+use Rattle.text.specs.Aids.Pages.{Adds}
+use Rattle.text.proofs.Laws.Pages.{adds_nothing, adds_then}
 
 -- ---- whether only spaces are left
 
-module _ (s : List ℕ) (i : ℕ) (b : Bool) (inv : only_spaces (drop i s) ≡ b) where
-  pub blank_turn : i < length s → get_or s i 0 ≡ space → only_spaces (drop (i + 1) s) ≡ b
-  unfolding only_spaces every
-  blank_turn h e = rw (eq-eqb (get_or s i 0) space e) at (rw (drop_next s i h) at inv)
-
-  pub blank_found : i < length s → get_or s i 0 ≢ space → false ≡ b
-  unfolding only_spaces every
-  blank_found h e = rw (ne_eqb (get_or s i 0) space e) at (rw (drop_next s i h) at inv)
-
-  pub blank_done : length s ≤ i → true ≡ b
-  unfolding only_spaces every
-  blank_done h = rw (drop_of_length-le s h) at inv
+pub spaces_all : (s : List ℕ) → list_all (λ (c : ℕ). eqb c space) s ≡ only_spaces s
+unfolding only_spaces every
+spaces_all [] = refl
+spaces_all (c ∷ cs) = ap (λ b. eqb c space && b) (spaces_all cs)
 
 -- ---- a byte
 
@@ -37,63 +30,61 @@ pub shown_other : (c : ℕ) (b : Bool) → b ≡ plain c → b ≡ false → 0x3
 unfolding shown
 shown_other c b e t = rw (sym e ∙ t)
 
--- ---- a part: what is left of it, put from here on, gives the whole
+-- ---- a part without the spaces at its end
 
-whole_drop : (s : List ℕ) (i : ℕ) → take (length s - i) (drop i s) ≡ drop i s
-whole_drop s i = take_all (length s - i) (drop i s) (omega (arith, length-drop i s))
+spaces_end : (s : List ℕ) (c : ℕ) → only_spaces (s ++ (c ∷ [])) ≡ (only_spaces s && eqb c space)
+unfolding only_spaces every
+spaces_end [] c = grind (arith, nat_tests)
+spaces_end (x ∷ xs) c = rw (spaces_end xs c) (grind (arith, nat_tests))
 
-blank_nothing : (s : List ℕ) → only_spaces s ≡ true → part_text s ≡ []
-unfolding part_text trimmed
-blank_nothing [] e = refl
-blank_nothing (c ∷ cs) e = rw e
+trimmed_space : (s : List ℕ) → trimmed (s ++ (space ∷ [])) ≡ trimmed s
+unfolding trimmed only_spaces every
+trimmed_space [] = refl
+trimmed_space (x ∷ xs) = rw (spaces_end (x ∷ xs) space, trimmed_space xs) (grind (arith, nat_tests))
 
-part_next : (s : List ℕ) (i : ℕ) → i < length s → only_spaces (drop i s) ≡ false → part_text (drop i s) ≡ shown (get_or s i 0) ∷ part_text (drop (i + 1) s)
-unfolding part_text trimmed
-part_next s i h e =
-    let d : drop i s ≡ get_or s i 0 ∷ drop (i + 1) s = drop_next s i h in
-    let f : only_spaces (get_or s i 0 ∷ drop (i + 1) s) ≡ false = rw d at e in
-    rw (d, f)
+trimmed_end : (s : List ℕ) (c : ℕ) → c ≢ space → trimmed (s ++ (c ∷ [])) ≡ s ++ (c ∷ [])
+unfolding trimmed only_spaces every
+trimmed_end [] c h = rw (ne_eqb c space h)
+trimmed_end (x ∷ xs) c h = rw (spaces_end (x ∷ xs) c, ne_eqb c space h, trimmed_end xs c h) (grind (arith, nat_tests))
 
-pub part_all : (l : List ℕ) (at : ℕ) (s : List ℕ) → stored l (at + 0) (part_text (drop 0 s)) ≡ stored l at (part_text s)
-part_all l at s = let e : at + 0 ≡ at = omega arith in rw e
+module _ (s : List ℕ) (t : List ℕ) (is : trimmed s ≡ t) where
+  pub trimmed_turn : (rest : List ℕ) (c : ℕ) → s ≡ rest ++ (c ∷ []) → c ≡ space → trimmed rest ≡ t
+  trimmed_turn rest c e h = sym (trimmed_space rest) ∙ rw (e, h) at is
 
-module _ (s l₀ l : List ℕ) (at i : ℕ) (bytes : stored l (at + i) (part_text (drop i s)) ≡ stored l₀ at (part_text s)) (count : i + length (part_text (drop i s)) ≡ length (part_text s)) where
-  puts_none : part_text (drop i s) ≡ [] → i ≤ length s → PutsIn (length s) (part_text s) l₀ at (at + i) l
-  unfolding stored
-  puts_none e h =
-      record {
-        puts = record { stores = rw e at bytes; next = omega (arith, rw e at count) };
-        room = omega arith;
-      }
+  pub trimmed_done : (rest : List ℕ) (c : ℕ) → s ≡ rest ++ (c ∷ []) → c ≢ space → s ≡ t
+  trimmed_done rest c e h = e ∙ sym (trimmed_end rest c h) ∙ rw e at is
 
-  pub puts_end : length s ≤ i → i ≤ length s → PutsIn (length s) (part_text s) l₀ at (at + i) l
-  unfolding part_text trimmed
-  puts_end h k = puts_none (rw (drop_of_length-le s h)) k
+  pub trimmed_none : length s ≡ 0 → s ≡ t
+  unfolding trimmed
+  trimmed_none e = rw (nil_from_length s e) (rw (nil_from_length s e) at is)
 
-  module _ (b : Bool) (is : b ≡ only_spaces (take (length s - i) (drop i s))) where
-    pub puts_stop : b ≡ true → i ≤ length s → PutsIn (length s) (part_text s) l₀ at (at + i) l
-    puts_stop e h = puts_none (blank_nothing (drop i s) (ap only_spaces (sym (whole_drop s i)) ∙ sym is ∙ e)) h
+length_trimmed : (s : List ℕ) → length (trimmed s) ≤ length s
+unfolding trimmed
+length_trimmed [] = omega arith
+length_trimmed (x ∷ xs) = elim (only_spaces (x ∷ xs)) as (λ b. length (cond b [] (x ∷ trimmed xs)) ≤ suc (length xs)) [ true ↦ omega arith | false ↦ omega (arith, length_trimmed xs) ]
 
-    module _ (e : b ≡ false) (h : i < length s) where
-      more : part_text (drop i s) ≡ shown (get_or s i 0) ∷ part_text (drop (i + 1) s)
-      more = part_next s i h (ap only_spaces (sym (whole_drop s i)) ∙ sym is ∙ e)
+-- ---- a part on a page
 
-      pub part_turn : (c : ℕ) → c ≡ shown (get_or s i 0) → stored (set l (at + i) c) (at + (i + 1)) (part_text (drop (i + 1) s)) ≡ stored l₀ at (part_text s)
-      unfolding stored
-      part_turn c p =
-          let d : at + (i + 1) ≡ at + i + 1 = omega arith in
-          rw (d, p) (rw more at bytes)
+-- one byte more
+pub adds_next : (s : List ℕ) (i c : ℕ) (p q r : Page) → i < length s → Adds (map shown (take i s)) p q → c ≡ shown (get_or s i 0) → Adds (c ∷ []) q r → Adds (map shown (take (i + 1) s)) p r
+adds_next s i c p q r h f e g =
+    let d : take (i + 1) s ≡ take i s ++ (get_or s i 0 ∷ []) = rw (add-one i) (take-suc s i 0 h) in
+    rw (d, map-append shown (take i s) (get_or s i 0 ∷ [])) (adds_then (map shown (take i s)) (shown (get_or s i 0) ∷ []) p q r f (rw e at g))
 
-      pub part_count : i + 1 + length (part_text (drop (i + 1) s)) ≡ length (part_text s)
-      part_count = omega (arith, rw more at count)
+pub adds_part : (s t : List ℕ) (i : ℕ) (p q : Page) → t ≡ trimmed s → length t ≤ i → Adds (map shown (take i t)) p q → Adds (part_text s) p q
+unfolding part_text
+adds_part s t i p q e h f = rw (take_all i t h, e) at f
+
+pub length_part_kept : (s t : List ℕ) → t ≡ trimmed s → length t ≤ length s
+length_part_kept s t e = omega (arith, length_trimmed s, ap length e)
 
 -- ---- an extension
 
 module _ (s : List ℕ) (b : Bool) (is : b ≡ only_spaces s) where
-  pub puts_no_extension : (l : List ℕ) (at : ℕ) → b ≡ true → Puts (ext_text s) l at at l
+  pub adds_no_extension : (p : Page) → b ≡ true → Adds (ext_text s) p p
   unfolding ext_text
-  puts_no_extension l at e = rw (sym is ∙ e) (puts_nothing l at)
+  adds_no_extension p e = rw (sym is ∙ e) (adds_nothing p)
 
-  pub puts_extension : (l : List ℕ) (at a : ℕ) (m : List ℕ) (r : ℕ) (n : List ℕ) → b ≡ false → Puts (dot ∷ []) l at a m → Puts (part_text s) m a r n → Puts (ext_text s) l at r n
+  pub adds_extension : (p q r : Page) → b ≡ false → Adds (dot ∷ []) p q → Adds (part_text s) q r → Adds (ext_text s) p r
   unfolding ext_text
-  puts_extension l at a m r n e p q = rw (sym is ∙ e) (puts_then (dot ∷ []) (part_text s) l at a m r n p q)
+  adds_extension p q r e f g = rw (sym is ∙ e) (adds_then (dot ∷ []) (part_text s) p q r f g)

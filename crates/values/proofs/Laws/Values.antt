@@ -10,11 +10,11 @@ use Rattle.values.specs.declared.Meaning.TheVariants.{Free, Next, Bad, Reserved,
 module _ (last v : ℕ) where
   -- ---- in the form of the code's needs, test by test
 
-  pub means_free : v ≡ 0 → Free ≡ meaning_of last v
+  means_free : v ≡ 0 → Free ≡ meaning_of last v
   unfolding meaning_of
   means_free e = rw (eq-eqb v 0 e)
 
-  pub means_one : v ≢ 0 → v < 2 → NoneOfThese ≡ meaning_of last v
+  means_one : v ≢ 0 → v < 2 → NoneOfThese ≡ meaning_of last v
   unfolding meaning_of
   means_one d h = rw (ne_eqb v 0 d, lt-ltb v 2 h)
 
@@ -22,25 +22,25 @@ module _ (last v : ℕ) where
     not_zero : v ≢ 0
     not_zero e = omega arith
 
-    pub means_next : v ≤ last → Next v ≡ meaning_of last v
+    means_next : v ≤ last → Next v ≡ meaning_of last v
     unfolding meaning_of
     means_next h = rw (ne_eqb v 0 not_zero, le-ltb v 2 f, le-leb v last h)
 
     module _ (g : last < v) where
-      pub means_end : 0xFF8 ≤ v → End ≡ meaning_of last v
+      means_end : 0xFF8 ≤ v → End ≡ meaning_of last v
       unfolding meaning_of
       means_end h = rw (ne_eqb v 0 not_zero, le-ltb v 2 f, lt-leb v last g, le-leb 0xFF8 v h)
 
       module _ (k : v < 0xFF8) where
-        pub means_bad : v ≡ 0xFF7 → Bad ≡ meaning_of last v
+        means_bad : v ≡ 0xFF7 → Bad ≡ meaning_of last v
         unfolding meaning_of
         means_bad h = rw (ne_eqb v 0 not_zero, le-ltb v 2 f, lt-leb v last g, lt-leb 0xFF8 v k, eq-eqb v 0xFF7 h)
 
-        pub means_reserved : v ≢ 0xFF7 → 0xFF0 ≤ v → Reserved ≡ meaning_of last v
+        means_reserved : v ≢ 0xFF7 → 0xFF0 ≤ v → Reserved ≡ meaning_of last v
         unfolding meaning_of
         means_reserved b h = rw (ne_eqb v 0 not_zero, le-ltb v 2 f, lt-leb v last g, lt-leb 0xFF8 v k, ne_eqb v 0xFF7 b, le-leb 0xFF0 v h)
 
-        pub means_between : v ≢ 0xFF7 → v < 0xFF0 → NoneOfThese ≡ meaning_of last v
+        means_between : v ≢ 0xFF7 → v < 0xFF0 → NoneOfThese ≡ meaning_of last v
         unfolding meaning_of
         means_between b h = rw (ne_eqb v 0 not_zero, le-ltb v 2 f, lt-leb v last g, lt-leb 0xFF8 v k, ne_eqb v 0xFF7 b, lt-leb 0xFF0 v h)
 

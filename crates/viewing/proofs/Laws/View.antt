@@ -1,10 +1,10 @@
 -- View: the part of the image, and what it refuses, by its rows. Only one part and one number fit.
-use Rattle.std.specs.Prelude.{ℕ, ◌+◌, ◌-◌, ◌*◌, ◌≤◌, ◌<◌, ◌/◌, ◌%◌, ◌≡◌, refl, get_or}
+use Rattle.std.specs.Prelude.{ℕ, ◌+◌, ◌*◌, ◌≤◌, ◌<◌, ◌/◌, ◌≡◌, get_or, Ok, Err}
 use native.Mathlib.Omega.{arith}
 use Rattle.std.proofs.Math.Decide.{dec_lt}
 use mathlib.Core.List.{List, []}
 use Rattle.std.proofs.Math.Path.{sym}
-use Rattle.std.proofs.Common.{ap, ◌∙◌, div-lt_iff_lt-mul}
+use Rattle.std.proofs.Common.{◌∙◌, div-lt_iff_lt-mul}
 use Rattle.std.proofs.Math.ListN.{length}
 use Rattle.image.specs.Store.{part}
 use Rattle.contents.specs.Aids.Contents.{chain_from, place_of}
@@ -12,7 +12,9 @@ use Rattle.contents.proofs.Laws.Chain.{chain_room}
 use Rattle.diskette.specs.Places.{first_data, cluster_bytes, last_cluster, slot_at}
 use Rattle.diskette.specs.declared.Kind.{Kind}
 use Rattle.fields.specs.Fields.{start_of, size_of}
-use Rattle.calls.specs.Outcome.{Outcome, refusal, decided}
+use Rattle.calls.specs.Outcome.{refusal, decided}
+use Rattle.calls.specs.Numbers.{refusal_number}
+use Rattle.calls.specs.declared.refusal.Refusal.{Refusal}
 use Rattle.calls.specs.Aids.Ready.{OnVolume}
 use Rattle.calls.proofs.Laws.Rows.{Stops, stopped}
 use Rattle.calls.proofs.Laws.Ready.{on_kind_lem}
@@ -26,7 +28,7 @@ use Rattle.sound.specs.Files.{IsFile}
 use Rattle.holding.proofs.Laws.Clusters.{on_clusters}
 use Rattle.holding.proofs.Laws.Chain.{file_holds}
 use Rattle.viewing.specs.View.{view_count, view_part, view_rows, view_outcome, Views, ViewNumbers}
-use Rattle.viewing.specs.Aids.View.{view_at, Sees, SeesFile}
+use Rattle.viewing.specs.Aids.View.{view_at, Seen, Sees, SeesFile}
 
 pub views_only : {img s : List ℕ} {offset : ℕ} {p q : List ℕ} → Views img s offset p → Views img s offset q → p ≡ q
 views_only x y = x.is ∙ sym y.is
@@ -34,18 +36,12 @@ views_only x y = x.is ∙ sym y.is
 pub view_numbers_only : {img s : List ℕ} {offset p q : ℕ} → ViewNumbers img s offset p → ViewNumbers img s offset q → p ≡ q
 view_numbers_only x y = x.is ∙ sym y.is
 
--- ---- how many bytes
-
-pub offset_inside : (cb offset : ℕ) → 0 < cb → offset % cb ≤ cb
-offset_inside cb offset wide = omega (arith, mod-lt offset wide)
-
 -- ---- the file in a slot of a volume that is ready
 
 module _ (img : List ℕ) (k : Kind) (v : OnVolume img k) (slot : ℕ) (i : IsFile k img slot) (a : ℕ) (ae : a ≡ slot_at k slot) (size : ℕ) (sized : size ≡ size_of img a) (offset : ℕ) where
-  pub see_none : size ≤ offset → SeesFile img k slot offset 0 0 0
+  pub see_none : size ≤ offset → SeesFile img k slot offset (0, 0)
   unfolding view_part
   see_none h = record {
-    number_is = refl;
     part_is =
         let z : view_count (cluster_bytes k) (size_of img (slot_at k slot)) offset ≡ 0 = rw (← ae, ← sized) (omega arith) in
         rw z;
@@ -71,39 +67,29 @@ module _ (img : List ℕ) (k : Kind) (v : OnVolume img k) (slot : ℕ) (i : IsFi
         let r = (chain_room (512 * first_data k) (cluster_bytes k) (last_cluster k) img (start_of img (slot_at k slot)) (on_clusters img k v) (get_or cs (offset / cluster_bytes k) 0) (index_mem cs (offset / cluster_bytes k) inside)).1 in
         omega (arith, r, mod-lt offset w)
 
-    pub see_some : (first at bytes : ℕ) → first ≡ first_data k → at ≡ place_of (512 * first) cb last img start offset → bytes ≡ view_count cb size offset → SeesFile img k slot offset 0 at bytes
+    pub see_some : (first at bytes : ℕ) → first ≡ first_data k → at ≡ place_of (512 * first) cb last img start offset → bytes ≡ view_count cb size offset → SeesFile img k slot offset (at, bytes)
     unfolding view_part
     see_some first at bytes fe pe be =
         let p : at ≡ view_at k img slot offset = rw (pe, fe, ce, le, se, ae) in
         let n : bytes ≡ view_count (cluster_bytes k) size offset = rw (be, ce) in
         record {
-          number_is = refl;
           part_is = rw (p, n, sized, ae);
           inside = rw (p, n) room;
         }
 
 -- ---- one row stops it, or all are passed
 
-module _ (img s : List ℕ) (offset : ℕ) where
-  pub see_refused : (n : ℕ) → Stops (view_rows img s) n → Sees img s offset n 0 0
-  unfolding view_outcome
-  see_refused n q = record { is = sym (stopped _ n q _ img [] []); within = omega arith }
+pub see_refused : {img s : List ℕ} {offset : ℕ} {r : Seen} {e : Refusal} → r ≡ Err e → Stops (view_rows img s) (refusal_number e) → Sees img s offset r
+unfolding view_outcome
+see_refused {img = img} x q = record { is = rw x (sym (stopped _ _ q _ img [] [])); within = rw x (omega arith) }
 
-  pub see_well : (k : Kind) → OnVolume img k → (slot number at bytes : ℕ) → SeesFile img k slot offset number at bytes → FileNamed img s slot → Sees img s offset number at bytes
+module _ (img s : List ℕ) (offset : ℕ) where
+  pub see_well : (k : Kind) → OnVolume img k → (slot : ℕ) (p : ℕ × ℕ) → SeesFile img k slot offset p → FileNamed img s slot → Sees img s offset (Ok p)
   unfolding view_outcome decided refusal
-  see_well k v slot number at bytes x i = record {
-    is = rw (i.known, i.sound, i.good, i.found, on_kind_lem img k v, x.number_is, x.part_is);
+  see_well k v slot p x i = record {
+    is = rw (i.known, i.sound, i.good, i.found, on_kind_lem img k v, x.part_is);
     within = x.inside;
   }
-
-  module _ (number at bytes : ℕ) (x : Sees img s offset number at bytes) where
-    pub seen_views : Views img s offset (part img at (at + bytes - at))
-    seen_views =
-        let e : at + bytes - at ≡ bytes = omega arith in
-        record { is = rw e (ap (λ (o : Outcome). o.buffer) x.is) }
-
-    pub seen_numbers : ViewNumbers img s offset number
-    seen_numbers = record { is = ap (λ (o : Outcome). o.number) x.is }
 
 -- ---- what it means: the part is bytes of the file
 

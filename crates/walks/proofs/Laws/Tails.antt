@@ -3,7 +3,7 @@ use Prim.Native.Nat.{ℕ, zero, suc, ◌*◌, ◌-◌, ◌≤◌, ◌<◌}
 use native.Mathlib.Omega.{arith}
 use Rattle.std.proofs.Math.Decide.{ℕ_discrete}
 use mathlib.Core.List.{List, [], ◌∷◌, ◌++◌}
-use Rattle.std.specs.Prelude.{◌≢◌, ◌⊎◌, ◌≡◌, refl, length, set, replicate}
+use Rattle.std.specs.Prelude.{◌≢◌, ◌⊎◌, ◌≡◌, refl, length, set, replicate, Some, None, ℕ, Option}
 use Rattle.std.proofs.Math.Logic.{inl, inr}
 use Rattle.std.proofs.Math.Path.{sym, ap}
 use Rattle.std.proofs.Common.{subst, ◌∙◌, length-append, Fits, get_or-set_other}
@@ -21,9 +21,6 @@ use Rattle.chains.proofs.Laws.Lists.{dec_mem, mem_append}
 use Rattle.table.specs.Entries.{table_of}
 use Rattle.walks.specs.Aids.Walks.{ValueIs, LeadsTo, Tails, WalkEnds, Walked, WalkedBy, left_stored, Visited}
 use Rattle.walks.proofs.Laws.Paths.{leads_chain, chain_leads, mark_of, mark_unmet, marks_rising}
-use Rattle.walks.specs.declared.Length.TheVariants.{Of, NoEnd}
-use Rattle.walks.specs.declared.Walk.{Walk}
-use Rattle.walks.specs.declared.Walk.TheVariants.{Ends, Endless}
 
 -- ---- in the beginning
 
@@ -170,30 +167,30 @@ module _ (last : ℕ) (l : List ℕ) (start : ℕ) (m t : List ℕ) where
   abbrev f : ℕ → ℕ
   f = table_of last l
 
-  pub visit_empty : Tails last f m t → start ≡ 0 → Visited last f start m (Of 0) m t
+  pub visit_empty : Tails last f m t → start ≡ 0 → Visited last f start m (Some 0) m t
   visit_empty T e = record { is = record { clusters = []; chain = e; long = refl; marks_are = unfold marks in refl; tails = T } }
 
-  no_chain : start ≢ 0 → ¬ Link last start → Visited last f start m NoEnd m t
+  no_chain : start ≢ 0 → ¬ Link last start → Visited last f start m None m t
   no_chain d n = record { is = never }
     where
       never : (cs : List ℕ) → ¬ Chain last f start cs
       never [] p = d p
       never (x ∷ xs) p = n (rw p.0 p.1)
 
-  pub visit_below : start ≢ 0 → start < 2 → Visited last f start m NoEnd m t
+  pub visit_below : start ≢ 0 → start < 2 → Visited last f start m None m t
   visit_below d h = no_chain d (λ g. omega arith)
 
-  pub visit_above : start ≢ 0 → last < start → Visited last f start m NoEnd m t
+  pub visit_above : start ≢ 0 → last < start → Visited last f start m None m t
   visit_above d h = no_chain d (λ g. omega arith)
 
   -- r is what the walk answered, m' are the marks then
-  module _ (r : Walk) (m' : List ℕ) (w : Walked last f start m t r m') (from : 2 ≤ start) (to : start ≤ last) (low : last ≤ 4079) where
-    pub visit_endless : r ≡ Endless → Visited last f start m NoEnd m' t
-    visit_endless e = record { is = λ cs p. subst (λ (k : Walk). WalkedBy last f start m t k m') e w.is cs (chain_leads last f low start cs (from, to) p) }
+  module _ (r : Option (ℕ × ℕ)) (m' : List ℕ) (w : Walked last f start m t r m') (from : 2 ≤ start) (to : start ≤ last) (low : last ≤ 4079) where
+    pub visit_endless : r ≡ None → Visited last f start m None m' t
+    visit_endless e = record { is = λ cs p. subst (λ (k : Option (ℕ × ℕ)). WalkedBy last f start m t k m') e w.is cs (chain_leads last f low start cs (from, to) p) }
 
-    module _ (n known : ℕ) (e : r ≡ Ends n known) where
+    module _ (n known : ℕ) (e : r ≡ Some (n, known)) where
       ends : WalkEnds last f start m t n known m'
-      ends = subst (λ (k : Walk). WalkedBy last f start m t k m') e w.is
+      ends = subst (λ (k : Option (ℕ × ℕ)). WalkedBy last f start m t k m') e w.is
 
       pub walk_leads : LeadsTo last f start n
       walk_leads = ends_leads last f start m t n known m' ends
@@ -204,7 +201,7 @@ module _ (last : ℕ) (l : List ℕ) (start : ℕ) (m t : List ℕ) where
       pub walk_few : n ≤ last
       walk_few = ends_few last f start m t n known m' ends low (from, to)
 
-      pub visit_ends : (t' : List ℕ) → Tails last f m t → last < length m → last < length t → t' ≡ left_stored f t start n (n - known) → Visited last f start m (Of n) m' t'
+      pub visit_ends : (t' : List ℕ) → Tails last f m t → last < length m → last < length t → t' ≡ left_stored f t start n (n - known) → Visited last f start m (Some n) m' t'
       visit_ends t' T wide big s = record {
         is = record {
           clusters = ends.ahead ++ ends.behind;

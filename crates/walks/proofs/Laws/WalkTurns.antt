@@ -1,6 +1,6 @@
 -- The walk along a chain, turn by turn: n clusters were met, c is the next.
 use Prim.Native.Nat.{ℕ, ◌+◌, ◌-◌, ◌≤◌, ◌<◌, min}
-use Rattle.std.proofs.Common.{arith, ◌∙◌, Fits, get_or-set_same}
+use Rattle.std.proofs.Common.{arith, ◌∙◌, Fits, get_or-set_same, Some, None}
 use Rattle.std.specs.Prelude.{false, ◌≢◌, ◌≡◌, length, set}
 use mathlib.Core.List.{List, [], ◌∷◌, ◌++◌, append-nil}
 use Rattle.std.proofs.Math.Path.{refl, sym, ap, subst}
@@ -22,7 +22,6 @@ use Rattle.values.specs.declared.Meaning.TheVariants.{Next, End}
 use Rattle.table.specs.Entries.{table_of}
 use Rattle.walks.specs.Aids.Walks.{ValueIs, Tails, Walked, Walking}
 use Rattle.walks.proofs.Laws.Paths.{path_on, path_leads, path_head, path_rising, leads_chain, path_split, path_once, mark_of, mark_unmet, marks_rising, tail_twice}
-use Rattle.walks.specs.declared.Walk.TheVariants.{Ends, Endless}
 
 pub walk_begins : (last : ℕ) (l : List ℕ) (start : ℕ) (m : List ℕ) → 2 ≤ start → start ≤ last → Walking last (table_of last l) start m 0 start m
 walk_begins last l start m a b = record { from = a; to = b; met = []; path = refl; many = refl; marks_are = unfold marks in refl }
@@ -47,22 +46,22 @@ module _ (last : ℕ) (l : List ℕ) (start : ℕ) (m₀ m t : List ℕ) (n c : 
       let w : Leads last f start (u.met ++ (c ∷ ds)) = path_leads last f start c u.met (c ∷ ds) u.path (refl, here, p) in
       ap (λ (k : List ℕ). get_or k c 0) u.marks_are ∙ mark_unmet last f low m₀ t T big u.met c here (path_once last f low start c u.met ds first w)
 
-  endless : (m' : List ℕ) → ((ds : List ℕ) → ¬ Leads last f (f c) ds) → Walked last f start m₀ t Endless m'
+  endless : (m' : List ℕ) → ((ds : List ℕ) → ¬ Leads last f (f c) ds) → Walked last f start m₀ t None m'
   endless m' never = record { is = λ cs p. let r = goes_on cs p in never r.0 r.2 }
 
   -- the bound: no chain is so long
-  pub walk_spent : last - 1 ≤ n → Walked last f start m₀ t Endless m
+  pub walk_spent : last - 1 ≤ n → Walked last f start m₀ t None m
   walk_spent h = endless m (λ ds p.
       let w : Leads last f start (u.met ++ (c ∷ ds)) = path_leads last f start c u.met (c ∷ ds) u.path (refl, here, p) in
       let G : Geometry = record { last = last; cb = 1; small = low; wide = omega arith } in
       omega (arith, chain_length G f start (u.met ++ (c ∷ ds)) (leads_chain last f low start (u.met ++ (c ∷ ds)) first w), length-append u.met (c ∷ ds), u.many))
 
   -- a cluster met twice of which nothing is known: the walk came here before
-  pub walk_circles : get_or m c 0 ≡ 2 → get_or t c 0 ≡ 0 → Walked last f start m₀ t Endless m
+  pub walk_circles : get_or m c 0 ≡ 2 → get_or t c 0 ≡ 0 → Walked last f start m₀ t None m
   walk_circles e z = endless m (λ ds p. T.twice c here (sym (unmet ds p) ∙ e) z)
 
   -- one of which the rest is known
-  pub walk_joins : get_or m c 0 ≡ 2 → get_or t c 0 ≢ 0 → Walked last f start m₀ t (Ends (n + get_or t c 0) (get_or t c 0)) m
+  pub walk_joins : get_or m c 0 ≡ 2 → get_or t c 0 ≢ 0 → Walked last f start m₀ t (Some (n + get_or t c 0, get_or t c 0)) m
   walk_joins e z =
       let k = T.known c here z in
       let r = path_split last f low c c [] k.clusters here refl k.leads in
@@ -119,7 +118,7 @@ module _ (last : ℕ) (l : List ℕ) (start : ℕ) (m₀ m t : List ℕ) (n c : 
           path_leads last f start c u.met (c ∷ []) u.path (refl, here, rw (sym r.is) a)
 
       -- to store the number left for all of them is always right
-      pub walk_ends_stored : Walked last f start m₀ t (Ends (n + 1) 0) m'
+      pub walk_ends_stored : Walked last f start m₀ t (Some (n + 1, 0)) m'
       walk_ends_stored = record {
         is = record {
           ahead = met_now;
@@ -133,7 +132,7 @@ module _ (last : ℕ) (l : List ℕ) (start : ℕ) (m₀ m t : List ℕ) (n c : 
       }
 
       -- where c was not met before none of them was, and it need not be stored
-      pub walk_ends : get_or m c 0 ≢ 1 → Walked last f start m₀ t (Ends (n + 1) (n + 1)) m'
+      pub walk_ends : get_or m c 0 ≢ 1 → Walked last f start m₀ t (Some (n + 1, n + 1)) m'
       unfolding met_now
       walk_ends h =
           let k : (a : ℕ) → get_or m' a 0 ≡ get_or (marks m₀ met_now) a 0 = λ a. ap (λ (z : List ℕ). get_or z a 0) marks_now in
@@ -153,7 +152,7 @@ module _ (last : ℕ) (l : List ℕ) (start : ℕ) (m₀ m t : List ℕ) (n c : 
 
     -- ---- no end
 
-    pub walk_breaks : (w : Meaning) → g ≡ w → is_end w ≡ false → is_next w ≡ false → Walked last f start m₀ t Endless m'
+    pub walk_breaks : (w : Meaning) → g ≡ w → is_end w ≡ false → is_next w ≡ false → Walked last f start m₀ t None m'
     walk_breaks w x a b = endless m' never
       where
         never : (ds : List ℕ) → ¬ Leads last f (f c) ds

@@ -1,14 +1,10 @@
 -- The walk along one chain, and what the two buffers hold between the files.
-use Rattle.std.specs.Prelude.{ℕ, zero, suc, ◌+◌, ◌-◌, ◌≤◌, ◌<◌, List, [], ◌∷◌, ◌++◌, ◌≢◌, ◌≡◌, length, get_or, set}
+use Rattle.std.specs.Prelude.{ℕ, zero, suc, ◌+◌, ◌-◌, ◌≤◌, ◌<◌, List, [], ◌∷◌, ◌++◌, ◌≢◌, ◌≡◌, length, get_or, set, Option, Some, None}
 use Rattle.chains.specs.Aids.Chain.{Leads, Chain}
 use Rattle.chains.specs.Lists.{◌∈◌}
 use Rattle.chains.specs.Aids.Marks.{marks}
 use Rattle.chains.specs.Values.{Link}
 use Rattle.table.specs.Entries.{table_of}
-use Rattle.walks.specs.declared.Length.{Length}
-use Rattle.walks.specs.declared.Length.TheVariants.{Of, NoEnd}
-use Rattle.walks.specs.declared.Walk.{Walk}
-use Rattle.walks.specs.declared.Walk.TheVariants.{Ends, Endless}
 
 -- r is the value of cluster c, which has 12 bits
 pub record ValueIs (last : ℕ) (l : List ℕ) (c r : ℕ) : Type 0 where
@@ -39,12 +35,12 @@ pub record WalkEnds (last : ℕ) (f : ℕ → ℕ) (start : ℕ) (m t : List ℕ
   pub marks_are : after ≡ marks m (ahead ++ behind)
   pub twice_known : (c : ℕ) → c ∈ behind → get_or after c 0 ≡ 2 → get_or t c 0 ≢ 0
 
-abbrev pub WalkedBy : ℕ → (ℕ → ℕ) → ℕ → List ℕ → List ℕ → Walk → List ℕ → Type 0
-WalkedBy last f start m t (Ends n known) after = WalkEnds last f start m t n known after
-WalkedBy last f start m t Endless after = (cs : List ℕ) → ¬ Leads last f start cs
+abbrev pub WalkedBy : ℕ → (ℕ → ℕ) → ℕ → List ℕ → List ℕ → Option (ℕ × ℕ) → List ℕ → Type 0
+WalkedBy last f start m t (Some (n, known)) after = WalkEnds last f start m t n known after
+WalkedBy last f start m t None after = (cs : List ℕ) → ¬ Leads last f start cs
 
 -- what the code's walk promises: its answer r, and where there is an end the marks after
-pub record Walked (last : ℕ) (f : ℕ → ℕ) (start : ℕ) (m t : List ℕ) (r : Walk) (after : List ℕ) : Type 0 where
+pub record Walked (last : ℕ) (f : ℕ → ℕ) (start : ℕ) (m t : List ℕ) (r : Option (ℕ × ℕ)) (after : List ℕ) : Type 0 where
   pub is : WalkedBy last f start m t r after
 
 -- ps lead from v to c: each is named by the value before it, all are in range, and the last one's value is c
@@ -74,10 +70,10 @@ pub record Chained (last : ℕ) (f : ℕ → ℕ) (start : ℕ) (m : List ℕ) (
   pub marks_are : after ≡ marks m clusters
   pub tails : Tails last f after t
 
-abbrev pub VisitedBy : ℕ → (ℕ → ℕ) → ℕ → List ℕ → Length → List ℕ → List ℕ → Type 0
-VisitedBy last f start m (Of n) after t = Chained last f start m n after t
-VisitedBy last f start m NoEnd after t = (cs : List ℕ) → ¬ Chain last f start cs
+abbrev pub VisitedBy : ℕ → (ℕ → ℕ) → ℕ → List ℕ → Option ℕ → List ℕ → List ℕ → Type 0
+VisitedBy last f start m (Some n) after t = Chained last f start m n after t
+VisitedBy last f start m None after t = (cs : List ℕ) → ¬ Chain last f start cs
 
 -- what the visit of a chain promises: its answer r, and where there is an end the buffers after
-pub record Visited (last : ℕ) (f : ℕ → ℕ) (start : ℕ) (m : List ℕ) (r : Length) (after t : List ℕ) : Type 0 where
+pub record Visited (last : ℕ) (f : ℕ → ℕ) (start : ℕ) (m : List ℕ) (r : Option ℕ) (after t : List ℕ) : Type 0 where
   pub is : VisitedBy last f start m r after t

@@ -1,18 +1,16 @@
 -- There is a scene such as P8 to P10 speak of: a blank volume with one file, and a table whose only place names it.
-use Rattle.std.specs.Prelude.{ℕ, true, false, List, [], ◌∷◌, ◌≡◌, refl, length}
+use Rattle.std.specs.Prelude.{ℕ, true, false, List, [], ◌∷◌, ◌≡◌, refl, length, Some, None, is_some}
 use Rattle.std.proofs.Common.{arith}
-use Rattle.std.proofs.Math.Option.{none, some}
 use Rattle.image.specs.Bytes.{Bytes}
 use Rattle.image.specs.Numbers.{number, digits}
 use Rattle.diskette.specs.Kinds.{named, kind_fe}
 use Rattle.diskette.specs.Aids.Usable.{Usable}
 use Rattle.diskette.specs.Places.{root_entries, slot_at}
 use Rattle.diskette.proofs.Laws.Kinds.{named_usable}
-use Rattle.search.specs.declared.Found.TheVariants.{At, Nothing}
 use Rattle.fields.specs.Fields.{with_entry}
 use Rattle.directory.specs.Search.{lowest_vacant, slot_named}
 use Rattle.names.specs.Alphabet.{plain, allowed, capital}
-use Rattle.names.specs.Reading.{name_given, fitting, before_first, after_first}
+use Rattle.names.specs.Reading.{name_given, fitting, before_first, after_first, name_bytes}
 use Rattle.names.specs.Spelling.{every, eleven}
 use Rattle.opened.specs.Places.{LivePlace}
 use Rattle.opened.specs.Records.{used_of, access_of, slot_of, pointer_of, record_bytes}
@@ -47,7 +45,7 @@ bytes = blank_bytes kind_fe usable refl
 abbrev given : List ℕ
 given = 0x41 ∷ []
 
-fits : ((name_given given).fits ≡ true) × (length (name_given given).name ≡ 11)
+fits : (is_some (name_given given) ≡ true) × (length (name_bytes (name_given given)) ≡ 11)
 unfolding name_given fitting before_first after_first every allowed plain eleven capital
 fits = (refl, refl)
 
@@ -55,25 +53,25 @@ may : bad_attr 0 ≡ false
 unfolding bad_attr
 may = refl
 
-missing : slot_named (blank kind_fe) (slot_at kind_fe) (root_entries kind_fe) (name_given given).name ≡ Nothing
+missing : slot_named (blank kind_fe) (slot_at kind_fe) (root_entries kind_fe) (name_bytes (name_given given)) ≡ None
 unfolding file_found
-missing = rw (on_kind_lem (blank kind_fe) kind_fe on_blank) at (none_of_name kind_fe (blank kind_fe) on_blank (λ s. none) (blank_no_file kind_fe usable) given fits.1 no_other)
+missing = rw (on_kind_lem (blank kind_fe) kind_fe on_blank) at (none_of_name kind_fe (blank kind_fe) on_blank (λ s. None) (blank_no_file kind_fe usable) given fits.1 no_other)
   where
-    no_other : (t : ℕ) (f : File) → none ≡ some f → f.name ≡ (name_given given).name → ⊥
+    no_other : (t : ℕ) (f : File) → None ≡ Some f → f.name ≡ name_bytes (name_given given) → ⊥
     no_other t f e q = let z : ◌≡◌ {A = ℕ} 0 1 = cc (e) in omega arith
 
-vacant : lowest_vacant (blank kind_fe) (slot_at kind_fe) (root_entries kind_fe) ≡ At 0
+vacant : lowest_vacant (blank kind_fe) (slot_at kind_fe) (root_entries kind_fe) ≡ Some 0
 unfolding slot_for_new
 vacant = rw (on_kind_lem (blank kind_fe) kind_fe on_blank) at
-    (lowest_vacant_lem kind_fe (blank kind_fe) on_blank (λ s. none) (blank_no_file kind_fe usable) 0 (omega arith) (λ t h. absurd (omega arith)) (blank_slot kind_fe usable 0 (omega arith)))
+    (lowest_vacant_lem kind_fe (blank kind_fe) on_blank (λ s. None) (blank_no_file kind_fe usable) 0 (omega arith) (λ t h. absurd (omega arith)) (blank_slot kind_fe usable 0 (omega arith)))
 
 abbrev image : List ℕ
-image = with_entry (blank kind_fe) (slot_at kind_fe 0) (name_given given).name 0 0 0 0 0
+image = with_entry (blank kind_fe) (slot_at kind_fe 0) (name_bytes (name_given given)) 0 0 0 0 0
 
 on : OnVolume image kind_fe
 on = changed_on kind_fe (blank kind_fe) on_blank image 0 [] (new_changed kind_fe (blank kind_fe) on_blank bytes given fits.0 0 may 0 0 0 missing vacant)
 
-made : Holds kind_fe image 0 (file (name_given given).name 0 [])
+made : Holds kind_fe image 0 (file (name_bytes (name_given given)) 0 [])
 made = new_holds kind_fe (blank kind_fe) on_blank bytes given fits.0 0 may 0 0 0 missing vacant
 
 -- ---- the only place of the table: slot 0, access 2, pointer 10

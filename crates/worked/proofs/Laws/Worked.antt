@@ -1,6 +1,5 @@
 -- The worked numbers hold: what close and seek answer by their rows, and the rest as the checker computes it.
-use Rattle.std.specs.Prelude.{false, [], ◌≡◌, refl, negsuc}
-use Rattle.std.proofs.Common.{sym}
+use Rattle.std.specs.Prelude.{false, [], ◌≡◌, refl, negsuc, Some, None}
 use Rattle.image.specs.Store.{stored}
 use Rattle.image.specs.Numbers.{number, digits}
 use Rattle.chains.specs.Content.{cluster_begin}
@@ -9,45 +8,37 @@ use Rattle.chains.proofs.Laws.Tests.{true_says}
 use Rattle.diskette.specs.Images.{kind_of_image}
 use Rattle.diskette.specs.Places.{slot_at, root_entries}
 use Rattle.diskette.proofs.Laws.Images.{image_of_kind}
-use Rattle.diskette.specs.declared.WhichKind.TheVariants.{Known}
 use Rattle.values.specs.Bits.{taken, kept}
 use Rattle.table.specs.Entries.{entry_at, set_at}
 use Rattle.stamps.specs.Stamps.{packed, time_fits, date_fits}
 use Rattle.stamps.specs.declared.Stamp.{Stamp}
-use Rattle.stamps.specs.declared.Packed.TheVariants.{OutOfRange}
 use Rattle.offset.specs.Offset.{moved_by}
-use Rattle.opened.specs.Aids.Places.{live_slot}
-use Rattle.opened.specs.Records.{slot_of}
-use Rattle.opened.proofs.Laws.Places.{live_slot_at}
+use Rattle.opened.proofs.Laws.Places.{live_is}
 use Rattle.sound.proofs.Laws.IsSound.{known_says}
 use Rattle.calls.specs.Outcome.{refusal, decided}
 use Rattle.calls.specs.Numbers.{invalid_function, out_of_range}
 use Rattle.calls.specs.Aids.Ready.{OnVolume}
-use Rattle.calls.specs.Refusals.{not_live}
-use Rattle.calls.proofs.Laws.Rows.{stopped}
-use Rattle.calls.proofs.Laws.Ready.{known_passed, sound_passed, volume_past}
-use Rattle.calls.proofs.Laws.Files.{live_passed}
-use Rattle.calls.proofs.Laws.Stamps.{stamp_stops}
+use Rattle.calls.specs.Refusals.{bad_stamp, not_live}
+use Rattle.calls.proofs.Laws.Rows.{stopped, stops_at}
+use Rattle.calls.proofs.Laws.Ready.{on_kind_lem, known_passed, sound_passed, volume_past}
 use Rattle.closing.specs.Close.{close_outcome}
 use Rattle.seeking.specs.Seek.{seek_base, seek_outcome}
 use Rattle.worked.specs.Worked.{Scene, stamp, is, refused, close_answer, seek_answer, WorkedNumbers}
 
 module _ (x : Scene) where
-  known : kind_of_image x.image ≡ Known x.kind
+  known : kind_of_image x.image ≡ Some x.kind
   known = (image_of_kind x.image x.kind).1 x.of_kind
 
   on : OnVolume x.image x.kind
   on = record { known = known; sound = true_says (known_says x.image x.kind known) x.sound }
 
   reached : not_live x.image x.table x.handle ≡ false
-  reached =
-      let at = live_slot_at x.table x.handle x.image (slot_at x.kind) (root_entries x.kind) x.live in
-      live_passed x.image x.kind x.table x.handle (live_slot x.table x.handle x.image (slot_at x.kind) (root_entries x.kind)) refl
-      (slot_of x.table x.handle) at on
+  unfolding not_live
+  reached = rw (on_kind_lem x.image x.kind on, (live_is x.table x.handle x.image (slot_at x.kind) (root_entries x.kind)).1 x.live)
 
-  close_refused : (s : Stamp) → packed s ≡ OutOfRange → close_answer x s ≡ refused out_of_range
+  close_refused : (s : Stamp) → packed s ≡ None → close_answer x s ≡ refused out_of_range
   unfolding close_outcome
-  close_refused s e = rw (stopped _ out_of_range (volume_past x.image x.kind on _ _ out_of_range _ (stamp_stops s OutOfRange (sym e) _ refl)) _ x.image x.table [])
+  close_refused s e = rw (stopped _ out_of_range (volume_past x.image x.kind on _ _ out_of_range _ (stops_at (bad_stamp s) out_of_range _ (rw e) refl)) _ x.image x.table [])
 
   seek_well : seek_answer x 1 (negsuc 9) ≡ is 0
   unfolding seek_outcome seek_base decided refusal moved_by
@@ -58,7 +49,7 @@ module _ (x : Scene) where
   seek_refused = rw (known_passed x.image x.kind on, sound_passed x.image x.kind on, reached, x.pointer)
 
 -- step 30 is out of its range
-out : packed (stamp 1983 9 1 18 5 30) ≡ OutOfRange
+out : packed (stamp 1983 9 1 18 5 30) ≡ None
 unfolding packed time_fits date_fits
 out = refl
 

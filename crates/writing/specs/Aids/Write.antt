@@ -3,7 +3,7 @@ use Rattle.std.specs.Prelude.{ℕ, ◌+◌, cond, List, [], ◌≡◌, eqb, leng
 use Rattle.diskette.specs.declared.Kind.{Kind}
 use Rattle.opened.specs.Records.{pointer_of, with_pointer, with_written}
 use Rattle.calls.specs.Outcome.{Outcome, outcome}
-use Rattle.calls.specs.declared.Answer.{Answer}
+use Rattle.calls.specs.Answers.{Answer, number_told, value_told}
 use Rattle.putting.specs.Written.{written_in}
 use Rattle.writing.specs.Write.{write_count}
 
@@ -15,4 +15,4 @@ write_at k img t a h bs =
     (outcome 0 n (written_in k img a pointer (take n bs)) (with_written (with_pointer t h (pointer + n)) h) [])
 
 pub record WritesAt (k : Kind) (img t : List ℕ) (a h : ℕ) (bs : List ℕ) (r : Answer) (after table : List ℕ) : Type 0 where
-  pub is : outcome r.number r.value after table [] ≡ write_at k img t a h bs
+  pub is : outcome (number_told r) (value_told r) after table [] ≡ write_at k img t a h bs

@@ -14,5 +14,5 @@ returns-then-has_room c = search slot_clusters
 pub returns-else-has_room : goal.returns-else-has_room
 returns-else-has_room c = search slot_other
 
-pub returns-in-NoEnd : goal.returns-in-NoEnd
-returns-in-NoEnd c = search slot_endless
+pub returns-in_default : goal.returns-in_default
+returns-in_default c = search slot_endless

@@ -1,21 +1,13 @@
-use Rattle.std.proofs.Common.{rules}
-use Rattle.chains.proofs.Laws.ClusterLoops.{lowest_start}
-use Rattle.search.proofs.Laws.Turns.{lowest_done}
+use Rattle.std.proofs.Common.{arith, rules}
+use borrow.Author.Tests.{tests}
+use Rattle.chains.specs.Aids.Check.{in_two}
+use Rattle.search.proofs.Laws.Chains.{lowest_from_find}
 use Rattle.search.proofs.Laws.Flags.{none_found}
-use Rattle.chaincheck.proofs.Laws.MarkTurns.{two_hit, two_miss}
 use Rattle.chaincheck.proofs.marks.first_in_two.Goals as goal
 
 pub returns-then-none_in_two : goal.returns-then-none_in_two
 returns-then-none_in_two c = search none_found
 
-pub loop-twice-init : goal.loop-twice-init
-loop-twice-init c = search (rules, lowest_start)
-
-pub returns-then-marks-twice-eq2 : goal.returns-then-marks-twice-eq2
-returns-then-marks-twice-eq2 c = search two_hit
-
-pub loop-twice-preserved : goal.loop-twice-preserved
-loop-twice-preserved c = search (rules, two_miss)
-
 pub returns : goal.returns
-returns c = search lowest_done
+unfolding in_two
+returns c = lowest_from_find _ c.find.ensures.ran (omega arith) (λ x b q k. search (rules, tests))

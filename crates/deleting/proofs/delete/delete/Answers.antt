@@ -1,10 +1,11 @@
 -- A volume that is not ready is refused by the first two rows; else the rest is left to the call on the volume.
+use Rattle.calls.proofs.Laws.Exits.{exits}
 use Rattle.calls.proofs.Laws.Ready.{ready_on, not_ready}
 use Rattle.deleting.proofs.Laws.Delete.{delete_refused}
 use Rattle.deleting.proofs.delete.delete.Goals as goal
 
 pub delete_on-requires : goal.delete_on-requires
-delete_on-requires c = search ready_on
+delete_on-requires c = search (ready_on, c.in_ok-k.was)
 
-pub returns-in-Refused : goal.returns-in-Refused
-returns-in-Refused c = search (delete_refused, not_ready)
+pub returns-in_err-k : goal.returns-in_err-k
+returns-in_err-k c = delete_refused (exits c.from_residual.ensures.1) (search (not_ready, c.in_err-k.was))

@@ -1,22 +1,21 @@
 -- Each way out is one case of the rule.
-use Rattle.std.proofs.Common.{arith}
+use Rattle.std.proofs.Common.{arith, rules}
 use Rattle.diskette.specs.Aids.Usable.{Usable}
-use Rattle.diskette.proofs.Laws.Kinds.{named_usable}
-use Rattle.formatting.proofs.Laws.Format.{no_such_kind, wrong_length, made_blank}
-use Rattle.std.proofs.Common.{rules}
+use Rattle.calls.proofs.Laws.Exits.{exits}
+use Rattle.formatting.proofs.Laws.Format.{no_such_kind, kind_usable, wrong_length, made_blank}
 use Rattle.formatting.proofs.format.format.Goals as goal
 
+pub returns-in_err-k : goal.returns-in_err-k
+returns-in_err-k c = search (no_such_kind, c.in_err-k.was, exits c.from_residual.ensures.1)
+
 pub overflow_mul-k : goal.overflow_mul-k
-overflow_mul-k c = let u : Usable c.in-Known.k = search named_usable in omega arith
+overflow_mul-k c = let u : Usable c.in_ok-k.k = search (kind_usable, c.in_ok-k.was) in omega arith
 
 pub returns-then-img-k : goal.returns-then-img-k
-returns-then-img-k c = search wrong_length
+returns-then-img-k c = search (wrong_length, c.in_ok-k.was)
 
 pub make_blank-requires : goal.make_blank-requires
-make_blank-requires c = search (rules, named_usable)
+make_blank-requires c = search (rules, kind_usable, c.in_ok-k.was)
 
-pub returns-else-img-k : goal.returns-else-img-k
-returns-else-img-k c = search made_blank
-
-pub returns-in-Unknown : goal.returns-in-Unknown
-returns-in-Unknown c = search no_such_kind
+pub returns : goal.returns
+returns c = search (made_blank, c.in_ok-k.was)

@@ -1,6 +1,7 @@
--- A number above 255 names nothing; a byte names what it names.
+-- A number that is no byte names nothing.
+use Rattle.std.proofs.Common.{arith}
 use Rattle.formatting.proofs.Laws.Format.{above_bytes}
 use Rattle.formatting.proofs.format.kind_numbered.Goals as goal
 
-pub returns-then-kind-gt255 : goal.returns-then-kind-gt255
-returns-then-kind-gt255 c = search above_bytes
+pub returns-in-Err : goal.returns-in-Err
+returns-in-Err c = above_bytes _ (omega (arith, c.in-Err.ensures))

@@ -1,15 +1,14 @@
--- Each way out is one row of the rule; the count is the one that check answered.
-use Rattle.freespace.proofs.Laws.FreeSpace.{kind_usable, not_of_a_kind, with_finding, with_counts}
+-- Each way out is one answer of ready; the count is the one that check answered.
+use Rattle.calls.proofs.Laws.Exits.{exits}
+use Rattle.calls.proofs.Laws.Ready.{ready_on, on_usable}
+use Rattle.freespace.proofs.Laws.FreeSpace.{spaced, not_spaced}
 use Rattle.freespace.proofs.free_space.free_space.Goals as goal
 
+pub returns-in_err-k : goal.returns-in_err-k
+returns-in_err-k c = search (not_spaced, c.in_err-k.was, exits c.from_residual.ensures.1)
+
 pub space_with-requires : goal.space_with-requires
-space_with-requires c = search kind_usable
+space_with-requires c = on_usable c.args.img.now _ (search (ready_on, c.in_ok-k.was))
 
-pub returns-in-Sound : goal.returns-in-Sound
-returns-in-Sound c = search with_counts
-
-pub returns-in-Finding : goal.returns-in-Finding
-returns-in-Finding c = search with_finding
-
-pub returns-in-Unknown : goal.returns-in-Unknown
-returns-in-Unknown c = search not_of_a_kind
+pub returns : goal.returns
+returns c = search (spaced, c.in_ok-k.was)

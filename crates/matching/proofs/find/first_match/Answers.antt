@@ -1,25 +1,29 @@
-use Rattle.std.proofs.Common.{arith}
+-- The chain asks the slots in turn; each stands within the image.
+use Rattle.std.proofs.Common.{◌<◌, ◌≤◌, arith, rules}
+use Rattle.std.proofs.lemmas.Iterator.{serves_from_Range}
+use borrow.Author.Tests.{tests}
+use Rattle.diskette.specs.Aids.Usable.{Usable}
+use Rattle.diskette.specs.Places.{root_entries}
+use Rattle.search.proofs.Laws.Chains.{lowest_from_find}
 use Rattle.calls.proofs.Laws.Ready.{on_usable}
-use Rattle.matching.proofs.Laws.Find.{match_none, match_here, match_later, slot_inside}
+use Rattle.calls.proofs.Laws.Files.{slots_within}
+use Rattle.matching.specs.Find.{match_from}
 use Rattle.matching.proofs.find.first_match.Goals as goal
 
-pub root_entries-count-requires : goal.root_entries-count-requires
-root_entries-count-requires c = search on_usable
+pub root_entries-requires : goal.root_entries-requires
+root_entries-requires c = search on_usable
 
-pub slot_at-requires-clause-usable : goal.slot_at-requires-clause-usable
-slot_at-requires-clause-usable c = search on_usable
-
-pub slot_at-requires-clause-slot_bound : goal.slot_at-requires-clause-slot_bound
-slot_at-requires-clause-slot_bound c = omega arith
-
-pub is_match-requires : goal.is_match-requires
-is_match-requires c = search slot_inside
-
-pub returns-then-is_match : goal.returns-then-is_match
-returns-then-is_match c = search match_here
-
-pub loop-slot-preserved : goal.loop-slot-preserved
-loop-slot-preserved c = search match_later
+pub find-requires-clause-callable : goal.find-requires-clause-callable
+find-requires-clause-callable c =
+    let k = c.args.k in
+    let usable : Usable k = search on_usable in
+    serves_from_Range (λ x q k. search rules)
+    (λ x g h slot is.
+    let low : slot.now < root_entries k = omega arith in
+    let within = slots_within c.args.img.now k c.requires slot.now low in
+    let most : Usable k × (slot.now ≤ root_entries k) = (usable, omega arith) in
+    (search most, search (rules, within)))
 
 pub returns : goal.returns
-returns c = search match_none
+unfolding match_from
+returns c = lowest_from_find _ c.find.ensures.ran (omega arith) (λ x b q k. search (rules, tests))

@@ -6,8 +6,8 @@ use Rattle.member.proofs.clusters.holder_told.Goals as goal
 pub overflow_add-result : goal.overflow_add-result
 overflow_add-result c = search (rules, holder_fits)
 
-pub returns-in-At : goal.returns-in-At
-returns-in-At c = search holder_found
+pub returns-in-Some : goal.returns-in-Some
+returns-in-Some c = search holder_found
 
-pub returns-in-Nothing : goal.returns-in-Nothing
-returns-in-Nothing c = search holder_none
+pub returns-in-None : goal.returns-in-None
+returns-in-None c = search holder_none

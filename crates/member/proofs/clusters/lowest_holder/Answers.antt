@@ -1,12 +1,8 @@
-use Rattle.search.proofs.Laws.Turns.{lowest_hit, lowest_miss, lowest_done}
-use Rattle.std.proofs.Common.{rules}
+-- The chain asks the slots in turn.
+use Rattle.std.proofs.Common.{refl, rules}
+use borrow.Author.Tests.{tests}
+use Rattle.search.proofs.Laws.Chains.{lowest_from_find}
 use Rattle.member.proofs.clusters.lowest_holder.Goals as goal
 
-pub returns-then-holds_at : goal.returns-then-holds_at
-returns-then-holds_at c = search lowest_hit
-
-pub loop-slot-preserved : goal.loop-slot-preserved
-loop-slot-preserved c = search (rules, lowest_miss)
-
 pub returns : goal.returns
-returns c = search lowest_done
+returns c = lowest_from_find _ c.find.ensures.ran refl (λ x b q k. search (rules, tests))

@@ -9,8 +9,8 @@ value_told-requires-clause-usable c = search kind_usable
 pub value_told-requires-clause-k_in_bounds : goal.value_told-requires-clause-k_in_bounds
 value_told-requires-clause-k_in_bounds c = search area_there
 
-pub returns-in-Known : goal.returns-in-Known
-returns-in-Known c = search cluster_known
+pub returns-in-Some : goal.returns-in-Some
+returns-in-Some c = search cluster_known
 
-pub returns-in-Unknown : goal.returns-in-Unknown
-returns-in-Unknown c = search cluster_unknown
+pub returns-in-None : goal.returns-in-None
+returns-in-None c = search cluster_unknown

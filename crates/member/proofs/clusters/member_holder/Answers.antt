@@ -9,8 +9,8 @@ holder_told-requires-clause-usable c = search kind_usable
 pub holder_told-requires-clause-k_in_bounds : goal.holder_told-requires-clause-k_in_bounds
 holder_told-requires-clause-k_in_bounds c = search area_there
 
-pub returns-in-Known : goal.returns-in-Known
-returns-in-Known c = search holder_known
+pub returns-in-Some : goal.returns-in-Some
+returns-in-Some c = search holder_known
 
-pub returns-in-Unknown : goal.returns-in-Unknown
-returns-in-Unknown c = search holder_unknown
+pub returns-in-None : goal.returns-in-None
+returns-in-None c = search holder_unknown

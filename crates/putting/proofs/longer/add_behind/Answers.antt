@@ -1,7 +1,7 @@
 -- The last cluster is one of the volume, or 0 where there is none.
 use Rattle.calls.proofs.Laws.Ready.{on_usable}
 use Rattle.holding.proofs.Laws.Clusters.{last_small, copies_reach}
-use Rattle.putting.proofs.Laws.LongerCode.{end_small, added_is}
+use Rattle.putting.proofs.Laws.LongerCode.{added_is}
 use Rattle.putting.proofs.longer.add_behind.Goals as goal
 
 pub copy_two-requires : goal.copy_two-requires
@@ -15,9 +15,6 @@ add_clusters-requires-clause-last_bound c = search last_small
 
 pub add_clusters-requires-clause-reaches : goal.add_clusters-requires-clause-reaches
 add_clusters-requires-clause-reaches c = search copies_reach
-
-pub add_clusters-requires-clause-prev_le_last : goal.add_clusters-requires-clause-prev_le_last
-add_clusters-requires-clause-prev_le_last c = search end_small
 
 pub returns : goal.returns
 returns c = search added_is

@@ -1,9 +1,6 @@
 -- The entry stands behind the tables.
-use Rattle.putting.proofs.Laws.LongerCode.{start_fits, grown_within, lengthened_is}
+use Rattle.putting.proofs.Laws.LongerCode.{start_fits, lengthened_is}
 use Rattle.putting.proofs.longer.lengthen.Goals as goal
-
-pub put_fields-requires-clause-a_in_bounds : goal.put_fields-requires-clause-a_in_bounds
-put_fields-requires-clause-a_in_bounds c = search grown_within
 
 pub put_fields-requires-clause-start_bound : goal.put_fields-requires-clause-start_bound
 put_fields-requires-clause-start_bound c = search start_fits

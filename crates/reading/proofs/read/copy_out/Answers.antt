@@ -3,7 +3,6 @@ use Rattle.calls.proofs.Laws.Ready.{on_usable}
 use Rattle.calls.proofs.Laws.Files.{slot_within}
 use Rattle.holding.proofs.Laws.Clusters.{base_fits, kind_area}
 use Rattle.reading.proofs.Laws.Read.{copy_room, copied_is, copied_none}
-use Rattle.std.proofs.Common.{arith}
 use Rattle.std.proofs.Common.{rules}
 use Rattle.reading.proofs.read.copy_out.Goals as goal
 
@@ -18,9 +17,6 @@ overflow_mul-base c = search (rules, base_fits)
 
 pub slot_at-requires-clause-usable : goal.slot_at-requires-clause-usable
 slot_at-requires-clause-usable c = search on_usable
-
-pub slot_at-requires-clause-slot_bound : goal.slot_at-requires-clause-slot_bound
-slot_at-requires-clause-slot_bound c = omega arith
 
 pub start_at-start-requires : goal.start_at-start-requires
 start_at-start-requires c = search slot_within

@@ -1,5 +1,4 @@
 -- A chain that is as finding 5 asks has room for the size, and what is fetched along it is the file's.
-use Rattle.std.proofs.Common.{arith}
 use Rattle.holding.proofs.Laws.Kinds.{usable, slot_inside, area_inside, base_fits}
 use Rattle.rescuing.proofs.Laws.Chain.{copy_room, copied_is}
 use Rattle.std.proofs.Common.{rules}
@@ -13,9 +12,6 @@ overflow_mul-base c = search (rules, base_fits)
 
 pub slot_at-requires-clause-usable : goal.slot_at-requires-clause-usable
 slot_at-requires-clause-usable c = search usable
-
-pub slot_at-requires-clause-slot_bound : goal.slot_at-requires-clause-slot_bound
-slot_at-requires-clause-slot_bound c = omega arith
 
 pub start_at-start-requires : goal.start_at-start-requires
 start_at-start-requires c = search slot_inside

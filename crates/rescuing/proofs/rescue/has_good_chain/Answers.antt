@@ -1,14 +1,10 @@
 -- Without a start there is no cluster; else the chain is long enough and has an end, or not.
-use Rattle.std.proofs.Common.{arith}
 use Rattle.holding.proofs.Laws.Kinds.{usable, slot_inside, last_small, table_inside}
 use Rattle.rescuing.proofs.Laws.Chain.{none_good, too_short, ends_good}
 use Rattle.rescuing.proofs.rescue.has_good_chain.Goals as goal
 
 pub slot_at-a-requires-clause-usable : goal.slot_at-a-requires-clause-usable
 slot_at-a-requires-clause-usable c = search usable
-
-pub slot_at-a-requires-clause-slot_bound : goal.slot_at-a-requires-clause-slot_bound
-slot_at-a-requires-clause-slot_bound c = omega arith
 
 pub size_at-size-requires : goal.size_at-size-requires
 size_at-size-requires c = search slot_inside
@@ -25,8 +21,8 @@ extent_at-own-requires-clause-a_in_bounds c = search slot_inside
 pub needed_for-requires : goal.needed_for-requires
 needed_for-requires c = search usable
 
-pub returns-then-own-needed_for : goal.returns-then-own-needed_for
-returns-then-own-needed_for c = search too_short
+pub returns-else-needed_for-own : goal.returns-else-needed_for-own
+returns-else-needed_for-own c = search too_short
 
 pub last_cluster-requires : goal.last_cluster-requires
 last_cluster-requires c = search usable
@@ -37,5 +33,5 @@ value_of-requires-clause-last_bound c = search last_small
 pub value_of-requires-clause-last_in_bounds : goal.value_of-requires-clause-last_in_bounds
 value_of-requires-clause-last_in_bounds c = search table_inside
 
-pub returns : goal.returns
-returns c = search ends_good
+pub returns-then-needed_for-own : goal.returns-then-needed_for-own
+returns-then-needed_for-own c = search ends_good

@@ -1,13 +1,11 @@
 -- A volume that is not ready is refused by the first two rows; else the rest is left to the call on the volume.
+use Rattle.calls.proofs.Laws.Exits.{exits}
 use Rattle.calls.proofs.Laws.Ready.{ready_on, not_ready}
-use Rattle.seeking.proofs.Laws.Seek.{seek_handed, seek_refused}
+use Rattle.seeking.proofs.Laws.Seek.{seek_refused}
 use Rattle.seeking.proofs.seek.seek.Goals as goal
 
 pub seek_on-requires : goal.seek_on-requires
-seek_on-requires c = search ready_on
+seek_on-requires c = search (ready_on, c.in_ok-k.was)
 
-pub returns-in-Refused : goal.returns-in-Refused
-returns-in-Refused c = search (seek_refused, not_ready)
-
-pub returns-in-Volume : goal.returns-in-Volume
-returns-in-Volume c = search seek_handed
+pub returns-in_err-k : goal.returns-in_err-k
+returns-in_err-k c = seek_refused (exits c.from_residual.ensures.1) (search (not_ready, c.in_err-k.was))

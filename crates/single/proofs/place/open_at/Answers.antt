@@ -1,9 +1,10 @@
 -- The place found goes with an answer that is well, and none with a refusal.
+use Rattle.calls.proofs.Laws.Exits.{exits}
 use Rattle.single.proofs.Laws.OpenAt.{opened_well, opened_refused}
 use Rattle.single.proofs.place.open_at.Goals as goal
 
-pub returns-then-number-eq0 : goal.returns-then-number-eq0
-returns-then-number-eq0 c = search opened_well
+pub returns-in_err-done : goal.returns-in_err-done
+returns-in_err-done c = search (opened_refused, exits c.from_residual.ensures.1, c.in_err-done.was)
 
-pub returns-else-number-eq0 : goal.returns-else-number-eq0
-returns-else-number-eq0 c = search opened_refused
+pub returns : goal.returns
+returns c = search (opened_well, c.in_ok-done.was)

@@ -1,9 +1,7 @@
--- A free record or a used one.
-use Rattle.single.proofs.Laws.OpenAt.{spare_free, spare_none}
+-- An unused record, marked as used where none is free.
+use Rattle.records.proofs.Laws.Row.{default_is}
+use Rattle.single.proofs.Laws.OpenAt.{spare_by}
 use Rattle.single.proofs.place.spare.Goals as goal
 
-pub returns-in-At : goal.returns-in-At
-returns-in-At c = search spare_free
-
-pub returns-in-Nothing : goal.returns-in-Nothing
-returns-in-Nothing c = search spare_none
+pub returns : goal.returns
+returns c = spare_by _ _ _ c.is_none.ensures (default_is c.default.ensures)

@@ -1,16 +1,16 @@
 use Rattle.std.proofs.Common.{rules}
-use lib.ListN.{length-set}
-use Rattle.text.proofs.Laws.Names.{part_all, part_turn, part_count, puts_stop, puts_end}
+use Rattle.text.proofs.Laws.Pages.{adds_nothing}
+use Rattle.text.proofs.Laws.Names.{length_part_kept, adds_next, adds_part}
 use Rattle.text.proofs.name.put_part.Goals as goal
 
-pub loop-i-init : goal.loop-i-init
-loop-i-init c = search (rules, part_all)
+pub loop-c-init : goal.loop-c-init
+loop-c-init c = search (rules, adds_nothing)
 
-pub returns-then-only_spaces : goal.returns-then-only_spaces
-returns-then-only_spaces c = search puts_stop
+pub put_byte-requires : goal.put_byte-requires
+put_byte-requires c = search (rules, length_part_kept)
 
-pub loop-i-preserved : goal.loop-i-preserved
-loop-i-preserved c = search (rules, part_turn, part_count, length-set)
+pub loop-c-preserved : goal.loop-c-preserved
+loop-c-preserved c = search (rules, adds_next)
 
 pub returns : goal.returns
-returns c = search puts_end
+returns c = search (rules, adds_part, length_part_kept)

@@ -1,5 +1,4 @@
 -- The chain of a file of a sound volume has room for its size, so each of its bytes lies in the image.
-use Rattle.std.proofs.Common.{arith}
 use Rattle.calls.proofs.Laws.Ready.{on_usable}
 use Rattle.calls.proofs.Laws.Files.{slot_within}
 use Rattle.holding.proofs.Laws.Clusters.{base_fits, kind_area, cluster_wide}
@@ -9,9 +8,6 @@ use Rattle.viewing.proofs.view.see_file.Goals as goal
 
 pub slot_at-a-requires-clause-usable : goal.slot_at-a-requires-clause-usable
 slot_at-a-requires-clause-usable c = search on_usable
-
-pub slot_at-a-requires-clause-slot_bound : goal.slot_at-a-requires-clause-slot_bound
-slot_at-a-requires-clause-slot_bound c = omega arith
 
 pub size_at-size-requires : goal.size_at-size-requires
 size_at-size-requires c = search slot_within
@@ -40,8 +36,8 @@ place_of-at-requires-clause-area c = search kind_area
 pub place_of-at-requires-clause-pos_in_bounds : goal.place_of-at-requires-clause-pos_in_bounds
 place_of-at-requires-clause-pos_in_bounds c = search see_room
 
-pub bytes_from-bytes-requires-clause-cb_nonzero : goal.bytes_from-bytes-requires-clause-cb_nonzero
-bytes_from-bytes-requires-clause-cb_nonzero c = search cluster_wide
+pub bytes_from-requires-clause-cb_nonzero : goal.bytes_from-requires-clause-cb_nonzero
+bytes_from-requires-clause-cb_nonzero c = search cluster_wide
 
 pub returns : goal.returns
 returns c = search see_some

@@ -17,8 +17,8 @@ store_left-requires-clause-known_le_n c = (search walk_known, search walk_few)
 pub store_left-requires-clause-leads_to : goal.store_left-requires-clause-leads_to
 store_left-requires-clause-leads_to c = search walk_leads
 
-pub returns-in-Ends : goal.returns-in-Ends
-returns-in-Ends c = search visit_ends
+pub returns-in-Some : goal.returns-in-Some
+returns-in-Some c = search visit_ends
 
-pub returns-in-Endless : goal.returns-in-Endless
-returns-in-Endless c = search visit_endless
+pub returns-in-None : goal.returns-in-None
+returns-in-None c = search visit_endless

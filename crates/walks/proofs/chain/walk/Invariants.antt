@@ -1,13 +1,7 @@
 -- A chain from the start, if there is one, goes on from here, and the clusters before are marked.
-use Rattle.std.proofs.Common.{◌-◌}
-use Rattle.std.proofs.Common.{◌≡◌}
-use lib.ListN.{length}
 use Rattle.table.specs.Entries.{table_of}
 use Rattle.walks.specs.Aids.Walks.{Walking}
 use Rattle.walks.proofs.chain.walk.Given as goal
 
 abbrev pub invariant-loop-met : goal.invariant-loop-met
-invariant-loop-met l = (length l.marks ≡ length l.initial.marks) × Walking l.last (table_of l.last l.img) l.start l.initial.marks l.met l.c l.marks
-
-abbrev pub decreases-loop-met : goal.decreases-loop-met
-decreases-loop-met l = l.last - l.met
+invariant-loop-met l = Walking l.last (table_of l.last l.img) l.start l.initial.marks l.met l.c l.marks

@@ -1,6 +1,5 @@
 -- The bytes of a cluster in range lie within the volume, and begin with its sector.
 use Rattle.worked.proofs.Laws.Sectors.{some_bytes, cluster_fits, sector_is}
-use Rattle.std.proofs.Common.{rules}
 use Rattle.worked.proofs.run.sector_of.Goals as goal
 
 pub byte_in-requires-clause-cb_nonzero : goal.byte_in-requires-clause-cb_nonzero

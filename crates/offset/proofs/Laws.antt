@@ -1,2 +1,0 @@
--- The laws of the definition in specs/.
-pub mod Offset

@@ -1,2 +1,0 @@
--- What the proofs rest on: the laws of the definitions in specs/, in the same order.
-pub mod Laws

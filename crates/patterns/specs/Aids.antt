@@ -1,2 +1,0 @@
--- Aids to the proofs. No definition beside this folder rests on them.
-pub mod Bytes

@@ -1,6 +1,0 @@
--- What rename answered, handed on; the image that it left.
-use Rattle.scale.proofs.Laws.Calls.{hands}
-use Rattle.scale.proofs.files.bm_rename.Goals as goal
-
-pub returns : goal.returns
-returns c = search hands

@@ -1,0 +1,2 @@
+-- Aids to the proofs. No definition beside this folder rests on them.
+pub mod Seek
