@@ -51,6 +51,7 @@ fn empty_old(
 }
 
 // Makes a new file, where a slot is open and a place unused.
+// (It ends as empty_old does; a function for both ends would take nine parameters.)
 fn make_new(
     img: &mut [u8],
     k: Kind,

@@ -6,6 +6,7 @@ ghost use Rattle.fields.specs.Fields.{name_of, attr_of, time_of, date_of, start_
 ghost use Rattle.fields.specs.Aids.Fields.{head_bytes};
 ghost use Rattle.image.specs.Store.{stored};
 
+// (A function for each field: each is one line, and one for all would need a type that says which field is meant.)
 pub fn name_at(img: &[u8], a: usize) -> [u8; 11]
     requires { a + 32 ≤ length img.now }
     ensures { result ≡ name_of img.now a }

@@ -6,6 +6,7 @@ ghost use Rattle.image.specs.Store.{stored};
 ghost use Rattle.image.specs.Numbers.{number, digits};
 
 // The number in the two bytes from byte at on.
+// (A function for each width: each is one line, by the method of its own type.)
 pub fn get16(s: &[u8], at: usize) -> u16
     requires { at + 2 ≤ length s.now }
     ensures { result ≡ number s.now at 2 }

@@ -1,4 +1,5 @@
-// The open table as a row of records that the caller lends, beside its form as bytes (crate opened).
+// The open table as a row of records that the caller lends, beside its form as bytes (crate opened). Callers lend the one or the
+// other: the functions of both have the same names, and each is a line or a few over what it goes over.
 #![tactic(auto)]
 
 ghost use Rattle.std.specs.Prelude.{◌≡◌};

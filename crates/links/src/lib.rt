@@ -38,6 +38,7 @@ pub fn free_chain(img: &mut [u8], second: usize, last: usize, start: usize, n: u
 }
 
 // The value of a cluster's entry, 0 where there is no such cluster.
+// (0 and not an Option, as the definition of the table has it.)
 pub fn value_of(img: &[u8], last: usize, cluster: usize) -> usize
     requires last_bound { last ≤ 4079 }
     requires last_in_bounds { word_at 512 last + 2 ≤ length img.now }

@@ -11,7 +11,7 @@ use calls::refusal::Refusal;
 use diskette::Kind;
 use values::Meaning;
 
-// What a value means, as a number.
+// What a value means, as the number that C reads.
 #[tactic(auto, unfolding(crate::specs::Clusters::meaning_told))]
 fn meaning_told(meaning: Meaning) -> u64
     ensures { result ≡ meaning_told meaning }
@@ -96,7 +96,7 @@ fn lowest_holder(
     (from..count).find(|&slot| holds_at(img, last, n, c, root + 32 * slot))
 }
 
-// The same of a volume of the kind k, as a number: the slot and one more; 0 for none.
+// The same of a volume of the kind k, as the number that C reads: the slot and one more; 0 for none.
 fn holder_told(img: &[u8], k: Kind, c: usize, from: usize) -> u64
     requires usable { Usable k }
     requires k_in_bounds { 512 * first_data k ≤ length img.now }

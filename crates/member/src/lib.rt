@@ -19,7 +19,7 @@ pub fn refused(refusal: Refusal) -> u64
     refusal.number() as u64 * 4294967296
 }
 
-// What an entry with that attribute stands for, as a number.
+// What an entry with that attribute stands for, as the number that C reads.
 #[tactic(auto, unfolding(crate::specs::Answers::standing_told))]
 fn standing_told(standing: Standing, attr: u8) -> u64
     ensures { result ≡ standing_told standing attr }

@@ -141,6 +141,7 @@ pub fn check(img: &[u8]) -> Result<Counts, Finding>
 }
 
 // Check of a system area alone.
+// (A line more than check: what both share is judge.)
 pub fn check_system(area: &[u8]) -> Result<Counts, Finding>
     ensures { CheckedArea area.now result }
 {

@@ -62,6 +62,7 @@ pub fn view<'a>(img: &'a [u8], s: &[u8], offset: u32) -> &'a [u8]
     &img[at..at + bytes]
 }
 
+// (A number and not a refusal, as C reads it.)
 pub fn view_number(img: &[u8], s: &[u8], offset: u32) -> u32
     ensures { ViewNumbers img.now s.now offset result }
 {
