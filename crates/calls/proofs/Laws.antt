@@ -5,4 +5,5 @@ pub mod Ready
 pub mod Files
 pub mod Named
 pub mod Stamps
+pub mod Told
 pub mod Attribute

@@ -22,13 +22,14 @@ use Rattle.closing.specs.Close.{archived, stamped, close_rows, close_outcome, Cl
 use Rattle.calls.proofs.Laws.Rows.{Stops, stopped}
 use Rattle.calls.proofs.Laws.Ready.{on_kind_lem, known_passed, sound_passed}
 use Rattle.calls.proofs.Laws.Files.{live_passed, live_slot_lem}
-use Rattle.calls.specs.Answers.{Answer, number_told, value_told}
+use Rattle.calls.specs.Answers.{Answer}
+use Rattle.calls.proofs.Laws.Told.{told_only}
 
 pub closes_only : {img t : List ℕ} {h : ℕ} {s : Stamp} {r r' : Answer} {l l' m m' : List ℕ} → Closes img t h s r l m → Closes img t h s r' l' m'
-    → (number_told r ≡ number_told r') × (value_told r ≡ value_told r') × (l ≡ l') × (m ≡ m')
+    → (r ≡ r') × (l ≡ l') × (m ≡ m')
 closes_only x y =
     let e = x.is ∙ sym y.is in
-    (ap (λ (o : Outcome). o.number) e, ap (λ (o : Outcome). o.value) e, ap (λ (o : Outcome). o.image) e, ap (λ (o : Outcome). o.table) e)
+    (told_only (ap (λ (o : Outcome). o.number) e) (ap (λ (o : Outcome). o.value) e), ap (λ (o : Outcome). o.image) e, ap (λ (o : Outcome). o.table) e)
 
 -- ---- bit 20
 

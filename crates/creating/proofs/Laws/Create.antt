@@ -23,16 +23,17 @@ use Rattle.calls.specs.Aids.Ready.{OnVolume}
 use Rattle.calls.proofs.Laws.Rows.{Stops, stops_at, stops_past, stopped}
 use Rattle.calls.proofs.Laws.Ready.{on_kind_lem, on_usable, known_passed, sound_passed}
 use Rattle.calls.proofs.Laws.Files.{found_is, below_by, slot_within}
-use Rattle.calls.specs.Answers.{Answer, number_told, value_told}
+use Rattle.calls.specs.Answers.{Answer}
+use Rattle.calls.proofs.Laws.Told.{told_only}
 use Rattle.freeing.specs.Freed.{chain_freed}
 use Rattle.creating.specs.Create.{create_rows, create_outcome, Creates}
 use Rattle.creating.specs.Aids.Create.{Empties, MakesNew, old_rows, new_rows}
 
 pub creates_only : {img t s : List ℕ} {attr : ℕ} {stamp : Stamp} {r r' : Answer} {m m' u u' : List ℕ} → Creates img t s attr stamp r m u → Creates img t s attr stamp r' m' u'
-    → (number_told r ≡ number_told r') × (value_told r ≡ value_told r') × (m ≡ m') × (u ≡ u')
+    → (r ≡ r') × (m ≡ m') × (u ≡ u')
 creates_only x y =
     let e = x.is ∙ sym y.is in
-    (ap (λ (o : Outcome). o.number) e, ap (λ (o : Outcome). o.value) e, ap (λ (o : Outcome). o.image) e, ap (λ (o : Outcome). o.table) e)
+    (told_only (ap (λ (o : Outcome). o.number) e) (ap (λ (o : Outcome). o.value) e), ap (λ (o : Outcome). o.image) e, ap (λ (o : Outcome). o.table) e)
 
 -- ---- one row stops it, or the last ones decide, of a new file and of an existing one
 

@@ -11,14 +11,15 @@ use Rattle.calls.specs.Aids.Ready.{OnVolume}
 use Rattle.calls.proofs.Laws.Rows.{Stops, stopped}
 use Rattle.calls.proofs.Laws.Ready.{on_kind_lem}
 use Rattle.calls.proofs.Laws.Named.{FileNamed}
-use Rattle.calls.specs.Answers.{Answer, number_told, value_told}
+use Rattle.calls.specs.Answers.{Answer}
+use Rattle.calls.proofs.Laws.Told.{told_only}
 use Rattle.deleting.specs.Delete.{delete_rows, erased_in, delete_outcome, Deletes}
 
 pub deletes_only : {img t s : List ℕ} {r r' : Answer} {m m' : List ℕ} → Deletes img t s r m → Deletes img t s r' m'
-    → (number_told r ≡ number_told r') × (value_told r ≡ value_told r') × (m ≡ m')
+    → (r ≡ r') × (m ≡ m')
 deletes_only x y =
     let e = x.is ∙ sym y.is in
-    (ap (λ (o : Outcome). o.number) e, ap (λ (o : Outcome). o.value) e, ap (λ (o : Outcome). o.image) e)
+    (told_only (ap (λ (o : Outcome). o.number) e) (ap (λ (o : Outcome). o.value) e), ap (λ (o : Outcome). o.image) e)
 
 -- ---- one row stops it, or all are passed
 

@@ -15,6 +15,7 @@ use Rattle.diskette.specs.declared.Kind.{Kind}
 use Rattle.calls.specs.Outcome.{Outcome, outcome}
 use Rattle.calls.specs.Numbers.{of_no_kind}
 use Rattle.calls.specs.Answers.{number_told}
+use Rattle.calls.proofs.Laws.Told.{done_only}
 use Rattle.calls.specs.declared.refusal.Refusal.{Refusal}
 use Rattle.calls.specs.declared.refusal.Refusal.TheVariants.{OfNoKind}
 use Rattle.calls.proofs.Laws.Exits.{lacked, had}
@@ -113,5 +114,5 @@ format_made img kind after u s = by (named kind) (named_is kind) s.is
 
 -- ---- no second outcome satisfies the contract
 
-pub formatted_only : (img : List ℕ) (kind : ℕ) (a b : Result Unit Refusal) (x y : List ℕ) → Formatted img kind a x → Formatted img kind b y → (number_told a ≡ number_told b) × (x ≡ y)
-formatted_only img kind a b x y s t = let e = s.is ∙ sym t.is in (ap (λ (o : Outcome). o.number) e, ap (λ (o : Outcome). o.image) e)
+pub formatted_only : (img : List ℕ) (kind : ℕ) (a b : Result Unit Refusal) (x y : List ℕ) → Formatted img kind a x → Formatted img kind b y → (a ≡ b) × (x ≡ y)
+formatted_only img kind a b x y s t = let e = s.is ∙ sym t.is in (done_only (ap (λ (o : Outcome). o.number) e), ap (λ (o : Outcome). o.image) e)

@@ -5,8 +5,8 @@ use Rattle.image.specs.Bytes.{Bytes}
 use Rattle.stamps.specs.declared.Stamp.{Stamp}
 use Rattle.calls.specs.Outcome.{Outcome}
 use Rattle.calls.specs.Refusals.{place_found}
-use Rattle.calls.specs.Answers.{Answer, number_told, value_told}
-use Rattle.calls.specs.declared.refusal.Refusal.TheVariants.{InvalidFunction, FileNotFound, TooManyOpen, AccessDenied, InvalidHandle, InvalidAccess, NoMoreFiles, OfNoKind, Unsound, BreaksRules, OutOfRange}
+use Rattle.calls.specs.Answers.{Answer}
+use Rattle.calls.proofs.Laws.Told.{told_only}
 use Rattle.opening.specs.Open.{open_outcome}
 use Rattle.seeking.specs.Seek.{seek_outcome}
 use Rattle.closing.specs.Close.{close_outcome}
@@ -23,36 +23,6 @@ use Rattle.lending.proofs.Laws.SameCalls.{seek_same, read_same, write_same, clos
 use Rattle.lending.proofs.Laws.OpenView.{number_by, opened, open_view}
 
 -- ---- only one outcome fits
-
--- the answer that a number and a value tell
-answer_by : ℕ → ℕ → Answer
-answer_by n v =
-    cond (eqb n 1) (Err InvalidFunction)
-    (cond (eqb n 2) (Err FileNotFound)
-    (cond (eqb n 4) (Err TooManyOpen)
-    (cond (eqb n 5) (Err AccessDenied)
-    (cond (eqb n 6) (Err InvalidHandle)
-    (cond (eqb n 12) (Err InvalidAccess)
-    (cond (eqb n 18) (Err NoMoreFiles)
-    (cond (eqb n 40) (Err OfNoKind) (cond (eqb n 41) (Err Unsound) (cond (eqb n 42) (Err BreaksRules) (cond (eqb n 43) (Err OutOfRange) (Ok v)))))))))))
-
-told_back : (a : Answer) → answer_by (number_told a) (value_told a) ≡ a
-unfolding answer_by
-told_back (Ok v) = refl
-told_back (Err InvalidFunction) = refl
-told_back (Err FileNotFound) = refl
-told_back (Err TooManyOpen) = refl
-told_back (Err AccessDenied) = refl
-told_back (Err InvalidHandle) = refl
-told_back (Err InvalidAccess) = refl
-told_back (Err NoMoreFiles) = refl
-told_back (Err OfNoKind) = refl
-told_back (Err Unsound) = refl
-told_back (Err BreaksRules) = refl
-told_back (Err OutOfRange) = refl
-
-told_only : {a a' : Answer} → number_told a ≡ number_told a' → value_told a ≡ value_told a' → a ≡ a'
-told_only {a} {a'} n v = sym (told_back a) ∙ ap (λ m. answer_by m (value_told a)) n ∙ ap (answer_by (number_told a')) v ∙ told_back a'
 
 pub leaves_only : {o : Outcome} {a a' : Answer} {image image' : List ℕ} {row row' : List OpenRecord} {buffer buffer' : List ℕ}
     → LeavesRow o a image row buffer → LeavesRow o a' image' row' buffer' → (a ≡ a') × (image ≡ image') × (row ≡ row') × (buffer ≡ buffer')

@@ -13,17 +13,18 @@ use Rattle.calls.specs.Aids.Ready.{OnVolume}
 use Rattle.calls.proofs.Laws.Ready.{on_kind_lem}
 use Rattle.calls.proofs.Laws.Rows.{Stops, stops_at, stops_past, stopped, above_stops, above_past}
 use Rattle.calls.proofs.Laws.Named.{FileNamed}
-use Rattle.calls.specs.Answers.{Answer, number_told, value_told}
+use Rattle.calls.specs.Answers.{Answer}
+use Rattle.calls.proofs.Laws.Told.{told_only}
 use Rattle.marking.specs.Mode.{mode_rows, mode_outcome, Modes}
 use Rattle.marking.specs.Aids.Mode.{number_of, AsksFor}
 use Rattle.marking.specs.declared.mode.Function.{Function}
 use Rattle.marking.specs.declared.mode.Function.TheVariants.{Tell, Set}
 
 pub modes_only : {img t s : List ℕ} {function attr : ℕ} {r r' : Answer} {m m' : List ℕ} → Modes img t s function attr r m → Modes img t s function attr r' m'
-    → (number_told r ≡ number_told r') × (value_told r ≡ value_told r') × (m ≡ m')
+    → (r ≡ r') × (m ≡ m')
 modes_only x y =
     let e = x.is ∙ sym y.is in
-    (ap (λ (o : Outcome). o.number) e, ap (λ (o : Outcome). o.value) e, ap (λ (o : Outcome). o.image) e)
+    (told_only (ap (λ (o : Outcome). o.number) e) (ap (λ (o : Outcome). o.value) e), ap (λ (o : Outcome). o.image) e)
 
 -- ---- the function: r is what its number asks for
 

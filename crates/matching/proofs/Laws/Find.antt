@@ -15,15 +15,16 @@ use Rattle.calls.specs.Numbers.{breaks_rules, no_more_files, refusal_number}
 use Rattle.calls.specs.Aids.Ready.{OnVolume}
 use Rattle.calls.proofs.Laws.Ready.{on_kind_lem, on_usable, known_passed, sound_passed, volume_past}
 use Rattle.calls.proofs.Laws.Rows.{Stops, stops_at, stops_past, stopped}
-use Rattle.calls.specs.Answers.{Answer, number_told, value_told}
+use Rattle.calls.specs.Answers.{Answer}
+use Rattle.calls.proofs.Laws.Told.{told_only}
 use Rattle.matching.specs.Find.{match_from, bad_pattern, match_found, no_match, find_rows, find_outcome, Finds}
 use Rattle.matching.specs.Aids.Search.{match_slot}
 
 pub finds_only : {img s : List ℕ} {from mask : ℕ} {r r' : Answer} → Finds img s from mask r → Finds img s from mask r'
-    → (number_told r ≡ number_told r') × (value_told r ≡ value_told r')
+    → r ≡ r'
 finds_only x y =
     let e = x.is ∙ sym y.is in
-    (ap (λ (o : Outcome). o.number) e, ap (λ (o : Outcome). o.value) e)
+    told_only (ap (λ (o : Outcome). o.number) e) (ap (λ (o : Outcome). o.value) e)
 
 -- ---- its rows: one stops it, or all are passed
 

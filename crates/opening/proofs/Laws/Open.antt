@@ -12,14 +12,15 @@ use Rattle.calls.specs.Outcome.{Row, Outcome, refusal, decided}
 use Rattle.calls.specs.Refusals.{read_only, file_slot}
 use Rattle.calls.proofs.Laws.Rows.{Stops, stops_at, stops_past, stopped}
 use Rattle.calls.proofs.Laws.Named.{FileNamed}
-use Rattle.calls.specs.Answers.{Answer, number_told, value_told}
+use Rattle.calls.specs.Answers.{Answer}
+use Rattle.calls.proofs.Laws.Told.{told_only}
 use Rattle.opening.specs.Open.{open_rows, open_outcome, Opens}
 
 pub opens_only : {img t s : List ℕ} {access : ℕ} {r r' : Answer} {m m' : List ℕ} → Opens img t s access r m → Opens img t s access r' m'
-    → (number_told r ≡ number_told r') × (value_told r ≡ value_told r') × (m ≡ m')
+    → (r ≡ r') × (m ≡ m')
 opens_only x y =
     let e = x.is ∙ sym y.is in
-    (ap (λ (o : Outcome). o.number) e, ap (λ (o : Outcome). o.value) e, ap (λ (o : Outcome). o.table) e)
+    (told_only (ap (λ (o : Outcome). o.number) e) (ap (λ (o : Outcome). o.value) e), ap (λ (o : Outcome). o.table) e)
 
 -- ---- its rows: one stops it, or all are passed
 

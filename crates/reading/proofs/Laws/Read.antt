@@ -29,13 +29,14 @@ use Rattle.reading.specs.Read.{read_count, read_rows, read_outcome, Reads}
 use Rattle.calls.proofs.Laws.Rows.{Stops, stops_at, stopped}
 use Rattle.calls.proofs.Laws.Ready.{on_kind_lem, known_passed, sound_passed}
 use Rattle.calls.proofs.Laws.Files.{live_passed, live_slot_lem}
-use Rattle.calls.specs.Answers.{Answer, number_told, value_told}
+use Rattle.calls.specs.Answers.{Answer}
+use Rattle.calls.proofs.Laws.Told.{told_only}
 
 pub reads_only : {img t : List ℕ} {h : ℕ} {buf : List ℕ} {r r' : Answer} {m m' b b' : List ℕ} → Reads img t h buf r m b → Reads img t h buf r' m' b'
-    → (number_told r ≡ number_told r') × (value_told r ≡ value_told r') × (m ≡ m') × (b ≡ b')
+    → (r ≡ r') × (m ≡ m') × (b ≡ b')
 reads_only x y =
     let e = x.is ∙ sym y.is in
-    (ap (λ (o : Outcome). o.number) e, ap (λ (o : Outcome). o.value) e, ap (λ (o : Outcome). o.table) e, ap (λ (o : Outcome). o.buffer) e)
+    (told_only (ap (λ (o : Outcome). o.number) e) (ap (λ (o : Outcome). o.value) e), ap (λ (o : Outcome). o.table) e, ap (λ (o : Outcome). o.buffer) e)
 
 -- ---- the bytes of a file of a volume that is ready
 

@@ -20,14 +20,15 @@ use Rattle.calls.proofs.Laws.Rows.{Stops, stopped}
 use Rattle.calls.proofs.Laws.Ready.{on_kind_lem}
 use Rattle.calls.proofs.Laws.Files.{found_is}
 use Rattle.calls.proofs.Laws.Named.{FileNamed}
-use Rattle.calls.specs.Answers.{Answer, number_told, value_told}
+use Rattle.calls.specs.Answers.{Answer}
+use Rattle.calls.proofs.Laws.Told.{told_only}
 use Rattle.renaming.specs.Rename.{rename_rows, rename_outcome, Renames}
 
 pub renames_only : {img t s n : List ℕ} {r r' : Answer} {m m' : List ℕ} → Renames img t s n r m → Renames img t s n r' m'
-    → (number_told r ≡ number_told r') × (value_told r ≡ value_told r') × (m ≡ m')
+    → (r ≡ r') × (m ≡ m')
 renames_only x y =
     let e = x.is ∙ sym y.is in
-    (ap (λ (o : Outcome). o.number) e, ap (λ (o : Outcome). o.value) e, ap (λ (o : Outcome). o.image) e)
+    (told_only (ap (λ (o : Outcome). o.number) e) (ap (λ (o : Outcome). o.value) e), ap (λ (o : Outcome). o.image) e)
 
 -- ---- the new name: g is what it reads as, b whether it is taken
 

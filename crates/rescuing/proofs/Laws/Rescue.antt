@@ -14,7 +14,8 @@ use Rattle.calls.specs.declared.refusal.Refusal.TheVariants.{BreaksRules, FileNo
 use Rattle.calls.specs.Numbers.{of_no_kind, file_not_found, access_denied, refusal_number}
 use Rattle.calls.specs.Outcome.{Row, Outcome, refusal, decided}
 use Rattle.calls.specs.Refusals.{is_unknown, kind_found, the_kind, not_of_kind, file_found, no_file, file_slot}
-use Rattle.calls.specs.Answers.{Answer, number_told, value_told}
+use Rattle.calls.specs.Answers.{Answer}
+use Rattle.calls.proofs.Laws.Told.{told_only}
 use Rattle.calls.proofs.Laws.Exits.{had, lacked}
 use Rattle.calls.proofs.Laws.Named.{name_stops, name_past}
 use Rattle.calls.proofs.Laws.Rows.{Stops, stops_at, stops_past, stopped}
@@ -26,10 +27,10 @@ use Rattle.holding.proofs.Laws.Kinds.{slot_inside}
 use Rattle.names.specs.Reading.{name_given}
 
 pub rescues_only : {img s out : List ℕ} {r r' : Answer} {b b' : List ℕ} → Rescues img s out r b → Rescues img s out r' b'
-    → (number_told r ≡ number_told r') × (value_told r ≡ value_told r') × (b ≡ b')
+    → (r ≡ r') × (b ≡ b')
 rescues_only x y =
     let e = x.is ∙ sym y.is in
-    (ap (λ (o : Outcome). o.number) e, ap (λ (o : Outcome). o.value) e, ap (λ (o : Outcome). o.buffer) e)
+    (told_only (ap (λ (o : Outcome). o.number) e) (ap (λ (o : Outcome). o.value) e), ap (λ (o : Outcome). o.buffer) e)
 
 -- ---- one row stops it, or all are passed
 

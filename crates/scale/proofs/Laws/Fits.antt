@@ -28,6 +28,8 @@ use Rattle.sound.specs.declared.Counts.{Counts}
 use Rattle.sound.specs.declared.Finding.{Finding}
 use Rattle.sound.specs.declared.Finding.TheVariants.{OfNoKind, CopiesDiffer, BadValue, BadEntry, WrongChain, SharedCluster, LostCluster}
 use Rattle.calls.specs.declared.refusal.Refusal.{Refusal}
+use Rattle.calls.specs.Answers.{number_told}
+use Rattle.calls.proofs.Laws.Told.{told_low}
 use Rattle.freespace.specs.FreeSpace.{space_with, Spaced}
 use Rattle.freespace.specs.declared.Space.{Space}
 use Rattle.freespace.proofs.Laws.FreeSpace.{space_unknown, space_unsound, space_sound}
@@ -118,8 +120,8 @@ module _ (v : Result Counts Finding) (h : VerdictFits v) (f : Finding) (e : v �
 
 -- ---- free space
 
-pub space_fits : (img : List ℕ) (a : Result Space Refusal) → Spaced img a → (s : Space) → a ≡ Ok s → SpaceFits s
-space_fits img a t s q = go (kind_of_image img) refl
+found_fits : (img : List ℕ) (a : Result Space Refusal) → Spaced img a → (s : Space) → a ≡ Ok s → SpaceFits s
+found_fits img a t s q = go (kind_of_image img) refl
   where
     go : (w : Option Kind) → kind_of_image img ≡ w → SpaceFits s
     go (Some k) e = elim (says_dec (known_says img k e)) [
@@ -132,6 +134,9 @@ space_fits img a t s q = go (kind_of_image img) refl
     ]
     go None e = absurd (let z = sym q ∙ t.is ∙ space_unknown img e in let y : ◌≡◌ {A = ℕ} 0 1 = cc in omega arith)
 
+pub space_fits : (img : List ℕ) (a : Result Space Refusal) → Spaced img a → Fits (number_told a) × ((s : Space) → a ≡ Ok s → SpaceFits s)
+space_fits img a t = (omega (arith, told_low a), found_fits img a t)
+
 -- so the free clusters can be handed on as 32 bits
 pub free_fits : (img : List ℕ) (a : Result Space Refusal) → Spaced img a → (s : Space) → a ≡ Ok s → s.free < 4294967296
-free_fits img a t s q = (space_fits img a t s q).free_fits
+free_fits img a t s q = ((space_fits img a t).1 s q).free_fits

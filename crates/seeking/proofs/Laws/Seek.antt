@@ -22,13 +22,14 @@ use Rattle.seeking.specs.Seek.{seek_base, seek_moved, is_beyond, seek_rows, seek
 use Rattle.calls.proofs.Laws.Rows.{Stops, stops_at, stopped, above_stops, above_past}
 use Rattle.calls.proofs.Laws.Ready.{on_kind_lem, known_passed, sound_passed}
 use Rattle.calls.proofs.Laws.Files.{live_passed}
-use Rattle.calls.specs.Answers.{Answer, number_told, value_told}
+use Rattle.calls.specs.Answers.{Answer}
+use Rattle.calls.proofs.Laws.Told.{told_only}
 
 pub seeks_only : {img t : List ℕ} {h method : ℕ} {offset : ℤ} {r r' : Answer} {m m' : List ℕ} → Seeks img t h method offset r m → Seeks img t h method offset r' m'
-    → (number_told r ≡ number_told r') × (value_told r ≡ value_told r') × (m ≡ m')
+    → (r ≡ r') × (m ≡ m')
 seeks_only x y =
     let e = x.is ∙ sym y.is in
-    (ap (λ (o : Outcome). o.number) e, ap (λ (o : Outcome). o.value) e, ap (λ (o : Outcome). o.table) e)
+    (told_only (ap (λ (o : Outcome). o.number) e) (ap (λ (o : Outcome). o.value) e), ap (λ (o : Outcome). o.table) e)
 
 -- ---- the method: r is whose number it is
 

@@ -16,7 +16,8 @@ use Rattle.calls.specs.Aids.Ready.{OnVolume}
 use Rattle.calls.proofs.Laws.Rows.{Stops, stops_at, stopped}
 use Rattle.calls.proofs.Laws.Ready.{on_kind_lem, known_passed, sound_passed}
 use Rattle.calls.proofs.Laws.Files.{live_passed, live_slot_lem}
-use Rattle.calls.specs.Answers.{Answer, number_told, value_told}
+use Rattle.calls.specs.Answers.{Answer}
+use Rattle.calls.proofs.Laws.Told.{told_only}
 use Rattle.holding.specs.Holding.{file_chain}
 use Rattle.holding.specs.Aids.Files.{FileAt}
 use Rattle.links.specs.Aids.Extent.{extent_of}
@@ -27,10 +28,10 @@ use Rattle.writing.specs.Aids.Write.{write_at, WritesAt}
 use Rattle.putting.proofs.Laws.Room.{room_clusters, room_fits}
 
 pub writes_only : {img t : List ℕ} {h : ℕ} {bs : List ℕ} {r r' : Answer} {l l' m m' : List ℕ} → Writes img t h bs r l m → Writes img t h bs r' l' m'
-    → (number_told r ≡ number_told r') × (value_told r ≡ value_told r') × (l ≡ l') × (m ≡ m')
+    → (r ≡ r') × (l ≡ l') × (m ≡ m')
 writes_only x y =
     let e = x.is ∙ sym y.is in
-    (ap (λ (o : Outcome). o.number) e, ap (λ (o : Outcome). o.value) e, ap (λ (o : Outcome). o.image) e, ap (λ (o : Outcome). o.table) e)
+    (told_only (ap (λ (o : Outcome). o.number) e) (ap (λ (o : Outcome). o.value) e), ap (λ (o : Outcome). o.image) e, ap (λ (o : Outcome). o.table) e)
 
 -- ---- the room
 
