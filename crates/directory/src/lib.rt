@@ -74,12 +74,11 @@ pub fn plain_at(img: &[u8], a: usize) -> bool
 }
 
 // Whether the entry has that name, on all 11 bytes.
-#[tactic(auto, using(crate::proofs::Laws::Names::same_by_eq))]
 fn same_name(img: &[u8], a: usize, name: [u8; 11]) -> bool
     requires { a + 32 ≤ length img.now }
     ensures { result ≡ same_from (name_of img.now a) name 0 11 }
 {
-    fields::name_at(img, a) == name
+    img[a..a + 11] == name[..]
 }
 
 // Whether the entry is the plain file of that name.

@@ -28,12 +28,12 @@ fn differs(img: &[u8], second: usize, j: usize) -> bool
     byte != img[second + j] || ((j == 1 || j == 2) && byte != 0xFF)
 }
 
-// Whether all bytes are the same in both copies.
+// Whether all bytes are the same in both copies. All are looked at: without an early way out the compiler takes many at a time.
 fn same_bytes(img: &[u8], second: usize, size: usize) -> bool
     requires { (512 + size ≤ second) × (second + size ≤ length img.now) }
     ensures { result ≡ not (is_found (lowest (unlike_at second img.now) 0 size)) }
 {
-    img[512..512 + size] == img[second..second + size]
+    (0..size).fold(true, |same, j| same & (img[512 + j] == img[second + j]))
 }
 
 // Up to which offset the copies must be searched. Where all bytes are the same, only bytes 1 and 2 may be other than they must be.

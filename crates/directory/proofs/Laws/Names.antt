@@ -1,8 +1,8 @@
 -- Two names of 11 bytes pass the comparison where they are one list.
-use Prim.Native.Nat.{ℕ, zero, suc, ◌+◌, ◌≤◌, ◌<◌}
+use Prim.Native.Nat.{ℕ, zero, suc, ◌+◌, ◌-◌, ◌≤◌, ◌<◌}
 use native.Mathlib.Omega.{arith}
 use Rattle.std.proofs.Math.Decide.{ℕ_discrete}
-use Rattle.std.specs.Prelude.{Bool, true, false, ◌&&◌, List, ◌≢◌, ◌↔◌, ◌≡◌, refl, eqb, length, get_or}
+use Rattle.std.specs.Prelude.{Bool, true, false, ◌&&◌, List, ◌≢◌, ◌↔◌, ◌≡◌, refl, eqb, length, get_or, take, drop}
 use Rattle.std.proofs.Common.{sym, ◌∙◌, ext_get_or, eqb-true, eq-eqb}
 use Rattle.std.proofs.lemmas.Bool.{false_from_ne_true}
 use Rattle.std.specs.Bool.{MatchBool}
@@ -44,6 +44,13 @@ same_by_eq x y e f r p = by r (told_text x y r p)
     by : (b : Bool) → MatchBool b (x ≡ y) (x ≢ y) → b ≡ same_from x y 0 11
     by true q = sym ((same_name_equal x y e f).1 q)
     by false d = sym (false_from_ne_true (same_from x y 0 11) (λ t. d ((same_name_equal x y e f).0 t)))
+
+-- So it does of the name where it stands in the entry.
+pub same_in_place : (l name : List ℕ) (a : ℕ) → a + 32 ≤ length l → length name ≡ 11
+    → (r : Bool) → r ≡ pointwise eqb (take (a + 11 - a) (drop a l)) name → r ≡ same_from (name_of l a) name 0 11
+same_in_place l name a f long r e =
+    let n : a + 11 - a ≡ 11 = omega arith in
+    same_by_eq (name_of l a) name (length_part l a 11 (omega arith)) long r (rw n at e)
 
 -- The entry is the plain file of that name.
 pub named_is : (l : List ℕ) (a : ℕ) → a + 32 ≤ length l → (name : List ℕ) → length name ≡ 11

@@ -1,17 +1,18 @@
 -- A chain over a range of numbers answers as `lowest` does, where its closure computes the test and stays as it was. An answer is
 --   lowest_from_find _ c.find.ensures.ran (omega arith) (λ x b q k. search (rules, tests))
--- with `tests` of borrow.Author.Tests; found_from_any and none_from_all likewise.
-use Rattle.std.specs.Prelude.{ℕ, ◌+◌, ◌-◌, ◌≤◌, ◌<◌, Bool, true, false, not, ◌≡◌, refl, List, length, Option, Some, None, get_or}
+-- with `tests` of borrow.Author.Tests; found_from_any, none_from_all and none_from_fold likewise.
+use Rattle.std.specs.Prelude.{ℕ, zero, suc, ◌+◌, ◌-◌, ◌≤◌, ◌<◌, Bool, true, false, cond, ◌&&◌, not, ◌≡◌, refl, List, length, Option, Some, None, get_or}
 use Rattle.std.proofs.Common.{arith, sym, subst, ap, ◌∙◌, Bor}
 use Rattle.std.proofs.Math.Decide.{dec_lt}
 use Rattle.std.proofs.iter.Yields.{nat_range_steps}
 use Rattle.std.proofs.lemmas.Iterator.{first_from_Range, cases_from_any, cases_from_all, YieldsList-from_range}
+use Rattle.std.proofs.lemmas.Iterator.Consumers.{fold_from_yields_List}
 use Rattle.std.proofs.lemmas.List.FromFn.{length-range_with_len, get_or-range_with_len}
 use Rattle.std.specs.declared.ops.Range.{Range}
 use Rattle.std.specs.Bool.{MatchBool}
 use Rattle.std.specs.Fn.{Called, CalledAt}
-use Rattle.std.specs.Iterator.{FindsItem, ChecksAny, ChecksAll}
-use Rattle.std.specs.List.{range_with_len, AllWithin, HoldsAt}
+use Rattle.std.specs.Iterator.{FindsItem, ChecksAny, ChecksAll, FoldsItems}
+use Rattle.std.specs.List.{fold, range_with_len, AllWithin, HoldsAt}
 use Rattle.std.specs.Option.{MatchOption}
 use denote.Param.Members.{Mut}
 use Rattle.search.specs.Search.{lowest, is_found}
@@ -109,3 +110,26 @@ module _ {F : Type 0} {p : ℕ → Bool} {n : ℕ} {a : Range ℕ} {f : F} (u : 
           ((k : ℕ) × (k < length (all p a.start n)) × HoldsAt (λ x. p x ≡ true) (all p a.start n) k) → r ≡ not (is_found (lowest p a.start n))
       by true h = ap not (missed p a.start n h)
       by false h = ap not (found_lem p a.start n h)
+
+-- ---- a fold over a range that says whether no number passes the test p. Its closure f computes that and stays as it was.
+
+fold_none : (p : ℕ → Bool) (s n : ℕ) (b : Bool) → fold (λ none c. none && not (p c)) b (range_with_len s n) ≡ (b && not (is_found (lowest p s n)))
+unfolding lowest
+fold_none p s zero b = by b
+  where
+    by : (b : Bool) → b ≡ (b && true)
+    by true = refl
+    by false = refl
+fold_none p s (suc n) b = fold_none p (s + 1) n (b && not (p s)) ∙ by b (p s) (lowest p (s + 1) n)
+  where
+    by : (b t : Bool) (o : Option ℕ) → ((b && not t) && not (is_found o)) ≡ (b && not (is_found (cond t (Some s) o)))
+    by true true o = refl
+    by true false o = refl
+    by false true o = refl
+    by false false o = refl
+
+module _ {F : Type 0} (p : ℕ → Bool) {n : ℕ} {a : Range ℕ} {f : F} where
+  pub none_from_fold : {g : Mut F (Bool × (ℕ × Unit {0})) Bool} {r : Bool} → FoldsItems nat_range_steps g a f true r → a.end - a.start ≡ n
+      → ((b : Bool) (x : ℕ) (t : Bool) (q : F) → Called g f (b, (x, tt)) t q → (q ≡ f) × (t ≡ (b && not (p x)))) → r ≡ not (is_found (lowest p a.start n))
+  none_from_fold {g} {r} ran e calls =
+      fold_from_yields_List g (λ b x. b && not (p x)) true r ran (YieldsList-from_range a.start a.end n refl e) calls ∙ fold_none p a.start n true

@@ -1,7 +1,5 @@
 -- Findings 2 and 3 as the code searches for them, in the form of its needs.
-use Rattle.std.specs.Prelude.{ℕ, zero, suc, ◌+◌, ◌-◌, ◌≤◌, ◌<◌, min, Bool, ◌&&◌, List, ◌∷◌, ◌≡◌, eqb, get_or, length, take, drop, Option, Some, None, Result, Ok, Err}
-use Rattle.std.specs.Cmp.Lexicographic.{pointwise}
-use Rattle.std.proofs.Math.Seq.{drop-cons}
+use Rattle.std.specs.Prelude.{ℕ, zero, suc, ◌+◌, ◌-◌, ◌≤◌, ◌<◌, min, Bool, List, ◌≡◌, eqb, get_or, Option, Some, None, Result, Ok, Err}
 use native.Mathlib.Omega.{arith}
 use Rattle.std.proofs.Common.{Fits, ◌∙◌}
 use Rattle.std.specs.Int.{w8}
@@ -27,32 +25,6 @@ use Rattle.table.proofs.Laws.View.{table_inside}
 use Rattle.tablecheck.specs.Aids.Copies.{differs_at, unlike_at, search_end}
 use Rattle.tablecheck.specs.Aids.Values.{census_by, census_of, Tallied, Met, CountedTo}
 use Rattle.tablecheck.specs.declared.Tally.{Tally}
-
--- ---- whether all bytes are the same
-
--- the n bytes from x + i on and from y + i on, one after the other
-same_from : (l : List ℕ) (x y i n : ℕ) → x + i + n ≤ length l → y + i + n ≤ length l → pointwise eqb (take n (drop (x + i) l)) (take n (drop (y + i) l)) ≡ not (is_found (lowest (λ j. not (eqb (get_or l (x + j) 0) (get_or l (y + j) 0))) i n))
-unfolding lowest
-same_from l x y i zero h k = refl
-same_from l x y i (suc n) h k =
-    let a = get_or l (x + i) 0 in
-    let b = get_or l (y + i) 0 in
-    let next : (z : ℕ) → suc (z + i) ≡ z + (i + 1) = λ z. omega arith in
-    let e : drop (x + i) l ≡ a ∷ drop (x + (i + 1)) l = rw (next x) at (drop-cons l (x + i) 0 (omega arith)) in
-    let d : drop (y + i) l ≡ b ∷ drop (y + (i + 1)) l = rw (next y) at (drop-cons l (y + i) 0 (omega arith)) in
-    rw (e, d) (by (eqb a b) _ (same_from l x y (i + 1) n (omega arith) (omega arith)))
-  where
-    by : (t : Bool) {r : Bool} (o : Option ℕ) → r ≡ not (is_found o) → (t && r) ≡ not (is_found (cond (not t) (Some i) o))
-    by true o e = e
-    by false o e = refl
-
-pub same_told : (l : List ℕ) (second size : ℕ) → 512 + size ≤ second → second + size ≤ length l → (r : Bool) → r ≡ pointwise eqb (take (512 + size - 512) (drop 512 l)) (take (second + size - second) (drop second l)) → r ≡ not (is_found (lowest (unlike_at second l) 0 size))
-unfolding unlike_at
-same_told l second size low long r e =
-    let a : 512 + size - 512 ≡ size = omega arith in
-    let b : second + size - second ≡ size = omega arith in
-    let z : second + 0 ≡ second = omega arith in
-    e ∙ rw (a, b) (rw z at (same_from l 512 second 0 size (omega arith) (omega arith)))
 
 -- ---- the search for the lowest
 

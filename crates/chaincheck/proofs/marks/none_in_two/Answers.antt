@@ -1,7 +1,7 @@
 use Rattle.std.proofs.Common.{arith, rules}
 use borrow.Author.Tests.{tests}
 use Rattle.chains.specs.Aids.Check.{in_two}
-use Rattle.chaincheck.proofs.Laws.MarkTurns.{none_from_fold}
+use Rattle.search.proofs.Laws.Chains.{none_from_fold}
 use Rattle.chaincheck.proofs.marks.none_in_two.Goals as goal
 
 pub returns : goal.returns
