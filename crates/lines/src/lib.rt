@@ -86,12 +86,20 @@ pub fn put_sound(page: &mut Page, kind: u8, clusters: usize, n: Counts)
     put_counts(page, n);
 }
 
-// The lines of a volume that is not sound: a finding and its place.
-pub fn put_unsound(page: &mut Page, finding: Finding)
+// The lines of a volume that is not sound: the number of a finding, and its place.
+pub fn put_unsound(page: &mut Page, finding: usize, place: usize)
+    requires { has_room unsound_room page.old }
+    ensures { AddsIn unsound_room (unsound_text finding place) page.old page.new }
+{
+    page.put_bytes(b"sound=no\n");
+    put_line(page, b"finding=", finding);
+    put_line(page, b"place=", place);
+}
+
+// The same, of a finding of check.
+pub fn put_finding(page: &mut Page, finding: Finding)
     requires { has_room unsound_room page.old }
     ensures { AddsIn unsound_room (unsound_text (number_of finding) (place_of finding)) page.old page.new }
 {
-    page.put_bytes(b"sound=no\n");
-    put_line(page, b"finding=", finding.number());
-    put_line(page, b"place=", finding.place());
+    put_unsound(page, finding.number(), finding.place());
 }

@@ -70,9 +70,9 @@ fn list(page: &mut Page, area: &[u8])
     match diskette::kind_of_area(area) {
         Some(k) => match sound::check_system(area) {
             Ok(counts) => put_volume(page, area, k, counts),
-            Err(finding) => lines::put_unsound(page, finding),
+            Err(finding) => lines::put_finding(page, finding),
         },
-        None => lines::put_unsound(page, Finding::OfNoKind),
+        None => lines::put_finding(page, Finding::OfNoKind),
     }
 }
 

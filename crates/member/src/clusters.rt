@@ -45,7 +45,7 @@ pub fn member_cluster(img: &[u8], cluster: u32) -> u64
 {
     match diskette::kind_of_image(img) {
         Some(k) => value_told(img, k, cluster as usize),
-        None => super::refused(Refusal::OfNoKind),
+        None => super::refused_by(Refusal::OfNoKind),
     }
 }
 
@@ -117,6 +117,6 @@ pub fn member_holder(img: &[u8], cluster: u32, slot: u32) -> u64
 {
     match diskette::kind_of_image(img) {
         Some(k) => holder_told(img, k, cluster as usize, slot as usize),
-        None => super::refused(Refusal::OfNoKind),
+        None => super::refused_by(Refusal::OfNoKind),
     }
 }

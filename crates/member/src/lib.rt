@@ -13,10 +13,17 @@ use calls::refusal::Refusal;
 use directory::Standing;
 
 // A refusal: its number in the upper 32 bits, the value 0.
-pub fn refused(refusal: Refusal) -> u64
+pub fn refused(number: u32) -> u64
+    ensures { result ≡ refusal_answer number }
+{
+    number as u64 * 4294967296
+}
+
+// The same, of a refusal of the calls.
+pub fn refused_by(refusal: Refusal) -> u64
     ensures { result ≡ refusal_answer (refusal_number refusal) }
 {
-    refusal.number() as u64 * 4294967296
+    refused(refusal.number())
 }
 
 // What an entry with that attribute stands for, as the number that C reads.
@@ -38,7 +45,7 @@ pub fn member_slot(img: &[u8], slot: u32) -> u64
     ensures { result ≡ slot_told (kind_of_image img.now) img.now slot }
 {
     let Some(k) = diskette::kind_of_image(img) else {
-        return refused(Refusal::OfNoKind);
+        return refused_by(Refusal::OfNoKind);
     };
     let s = slot as usize;
     if k.root_entries() <= s {
@@ -53,13 +60,13 @@ pub fn member_date(word: u32) -> u64
     ensures { result ≡ date_told (date_read word) }
 {
     let Ok(word) = u16::try_from(word) else {
-        return refused(Refusal::OutOfRange);
+        return refused_by(Refusal::OutOfRange);
     };
     match stamps::read_date(word) {
         Some((year, month, day)) => {
             (1980 + year as u64) * 10000 + month as u64 * 100 + day as u64
         }
-        None => refused(Refusal::OutOfRange),
+        None => refused_by(Refusal::OutOfRange),
     }
 }
 
@@ -68,12 +75,12 @@ pub fn member_time(word: u32) -> u64
     ensures { result ≡ time_told (time_read word) }
 {
     let Ok(word) = u16::try_from(word) else {
-        return refused(Refusal::OutOfRange);
+        return refused_by(Refusal::OutOfRange);
     };
     match stamps::read_time(word) {
         Some((hour, minute, step)) => {
             hour as u64 * 10000 + minute as u64 * 100 + step as u64 * 2
         }
-        None => refused(Refusal::OutOfRange),
+        None => refused_by(Refusal::OutOfRange),
     }
 }

@@ -1,5 +1,6 @@
 // Numbers as text.
-ghost use Rattle.std.specs.Prelude.{◌≡◌, ◌<◌, ◌≤◌};
+ghost use Rattle.std.specs.Prelude.{◌≡◌, ◌+◌, ◌<◌, ◌≤◌, length};
+ghost use Rattle.image.specs.Store.{stored};
 ghost use Rattle.text.specs.Aids.Pages.{AddsIn, has_room};
 ghost use Rattle.text.specs.Digits.{digit_sign, in_digits, width, decimal, hex};
 
@@ -18,16 +19,26 @@ fn sign(d: usize) -> u8
     }
 }
 
+// Stores the last digits of n in a base, so many from byte at on: the last of them first.
+pub fn store_digits(out: &mut [u8], at: usize, base: usize, count: usize, n: usize)
+    requires is_base { (1 < base) × (base ≤ 16) }
+    requires room { at + count ≤ length out.old }
+    ensures { out.new ≡ stored out.old at (in_digits base count n) }
+{
+    let mut rest = n;
+    for i in (0..count).rev() {
+        out[at + i] = sign(rest % base);
+        rest /= base;
+    }
+}
+
 // The last digits of n in a base.
 pub fn put_digits(page: &mut Page, base: usize, count: usize, n: usize)
     requires is_base { (1 < base) × (base ≤ 16) }
     requires room { has_room count page.old }
     ensures { AddsIn count (in_digits base count n) page.old page.new }
 {
-    if 0 < count {
-        put_digits(page, base, count - 1, n / base);
-        page.put_byte(sign(n % base));
-    }
+    page.put_digits(base, count, n);
 }
 
 // How many decimal digits n has.

@@ -1,6 +1,9 @@
 // The page that texts are put on: a buffer that the caller lends, filled from its start on.
-ghost use Rattle.std.specs.Prelude.{◌≡◌, List, ℕ, [], ◌∷◌, length};
+ghost use Rattle.std.specs.Prelude.{◌≡◌, ◌<◌, ◌≤◌, List, ℕ, [], ◌∷◌, length};
 ghost use Rattle.text.specs.Aids.Pages.{AddsIn, has_room};
+ghost use Rattle.text.specs.Digits.{in_digits};
+
+use crate::digits;
 
 // The buffer, and how many bytes of it are filled.
 #[derive(Drop)]
@@ -33,6 +36,16 @@ impl<'a> Page<'a> {
     {
         image::copy_in(self.out, self.at, text);
         self.at += text.len();
+    }
+
+    // The last digits of n in a base.
+    pub fn put_digits(&mut self, base: usize, count: usize, n: usize)
+        requires is_base { (1 < base) × (base ≤ 16) }
+        requires room { has_room count self.old }
+        ensures { AddsIn count (in_digits base count n) self.old self.new }
+    {
+        digits::store_digits(self.out, self.at, base, count, n);
+        self.at += count;
     }
 
     // A single byte.

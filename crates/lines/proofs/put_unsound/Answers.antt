@@ -1,4 +1,4 @@
--- By the finding's number and its place.
+-- Lines put one after the other are the whole.
 use Rattle.std.proofs.Common.{rules}
 use Rattle.lines.proofs.Laws.Lines.{adds_unsound}
 use Rattle.lines.proofs.put_unsound.Goals as goal

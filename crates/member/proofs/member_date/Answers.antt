@@ -4,7 +4,7 @@ use Rattle.member.proofs.Laws.Answers.{date_told_lem, no_date, date_too_large}
 use Rattle.member.proofs.member_date.Goals as goal
 
 pub returns-in_default : goal.returns-in_default
-returns-in_default c = date_too_large _ _ (omega (arith, c.in_default.ensures)) c.refused.ensures
+returns-in_default c = date_too_large _ _ (omega (arith, c.in_default.ensures)) c.refused_by.ensures
 
 pub returns-in-Some : goal.returns-in-Some
 returns-in-Some c = let h : c.in-Ok.word ≡ c.args.word = omega (arith, c.in-Ok.ensures) in search date_told_lem

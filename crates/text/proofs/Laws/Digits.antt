@@ -1,12 +1,13 @@
 -- How many digits a number has, and digits put on a page.
-use Rattle.std.specs.Prelude.{ℕ, zero, suc, ◌+◌, ◌-◌, ◌*◌, ◌/◌, ◌%◌, ◌^◌, ◌≤◌, ◌<◌, [], ◌∷◌, ◌≡◌, refl, max}
-use Rattle.std.proofs.Common.{arith, mod-lt, ◌∙◌, lt-ltb, le-ltb}
+use Rattle.std.specs.Prelude.{ℕ, zero, suc, ◌+◌, ◌-◌, ◌*◌, ◌/◌, ◌%◌, ◌^◌, ◌≤◌, ◌<◌, List, [], ◌∷◌, ◌≡◌, refl, length, set, max}
+use Rattle.std.proofs.Common.{arith, mod-lt, inr, sym, ap, ◌∙◌, length-append, lt-ltb, le-ltb}
 use Rattle.std.proofs.Math.Decide.{dec_lt}
 use Rattle.std.proofs.Math.Nat.{pow-suc}
+use Rattle.image.specs.Store.{stored}
+use Rattle.image.proofs.Laws.Store.{stored_append, stored_swap, length_stored}
 use Rattle.text.specs.declared.page.Page.{Page}
 use Rattle.text.specs.Digits.{digit_sign, in_digits, width_in, width, decimal}
-use Rattle.text.specs.Aids.Pages.{Adds, AddsIn}
-use Rattle.text.proofs.Laws.Pages.{adds_nothing, adds_then}
+use Rattle.text.specs.Aids.Pages.{AddsIn}
 
 -- ---- a sign
 
@@ -71,18 +72,46 @@ width_at n (suc k) p q =
 pub below_base : (n base : ℕ) → 1 < base → base ≤ 16 → n % base < 16
 below_base n base h k = omega (arith, mod-lt n {m = base} (omega arith))
 
-pub adds_no_digits : (base n count : ℕ) (p : Page) → count ≤ 0 → Adds (in_digits base count n) p p
+length_digits : (base w n : ℕ) → length (in_digits base w n) ≡ w
 unfolding in_digits
-adds_no_digits base n zero p h = adds_nothing p
-adds_no_digits base n (suc count) p h = absurd (omega arith)
+length_digits base zero n = refl
+length_digits base (suc w) n = rw (length-append (in_digits base w (n / base)) (digit_sign (n % base) ∷ [])) (omega (arith, length_digits base w (n / base)))
 
-pub adds_digits : (base n count c : ℕ) (p q r : Page) → 0 < count → c ≡ digit_sign (n % base)
-    → Adds (in_digits base (count - 1) (n / base)) p q → Adds (c ∷ []) q r → Adds (in_digits base count n) p r
-unfolding in_digits
-adds_digits base n zero c p q r h e f g = absurd (omega arith)
-adds_digits base n (suc count) c p q r h e f g =
-    let d : suc count - 1 ≡ count = omega arith in
-    adds_then (in_digits base count (n / base)) (digit_sign (n % base) ∷ []) p q r (rw d at f) (rw e at g)
+digits_step : (l : List ℕ) (at base n i : ℕ) → at + (i + 1) ≤ length l
+    → stored (set l (at + i) (digit_sign (n % base))) at (in_digits base i (n / base)) ≡ stored l at (in_digits base (suc i) n)
+unfolding stored in_digits
+digits_step l at base n i f =
+    let ds : List ℕ = in_digits base i (n / base) in
+    let x : List ℕ = digit_sign (n % base) ∷ [] in
+    let e : length ds ≡ i = length_digits base i (n / base) in
+    stored_swap l (at + i) x at ds (omega arith) (omega arith) (inr (omega arith)) ∙ ap (λ (k : ℕ). stored (stored l at ds) (at + k) x) (sym e) ∙ sym (stored_append l at ds x)
+
+-- in the form of the loop: what is left is stored before what stands there
+pub digits_turn : (l l₀ m : List ℕ) (at base n w i b : ℕ) → 0 < i → i ≤ w → length l ≡ length l₀ → at + w ≤ length l₀ → b ≡ digit_sign (n % base)
+    → stored l at (in_digits base i n) ≡ m → stored (set l (at + (i - 1)) b) at (in_digits base (i - 1) (n / base)) ≡ m
+digits_turn l l₀ m at base n w zero b h k e f d inv = absurd (omega arith)
+digits_turn l l₀ m at base n w (suc i) b h k e f d inv =
+    let p : suc i - 1 ≡ i = omega arith in
+    rw (p, d) (digits_step l at base n i (omega arith) ∙ inv)
+
+pub digits_done : (l m : List ℕ) (at base n i : ℕ) → i ≤ 0 → stored l at (in_digits base i n) ≡ m → l ≡ m
+unfolding stored in_digits
+digits_done l m at base n zero h inv = inv
+digits_done l m at base n (suc i) h inv = absurd (omega arith)
+
+-- what is stored so, on the page
+pub adds_digits : (base count n : ℕ) (p q : Page) → p.at + count ≤ length p.out.now → q.out.ghost_name ≡ p.out.ghost_name
+    → q.out.now ≡ stored p.out.now p.at (in_digits base count n) → q.at ≡ p.at + count → AddsIn count (in_digits base count n) p q
+adds_digits base count n p q room same is next =
+    let w = length_digits base count n in
+    record {
+      adds = record {
+        same = same;
+        long = ap (λ (l : List ℕ). length l) is ∙ length_stored p.out.now p.at (in_digits base count n);
+        puts = record { stores = is; next = omega (arith, w) };
+      };
+      room = omega arith;
+    }
 
 -- a number of 64 bits
 module _ (n w : ℕ) (e : w ≡ width n) (h : n < 2 ^ 64) where
