@@ -43,10 +43,10 @@ fn empty_old(
         return Err(Refusal::AccessDenied);
     }
     let place = opened::lowest_unused(t).ok_or(Refusal::TooManyOpen)?;
+    opened::put_record(t, place, 2, slot as u32, 0);
     let a = k.slot_at(slot);
     freed::free_file(img, k, a);
     fields::write_entry(img, a, name, attr, time, date, 0, 0);
-    opened::put_record(t, place, 2, slot as u32, 0);
     Ok(place as u32)
 }
 
