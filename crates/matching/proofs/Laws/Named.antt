@@ -47,17 +47,13 @@ module _ (s : List ℕ) (fits : (is_some (name_given s)) ≡ true) where
   good : (is_some (pattern_given s)) ≡ true
   good = rw (name_is_pattern s (name_bytes (name_given s)) good_name)
 
-  good_pattern : pattern_given s ≡ Some (name_bytes (pattern_given s))
-  good_pattern = there_is (pattern_given s) good
-
 module _ (k : Kind) (img : List ℕ) (v : OnVolume img k) (s : List ℕ) (fits : (is_some (name_given s)) ≡ true)
     (mask : ℕ) (hidden : has_bit mask 0x02 ≡ true) (system : has_bit mask 0x04 ≡ true) where
   same_at : (t : ℕ) → t < root_entries k → is_match img (slot_at k t) (name_bytes (pattern_given s)) mask ≡ is_named img (slot_at k t) (name_bytes (name_given s))
   same_at t h =
       let a = slot_at k t in
       let inside : a + 32 ≤ length img = slot_within img k v t a h refl in
-      let itself =
-      name_matches s (name_bytes (name_given s)) (name_bytes (pattern_given s)) (name_of img a) (good_name s fits) (good_pattern s fits) (length_part img a 11 (omega arith)) in
+      let itself = name_matches s (name_bytes (name_given s)) (name_of img a) (good_name s fits) (length_part img a 11 (omega arith)) in
       let named = named_is img a inside (name_bytes (name_given s)) (proper s (name_bytes (name_given s)) (good_name s fits)).long in
       let matching = match_is img a (name_bytes (pattern_given s)) mask in
       same_test _ _

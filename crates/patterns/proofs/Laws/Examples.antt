@@ -2,7 +2,7 @@
 use Rattle.std.specs.Prelude.{ℕ, Bool, true, false, List, [], ◌∷◌, ◌++◌, map, Some, is_some, ◌≡◌, refl, replicate}
 use Rattle.names.specs.Alphabet.{plain, allowed, capital}
 use Rattle.names.specs.Spelling.{dot, space, every, eleven, without_last}
-use Rattle.names.specs.Reading.{before_first, after_first, fitting, name_given}
+use Rattle.names.specs.Reading.{before_first, after_first, fitting, name_given, name_bytes}
 use Rattle.patterns.specs.Patterns.{any, star, pattern_sign, pattern_part, eleven_wild, pattern_given, matches_from, matches}
 
 abbrev fits : List ℕ → Bool
@@ -47,9 +47,6 @@ unfolding pattern_given pattern_part pattern_sign without_last before_first afte
 all_bytes = refl
 
 -- `DAY?.LOG` matches DAY.LOG: its `?` meets padding
-pub padding_matches : (p n : List ℕ) → pattern_given (day ++ (any ∷ log)) ≡ Some p → name_given (day ++ log) ≡ Some n → matches p n ≡ true
+pub padding_matches : matches (name_bytes (pattern_given (day ++ (any ∷ log)))) (name_bytes (name_given (day ++ log))) ≡ true
 unfolding pattern_given name_given pattern_part pattern_sign without_last before_first after_first fitting every plain allowed capital eleven_wild eleven matches matches_from
-padding_matches p n e f =
-    let p_is : p ≡ day ++ (any ∷ replicate 4 space) ++ extension = cc in
-    let n_is : n ≡ day ++ replicate 5 space ++ extension = cc in
-    rw (p_is, n_is)
+padding_matches = refl

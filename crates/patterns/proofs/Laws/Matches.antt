@@ -10,7 +10,7 @@ use Rattle.image.proofs.Laws.Store.{length_part}
 use Rattle.fields.specs.Fields.{name_of}
 use Rattle.std.proofs.lemmas.Bool.{or_cases}
 use Rattle.names.specs.Alphabet.{plain}
-use Rattle.names.specs.Reading.{name_given}
+use Rattle.names.specs.Reading.{name_given, name_bytes}
 use Rattle.names.proofs.Laws.Tests.{and_left, and_right}
 use Rattle.names.proofs.Laws.Alphabet.{told}
 use Rattle.names.proofs.Laws.Proper.{proper}
@@ -83,13 +83,10 @@ matches_itself p x l m none = (there, back)
     back e = (matches_means p x).1 (λ i h. inr (ap (λ (y : List ℕ). get_or y i 0) e))
 
 -- a name, taken as a pattern, matches itself alone
-pub name_matches : (s n p x : List ℕ) → name_given s ≡ Some n → pattern_given s ≡ Some p → length x ≡ 11 → (matches p x ≡ true) ↔ (x ≡ n)
+pub name_matches : (s n x : List ℕ) → name_given s ≡ Some n → length x ≡ 11 → (matches (name_bytes (pattern_given s)) x ≡ true) ↔ (x ≡ n)
 unfolding plain
-name_matches s n p x f g m = let e : p ≡ n = same in rw e (matches_itself n x long m none)
+name_matches s n x f m = rw (name_is_pattern s n f) (matches_itself n x long m none)
   where
-    same : p ≡ n
-    same = let h = name_is_pattern s n f in cc
-
     long : length n ≡ 11
     long = (proper s n f).long
 
