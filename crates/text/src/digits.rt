@@ -20,6 +20,7 @@ fn sign(d: usize) -> u8
 }
 
 // Stores the last digits of n in a base, so many from byte at on: the last of them first.
+// (A buffer and a place, not a page, so that the facts of the loop are about bytes alone.)
 pub fn store_digits(out: &mut [u8], at: usize, base: usize, count: usize, n: usize)
     requires is_base { (1 < base) × (base ≤ 16) }
     requires room { at + count ≤ length out.old }

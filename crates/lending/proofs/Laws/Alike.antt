@@ -1,5 +1,5 @@
 -- What is promised over a row: only one outcome fits it, and the call over any bytes that say the row has that outcome.
-use Rattle.std.specs.Prelude.{ℕ, cond, List, ◌≡◌, refl, eqb, ℤ, Ok, Err}
+use Rattle.std.specs.Prelude.{ℕ, cond, List, ◌≡◌, eqb, ℤ}
 use Rattle.std.proofs.Common.{sym, ap, subst, ◌∙◌}
 use Rattle.image.specs.Bytes.{Bytes}
 use Rattle.stamps.specs.declared.Stamp.{Stamp}

@@ -72,7 +72,7 @@ width_at n (suc k) p q =
 pub below_base : (n base : ℕ) → 1 < base → base ≤ 16 → n % base < 16
 below_base n base h k = omega (arith, mod-lt n {m = base} (omega arith))
 
-length_digits : (base w n : ℕ) → length (in_digits base w n) ≡ w
+pub length_digits : (base w n : ℕ) → length (in_digits base w n) ≡ w
 unfolding in_digits
 length_digits base zero n = refl
 length_digits base (suc w) n = rw (length-append (in_digits base w (n / base)) (digit_sign (n % base) ∷ [])) (omega (arith, length_digits base w (n / base)))
